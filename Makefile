@@ -1,0 +1,5 @@
+# The gate, and nothing that needs a network.
+test:
+	rt ci
+
+.PHONY: test

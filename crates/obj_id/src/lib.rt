@@ -1,0 +1,20 @@
+//! The words that every layer of the store speaks: the ids of tasks, jobs and objects with their
+//! bytes and texts, the refusals, and the commands, replies, messages and works. Payloads are bytes,
+//! which a contract sees as a list of numbers.
+#![tactic(auto)]
+
+mod commands;
+mod ids;
+mod items;
+mod messages;
+mod refusals;
+mod works;
+
+pub use commands::{
+    Command, CopyState, GrantedItem, Kind, OwnItem, Reply, Usage,
+};
+pub use ids::{JobNo, ObjectId, TaskNo};
+pub use items::Items;
+pub use messages::{Arrival, Digest, DirectoryMessage, Location, Message, PeerMessage, Place};
+pub use refusals::Refusal;
+pub use works::{DeviceAnswer, DeviceKey, Extent, JobKey, Quota, Work, WorkKind};
