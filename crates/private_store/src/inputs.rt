@@ -1,0 +1,76 @@
+//! The inputs of a job's private store at a node, whole and without their contents.
+use bytes::Bytes;
+use obj_id::{Arrival, Command, DeviceAnswer, JobNo, ObjectId, Quota};
+
+/// An input of a job at a node.
+#[derive(Debug, Drop)]
+pub enum Input {
+    /// The job was admitted here.
+    Begin(Quota),
+    /// Its quota was changed.
+    Requota(Quota),
+    /// A session's command.
+    Call(u32, Command<Bytes>),
+    /// A device answered the work of this number.
+    Answer(u64, DeviceAnswer),
+    /// A message of the job arrived here.
+    Arrive(Arrival),
+    /// Another job granted an object: its bytes, the giver, and the depth of the hand.
+    Received(ObjectId, Bytes, JobNo, u32),
+    /// A hand to this job ended: the object, the giver and the depth.
+    Withdrawn(ObjectId, JobNo, u32),
+    /// The job ended here.
+    End,
+}
+
+/// An input without its contents, as a saved journal has it: what was judged by comparing bytes
+/// stands in one word, and bytes stand as their number.
+#[derive(Debug, Drop)]
+pub enum Judged {
+    Begin(Quota),
+    Requota(Quota),
+    Call(u32, Command<u32>),
+    Answer(u64, WorkVerdict),
+    /// Fetch number, and the first entry of another node, if there is one.
+    Located(ObjectId, u64, Option<Source>),
+    /// Fetch number, chunk index, the node that sent it, and what the chunk is to the fetch.
+    Chunk(ObjectId, u64, u32, u32, ChunkVerdict),
+    /// Fetch number, and whether a copy here has the length and the digest that are asked for.
+    Pull(ObjectId, u64, bool),
+    /// Fetch number, and the node that has no such copy.
+    NotHere(ObjectId, u64, u32),
+    Received(ObjectId, u32, JobNo, u32),
+    Withdrawn(ObjectId, JobNo, u32),
+    End,
+}
+
+/// Where a fetch gets its bytes from: a node, and the length of its copy.
+#[derive(Clone, Copy, Debug, PartialEq, Eq)]
+pub struct Source {
+    pub node: u32,
+    pub length: u32,
+}
+
+/// What a device's answer is to a work.
+#[derive(Clone, Copy, Debug, PartialEq, Eq)]
+pub enum WorkVerdict {
+    /// The write was made, or the bytes that were read are the sealed ones.
+    Fine,
+    /// The call failed, or a read gave no bytes.
+    Failed,
+    /// A read gave other bytes.
+    Damaged,
+}
+
+/// What a chunk is to the fetch that it names.
+#[derive(Clone, Copy, Debug, PartialEq, Eq)]
+pub enum ChunkVerdict {
+    /// It fills a gap, and others are left.
+    Part,
+    /// It fills the last gap, and the bytes have the sealed digest.
+    Whole,
+    /// It fills the last gap, and the bytes have another digest.
+    Damaged,
+    /// It is none that the fetch waits for.
+    Ignored,
+}
