@@ -17,3 +17,4 @@ pub mod Trace
 pub mod Shared
 pub mod Replay
 pub mod Frames
+pub mod Kept

@@ -1,0 +1,43 @@
+-- D3: first fit gives the least multiple of 16 that is free, or none where none is.
+use Rattle.std.proofs.Common.{◌≡◌, ℕ, zero, suc, ◌+◌, ◌*◌, ◌<◌, ◌≤◌, true, false, List, Some, None, is_some, unwrap_or, refl, sym, ap, subst, ◌∙◌, T, arith}
+use Rattle.obj_id.specs.declared.works.Extent.{Extent}
+use Rattle.private_store.specs.Extents.{is_free, first_from}
+
+some_value : {A : Type 0} (x y : A) → Some x ≡ Some y → x ≡ y
+some_value x y e = ap (λ o. unwrap_or o x) e
+
+none_some : {A : Type 0} {B : Type 0} (x : A) → None ≡ Some x → B
+none_some x e = absurd (subst T (ap is_some (sym e)) tt)
+
+true_false : {B : Type 0} → true ≡ false → B
+true_false e = absurd (subst T e tt)
+
+module _ (extents : List Extent) (window n : ℕ) where
+  from-free : (offset k p : ℕ) → first_from extents window n offset k ≡ Some p → is_free extents window n p ≡ true
+  from-free offset zero p e = none_some p e
+  from-free offset (suc k) p e =
+      elim (is_free extents window n offset) as (λ b. is_free extents window n offset ≡ b → elim b [ true ↦ Some offset | false ↦ first_from extents window n (offset + 16) k ] ≡ Some p → is_free extents window n p ≡ true) [
+        | true ↦ λ t e. subst (λ x. is_free extents window n x ≡ true) (some_value offset p e) t
+        | false ↦ λ _ e. from-free (offset + 16) k p e
+      ] refl e
+
+  -- a free place within reach is found, at or before it
+  from-least : (offset k i : ℕ) → i < k → is_free extents window n (offset + 16 * i) ≡ true
+      → (p : ℕ) × (first_from extents window n offset k ≡ Some p) × (p ≤ offset + 16 * i)
+  from-least offset zero i lt free = absurd (omega (arith, lt))
+  from-least offset (suc k) i lt free =
+      elim (is_free extents window n offset) as (λ b. is_free extents window n offset ≡ b → (p : ℕ) × (elim b [ true ↦ Some offset | false ↦ first_from extents window n (offset + 16) k ] ≡ Some p) × (p ≤ offset + 16 * i)) [
+        | true ↦ λ _. (offset, refl, omega arith)
+        | false ↦ λ taken. later i lt free taken (λ j l f. from-least (offset + 16) k j l f)
+      ] refl
+    where
+      later : (i : ℕ) → i < suc k → is_free extents window n (offset + 16 * i) ≡ true → is_free extents window n offset ≡ false
+          → ((j : ℕ) → j < k → is_free extents window n ((offset + 16) + 16 * j) ≡ true → (p : ℕ) × (first_from extents window n (offset + 16) k ≡ Some p) × (p ≤ (offset + 16) + 16 * j))
+          → (p : ℕ) × (first_from extents window n (offset + 16) k ≡ Some p) × (p ≤ offset + 16 * i)
+      later zero lt free taken ih =
+          let e : offset + 16 * 0 ≡ offset = omega arith in
+          true_false (sym (subst (λ x. is_free extents window n x ≡ true) e free) ∙ taken)
+      later (suc j) lt free taken ih =
+          let e : offset + 16 * suc j ≡ (offset + 16) + 16 * j = omega arith in
+          let found = ih j (omega (arith, lt)) (subst (λ x. is_free extents window n x ≡ true) e free) in
+          (found.0, found.1, omega (arith, found.2))
