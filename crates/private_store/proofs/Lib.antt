@@ -4,3 +4,11 @@ pub mod FirstFit
 pub mod Sound
 pub mod Stamped
 pub mod Runs
+pub mod ExampleWords
+pub mod ExamplesOfRoom
+pub mod ExamplesOfDevices
+pub mod ExamplesOfTasks
+pub mod ExamplesOfGrants
+pub mod ExamplesOfFetches
+pub mod ExamplesOfQuotas
+pub mod ExamplesOfFrames

@@ -17,6 +17,8 @@ use Rattle.obj_id.specs.declared.commands.Command.{Command}
 use Rattle.obj_id.specs.declared.commands.Command.TheVariants as command
 use Rattle.obj_id.specs.declared.commands.Reply.{Reply}
 use Rattle.obj_id.specs.declared.commands.Reply.TheVariants as reply
+use Rattle.private_store.specs.declared.frames.Awaited.{Awaited}
+use Rattle.private_store.specs.declared.frames.Awaited.TheVariants as awaited
 use Rattle.private_store.specs.declared.frames.Item.{Item}
 use Rattle.private_store.specs.declared.frames.Item.TheVariants as item
 
@@ -61,9 +63,6 @@ with_id body x = if is_id (id_at body) then x else item.BadId
 abbrev pub id_item : List ℕ → ℕ → Command (List ℕ) → Option Item
 id_item body n c = of_length body n (with_id body (item.Command c))
 
-abbrev pub create_of : List ℕ → Command (List ℕ)
-create_of body = command.Create (id_at body) (kind_of (slice_index body 28)) (number_at body 29)
-
 abbrev pub is_create : List ℕ → Bool
 is_create body = nat_le (slice_index body 28) 1
 
@@ -74,8 +73,11 @@ Read = List ℕ → Option Item
 abbrev pub hello : Read
 hello body = of_length body 36 (item.Hello (record { 0 = number_at body 0 }) (record { 0 = drop 4 body }))
 
-abbrev pub create : (Command (List ℕ) → Item) → Read
-create make body = if is_create body then of_length body 33 (with_id body (make (create_of body))) else None
+abbrev pub create : (ObjectId → Kind → ℕ → Item) → Read
+create make body =
+    if is_create body
+    then of_length body 33 (with_id body (make (id_at body) (kind_of (slice_index body 28)) (number_at body 29)))
+    else None
 
 abbrev pub write : Read
 write body =
@@ -100,7 +102,7 @@ bare c body = of_length body 0 (item.Command c)
 abbrev pub kinds : List (ℕ × Read)
 kinds =
     (0x01, hello)
-    ∷ (0x02, create item.Command)
+    ∷ (0x02, create (λ id kind n. item.Command (command.Create id kind n)))
     ∷ (0x03, write)
     ∷ (0x04, of_id command.Seal)
     ∷ (0x05, of_id command.Get)
@@ -117,8 +119,8 @@ kinds =
     ∷ (0x10, bare command.List)
     ∷ (0x11, bare command.Usage)
     ∷ (0x12, bare command.Leave)
-    ∷ (0x13, λ body. of_length body 28 (with_id body (item.Wait (command.Get (id_at body)))))
-    ∷ (0x14, create item.Wait)
+    ∷ (0x13, λ body. of_length body 28 (with_id body (item.Wait (awaited.Get (id_at body)))))
+    ∷ (0x14, create (λ id kind n. item.Wait (awaited.Create id kind n)))
     ∷ []
 
 -- what a frame's kind and body say, or nothing
@@ -169,6 +171,51 @@ frames_of (suc n) (b ∷ bs) =
 abbrev pub stream_of : List ℕ → Stream
 stream_of bytes = frames_of (suc (length bytes)) bytes
 
+-- ---- a command's frame, as it is written
+
+abbrev pub kind_byte : Kind → ℕ
+kind_byte Primary = 0
+kind_byte Secondary = 1
+
+abbrev pub create_body : ObjectId → Kind → ℕ → List ℕ
+create_body id kind n = id_bytes id ++ kind_byte kind ∷ be4 n
+
+abbrev pub range_body : ObjectId → ℕ → ℕ → List ℕ
+range_body id offset n = id_bytes id ++ be4 offset ++ be4 n
+
+abbrev pub command_body : Command (List ℕ) → List ℕ
+command_body (command.Create id kind n) = 0x02 ∷ create_body id kind n
+command_body (command.Write id offset bytes) = 0x03 ∷ id_bytes id ++ be4 offset ++ bytes
+command_body (command.Seal id) = 0x04 ∷ id_bytes id
+command_body (command.Get id) = 0x05 ∷ id_bytes id
+command_body (command.Read id offset n) = 0x06 ∷ range_body id offset n
+command_body (command.Release id) = 0x07 ∷ id_bytes id
+command_body (command.Unpin id task) = 0x08 ∷ id_bytes id ++ task.0
+command_body (command.Borrow id task) = 0x09 ∷ id_bytes id ++ task.0
+command_body (command.GiveUp id task) = 0x0a ∷ id_bytes id ++ task.0
+command_body (command.Delete id) = 0x0b ∷ id_bytes id
+command_body (command.EndTask task) = 0x0c ∷ task.0
+command_body (command.Grant id target) = 0x0d ∷ id_bytes id ++ be4 target.0
+command_body (command.Withdraw id target) = 0x0e ∷ id_bytes id ++ be4 target.0
+command_body (command.Peek id offset n) = 0x0f ∷ range_body id offset n
+command_body command.List = 0x10 ∷ []
+command_body command.Usage = 0x11 ∷ []
+command_body command.Leave = 0x12 ∷ []
+
+abbrev pub awaited_body : Awaited → List ℕ
+awaited_body (awaited.Get id) = 0x13 ∷ id_bytes id
+awaited_body (awaited.Create id kind n) = 0x14 ∷ create_body id kind n
+
+-- the kind and body of an item's frame; an id that can't be has none
+abbrev pub item_body : Item → Option (List ℕ)
+item_body (item.Hello job key) = Some (0x01 ∷ be4 job.0 ++ key.0)
+item_body (item.Command c) = Some (command_body c)
+item_body (item.Wait c) = Some (awaited_body c)
+item_body item.BadId = None
+
+abbrev pub item_frame : Item → List ℕ
+item_frame x = unwrap_or (option_map frame (item_body x)) []
+
 -- ---- a reply's frame
 
 abbrev pub state_byte : CopyState → ℕ
@@ -177,10 +224,6 @@ state_byte Sealed = 1
 state_byte Restoring = 2
 state_byte Fetching = 3
 state_byte Away = 4
-
-abbrev pub kind_byte : Kind → ℕ
-kind_byte Primary = 0
-kind_byte Secondary = 1
 
 abbrev pub own_bytes : OwnItem → List ℕ
 own_bytes i = id_bytes i.id ++ state_byte i.state ∷ kind_byte i.kind ∷ be4 i.length
@@ -230,5 +273,5 @@ abbrev pub reply_frame : Reply (List ℕ) → List ℕ
 reply_frame r = unwrap_or (option_map frame (reply_body r)) []
 
 -- the frames of the replies, in order
-abbrev pub enc : List (Reply (List ℕ)) → List ℕ
-enc replies = flat_map reply_frame replies
+abbrev pub replies_bytes : List (Reply (List ℕ)) → List ℕ
+replies_bytes replies = flat_map reply_frame replies

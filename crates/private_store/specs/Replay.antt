@@ -3,13 +3,17 @@ use Rattle.std.specs.Prelude.{◌≡◌, ℕ, List, [], ◌∷◌, map}
 use Rattle.obj_id.specs.declared.ids.ObjectId.{ObjectId}
 use Rattle.private_store.specs.declared.inputs.Judged.{Judged}
 use Rattle.obj_id.specs.declared.commands.Reply.{Reply}
-use Rattle.private_store.specs.Shape.{Shape, Change}
+use Rattle.private_store.specs.Shape.{Shape, Change, unbegun}
 use Rattle.private_store.specs.Step.{step, order_after}
 
 -- a job's store without contents, with the order of use
 pub record Brief : Type 0 where
   pub shape : Shape
   pub order : List ObjectId
+
+-- of a job that was never admitted
+abbrev pub unbegun_brief : ℕ → Brief
+unbegun_brief job = record { shape = unbegun job; order = [] }
 
 -- an input of the job, and what it was answered
 pub record Line : Type 0 where

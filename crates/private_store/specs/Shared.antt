@@ -204,20 +204,17 @@ shared_answer nodes memory before (steps.At node (event.Finish job number a)) = 
 shared_answer nodes memory before (steps.At node (event.Call job session c)) = None
 shared_answer nodes memory before (steps.Deliver job from to m damage) = Some (deliver_answer nodes memory before job.0 from to m damage)
 
-abbrev pub IsAnswered : Option StepAnswer → StepAnswer → Type 0
-IsAnswered None a = Unit {0}
-IsAnswered (Some expected) a = (is_no_memory a ≡ true) ⊎ (a ≡ expected)
+-- what the step must have been answered: a command by its job's private store, which is said of the
+-- job; want of memory as it was
+abbrev pub answer_due : ℕ → ℕ → List Traced → Traced → StepAnswer
+answer_due nodes memory before entry =
+    if is_no_memory entry.answer then entry.answer else unwrap_or (shared_answer nodes memory before entry.step) entry.answer
 
--- the shared answers of a history are these
-abbrev pub SharedUntil : ℕ → ℕ → List Traced → Type 0
-SharedUntil nodes memory [] = Unit {0}
-SharedUntil nodes memory (entry ∷ before) =
-    SharedUntil nodes memory before × IsAnswered (shared_answer nodes memory before entry.step) entry.answer
+-- of a history
+abbrev pub answers_due : ℕ → ℕ → List Traced → List StepAnswer
+answers_due nodes memory [] = []
+answers_due nodes memory (entry ∷ before) = answer_due nodes memory before entry ∷ answers_due nodes memory before
 
+-- each shared answer of a trace is the one that is due
 abbrev pub AreSharedAnswers : ℕ → ℕ → List Traced → Type 0
-AreSharedAnswers nodes memory trace = SharedUntil nodes memory (reverse trace)
-
--- what each shared step of a history should be answered, newest first
-abbrev pub shared_answers : ℕ → ℕ → List Traced → List (Option StepAnswer)
-shared_answers nodes memory [] = []
-shared_answers nodes memory (entry ∷ before) = shared_answer nodes memory before entry.step ∷ shared_answers nodes memory before
+AreSharedAnswers nodes memory trace = map (λ entry. entry.answer) (reverse trace) ≡ answers_due nodes memory (reverse trace)

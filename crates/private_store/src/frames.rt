@@ -1,6 +1,13 @@
 //! What a session sends.
 use bytes::Bytes;
-use obj_id::{Command, JobKey, JobNo};
+use obj_id::{Command, JobKey, JobNo, Kind, ObjectId};
+
+/// A command that is tried again while its answer is Pending.
+#[derive(Clone, Copy, Debug, PartialEq, Eq)]
+pub enum Awaited {
+    Get(ObjectId),
+    Create(ObjectId, Kind, u32),
+}
 
 /// What one frame of a session says.
 #[derive(Debug, Drop)]
@@ -8,8 +15,7 @@ pub enum Item {
     /// The session's first word: its job, and the job's key.
     Hello(JobNo, JobKey),
     Command(Command<Bytes>),
-    /// A Get or a Create that is tried again while it is pending.
-    Wait(Command<Bytes>),
+    Wait(Awaited),
     /// A command with an id that can't be.
     BadId,
 }

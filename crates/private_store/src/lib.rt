@@ -8,6 +8,6 @@ mod frames;
 mod inputs;
 mod schedules;
 
-pub use frames::Item;
+pub use frames::{Awaited, Item};
 pub use inputs::{ChunkVerdict, Input, Judged, Source, WorkVerdict};
 pub use schedules::{Event, Step, StepAnswer, Traced};
