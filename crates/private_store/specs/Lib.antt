@@ -18,3 +18,4 @@ pub mod Shared
 pub mod Replay
 pub mod Frames
 pub mod Kept
+pub mod Refusing

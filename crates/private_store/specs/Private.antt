@@ -181,3 +181,14 @@ private_replies node store [] = []
 private_replies node store (x ∷ xs) =
     let o = private_outcome node store x in
     o.reply ∷ private_replies node (store_after store o) xs
+
+-- the same as a node shows it
+abbrev pub view_from : ℕ → View → List Input → View
+view_from node view [] = view
+view_from node view (x ∷ xs) = view_from node (view_step node view x).view xs
+
+abbrev pub view_replies : ℕ → View → List Input → List (Reply (List ℕ))
+view_replies node view [] = []
+view_replies node view (x ∷ xs) =
+    let o = view_step node view x in
+    o.reply ∷ view_replies node o.view xs

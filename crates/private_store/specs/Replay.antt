@@ -4,7 +4,10 @@ use Rattle.obj_id.specs.declared.ids.ObjectId.{ObjectId}
 use Rattle.private_store.specs.declared.inputs.Judged.{Judged}
 use Rattle.obj_id.specs.declared.commands.Reply.{Reply}
 use Rattle.private_store.specs.Shape.{Shape, Change, unbegun}
+use Rattle.private_store.specs.declared.inputs.Input.{Input}
 use Rattle.private_store.specs.Step.{step, order_after}
+use Rattle.private_store.specs.Contents.{View, judge}
+use Rattle.private_store.specs.Private.{view_step}
 
 -- a job's store without contents, with the order of use
 pub record Brief : Type 0 where
@@ -39,3 +42,18 @@ answers_due brief (x ∷ xs) = (brief_step brief x).reply ∷ answers_due (brief
 -- each line has the answer that the replay gives there
 abbrev pub IsReplayed : Brief → List Line → Type 0
 IsReplayed brief lines = map (λ line. line.reply) lines ≡ answers_due brief (map (λ line. line.input) lines)
+
+-- ---- the lines that a run makes
+
+abbrev pub brief_of : View → Brief
+brief_of view = record { shape = view.shape; order = view.order }
+
+-- the line that an input makes in the journal
+abbrev pub line_of : ℕ → View → Input → Line
+line_of node view x =
+    let y = judge node view x in
+    record { input = y; reply = (step view.order view.shape y).reply }
+
+abbrev pub lines_from : ℕ → View → List Input → List Line
+lines_from node view [] = []
+lines_from node view (x ∷ xs) = line_of node view x ∷ lines_from node (view_step node view x).view xs
