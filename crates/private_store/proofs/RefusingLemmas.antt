@@ -1,23 +1,22 @@
 -- A step that refuses leaves the store as it was, but for what the refusal tells of and what a wait begins.
-use Rattle.std.proofs.Common.{◌≡◌, ℕ, ◌+◌, Bool, true, false, not, cond, ◌==◌, nat_lt, take, ◌&&◌, List, [], ◌∷◌, ◌++◌, length, filter, filter_map, fold, Option, Some, None, Result, Ok, Err, is_some, is_none, is_ok, refl, sym, ap, subst, ◌∙◌, T}
+use Rattle.std.proofs.Common.{◌≡◌, ℕ, ◌+◌, Bool, true, false, not, cond, ◌==◌, nat_lt, take, ◌&&◌, List, [], ◌∷◌, ◌++◌, length, filter, fold, Option, Some, None, Result, Ok, Err, is_some, is_none, refl, sym, ap, subst, ◌∙◌, T}
 use Rattle.std.specs.Option.{option_map_or}
 use Rattle.std.specs.List.{list_all, cons_option}
-use Rattle.std.specs.Ordering.{is_eq, eq_by_cmp}
+use Rattle.std.specs.Ordering.{is_eq}
 use Rattle.std.specs.Cmp.{tied_itself}
 use Rattle.obj_id.specs.declared.ids.ObjectId.{ObjectId}
 use Rattle.obj_id.specs.declared.commands.CopyState.{CopyState}
 use Rattle.obj_id.specs.declared.commands.CopyState.TheVariants.{Created, Sealed, Restoring, Fetching, Away}
 use Rattle.obj_id.specs.declared.commands.Kind.{Kind}
-use Rattle.obj_id.specs.declared.commands.Reply.{Reply}
 use Rattle.obj_id.specs.declared.commands.Reply.TheVariants as reply
 use Rattle.obj_id.specs.declared.refusals.Refusal.{Refusal}
 use Rattle.obj_id.specs.declared.refusals.Refusal.TheVariants.{Pending, DeviceFailed, TooMany, Full, Busy, Absent, NotSealed, Stale, BadSize}
-use Rattle.obj_id.specs.Ids.{id_cmp, same_id}
+use Rattle.obj_id.specs.Ids.{same_id}
 use Rattle.private_store.specs.Limits.{has_numbers}
 use Rattle.private_store.specs.Tables.{ById, at}
 use Rattle.private_store.specs.Shape.{Copy, Shape, Change, Fetch, Phase, locating, sized, pulling, failed, Sending}
 use Rattle.private_store.specs.Copies.{is_primary, device_used}
-use Rattle.private_store.specs.Room.{Room, Plan, fits, wait, full, busy, evict, spill, shortest_from, shortest, victims, spilled, spill_plan, plan, bytes_of_copies, works_left, offset_without, set_copy, drop_copy, evicted, asked, no_room, spill_room, evict_room, room_by, make_room}
+use Rattle.private_store.specs.Room.{Room, fits, wait, full, busy, evict, spill, shortest_from, victims, spilled, spill_plan, bytes_of_copies, works_left, offset_without, set_copy, drop_copy, evicted, asked, no_room, spill_room, evict_room, room_by, make_room}
 use Rattle.obj_id.specs.declared.ids.TaskNo.{TaskNo}
 use Rattle.obj_id.specs.declared.commands.Command.{Command}
 use Rattle.obj_id.specs.declared.commands.Command.TheVariants as command
@@ -25,7 +24,7 @@ use Rattle.private_store.specs.Copies.{in_scope}
 use Rattle.private_store.specs.Tables.{ids_of}
 use Rattle.private_store.specs.Shape.{locate}
 use Rattle.private_store.specs.Change.{settled, doom}
-use Rattle.private_store.specs.Commands.{create, created, write, seal, get, read, release, unpin, borrow, give_up, delete, end_task, grant, grant_own, grant_foreign, withdraw, peek, list, usage, leave, restore, restoring, get_away, get_fetching, get_copy, get_sealed, begin_pull, begin_fetch, fetch_begun, at_each, then_change, scoped, give_up_one, leave_one, has_borrower, without_borrower, with_holds, of_task, task_ended}
+use Rattle.private_store.specs.Commands.{create, created, write, seal, get, read, release, unpin, borrow, give_up, delete, end_task, grant, grant_own, grant_foreign, withdraw, peek, leave, restore, restoring, get_away, get_fetching, get_copy, get_sealed, begin_pull, begin_fetch, fetch_begun, at_each, then_change, scoped, give_up_one, leave_one, has_borrower, without_borrower, with_holds, of_task, task_ended}
 use Rattle.obj_id.specs.declared.works.Quota.{Quota}
 use Rattle.private_store.specs.declared.inputs.Source.{Source}
 use Rattle.private_store.specs.declared.inputs.WorkVerdict.{WorkVerdict}
@@ -37,10 +36,10 @@ use Rattle.private_store.specs.declared.inputs.Judged.TheVariants as judged
 use Rattle.private_store.specs.Limits.{is_quota}
 use Rattle.private_store.specs.Shape.{WorkInFlight, not_begun, live, ended, chunks, not_here, remove_source}
 use Rattle.private_store.specs.Copies.{visible}
-use Rattle.private_store.specs.Events.{begin, requota, end_job_here, answer, written, without_work, read_back, located, located_copy, with_fetch, fetch_of, chunk_taken, chunk_arrived, is_missing, not_here_arrived, fetch_failed, pull_answer, pull_arrived, quiet, received, withdrawn}
+use Rattle.private_store.specs.Events.{begin, end_job_here, answer, written, without_work, read_back, located, located_copy, with_fetch, fetch_of, chunk_taken, chunk_arrived, is_missing, not_here_arrived, fetch_failed, pull_answer, pull_arrived, quiet}
 use Rattle.private_store.specs.Step.{owned, commanded, if_live, step}
-use Rattle.private_store.specs.Change.{refused, done, replied, checked, needing, sending, in_room, keys_gone, erasing}
-use Rattle.private_store.specs.Refusing.{IsLeft, IsWaiting, IsExcused, unchanged, spill_told, fault_told, fetch_told, waits, RefusesCleanly}
+use Rattle.private_store.specs.Change.{refused, done, checked, needing, sending, in_room, keys_gone, erasing}
+use Rattle.private_store.specs.Refusing.{IsWaiting, IsExcused, unchanged, spill_told, fault_told, fetch_told, waits, RefusesCleanly}
 use Rattle.private_store.proofs.Stamps.{id_cmp-IsTotalOrder}
 
 -- ---- words
@@ -210,6 +209,7 @@ make_room_clean order store n = by_victims (victims order store n) refl
     by_spilled None = no_room_clean store Full
     by_spilled (Some []) = no_room_clean store Pending
     by_spilled (Some (id ∷ ids)) = spill_plan_clean store n (id ∷ ids)
+
     by_victims : (o : Option (List ObjectId)) → victims order store n ≡ o → RoomClean store (room_by store n (elim o [
       | Some [] ↦ fits
       | Some (id ∷ ids) ↦ evict (id ∷ ids)
@@ -344,13 +344,13 @@ give_up_one_told task store id =
     (cond (has_borrower copy task) (scoped store id (without_borrower copy task)) (done store))) o (done store)).reply ≡ reply.Ok) [
       | None ↦ refl
       | Some copy ↦ elim copy.doomed as (λ b. (cond b (done (set_copy store id (without_borrower copy task)))
-        (cond (has_borrower copy task) (scoped store id (without_borrower copy task)) (done store))).reply ≡ reply.Ok) [
-        | true ↦ refl
-        | false ↦ elim (has_borrower copy task) as (λ b. (cond b (scoped store id (without_borrower copy task)) (done store)).reply ≡ reply.Ok) [
-          | true ↦ scoped_told store id (without_borrower copy task)
-          | false ↦ refl
-        ]
-      ]
+          (cond (has_borrower copy task) (scoped store id (without_borrower copy task)) (done store))).reply ≡ reply.Ok) [
+            | true ↦ refl
+            | false ↦ elim (has_borrower copy task) as (λ b. (cond b (scoped store id (without_borrower copy task)) (done store)).reply ≡ reply.Ok) [
+              | true ↦ scoped_told store id (without_borrower copy task)
+              | false ↦ refl
+            ]
+          ]
     ]
 
 leave_one_told : (session : ℕ) (store : Shape) (id : ObjectId) → (leave_one session store id).reply ≡ reply.Ok

@@ -18,8 +18,7 @@ pub fn first_fit_is_least()
     ensures free { (extents : List Extent) (window n p : ℕ) → first extents window n ≡ Some p → is_free extents window n p ≡ true }
     ensures least { (extents : List Extent) (window n k : ℕ) → is_free extents window n (16 * k) ≡ true
         → (p : ℕ) × (first extents window n ≡ Some p) × (p ≤ 16 * k) }
-{
-}
+{}
 
 /// A store that stamps each use, sorted by stamp, is the store that keeps an order of use: after every
 /// list of inputs, and in every reply.
@@ -28,8 +27,7 @@ pub fn stamps_are_the_order_of_use()
         → view_of (store_from node (no_store job) xs) ≡ view_from node (view_of (no_store job)) xs }
     ensures replies { (node job : ℕ) (xs : List Input)
         → private_replies node (no_store job) xs ≡ view_replies node (view_of (no_store job)) xs }
-{
-}
+{}
 
 /// The journal's lines of a run, which have no contents, replay to the shape and the order of use that
 /// the run ends in, and each line has the answer that the replay gives there.
@@ -37,13 +35,11 @@ pub fn journals_replay()
     ensures state { (node : ℕ) (view : View) (xs : List Input)
         → replayed (brief_of view) (lines_from node view xs) ≡ brief_of (view_from node view xs) }
     ensures answers { (node : ℕ) (view : View) (xs : List Input) → IsReplayed (brief_of view) (lines_from node view xs) }
-{
-}
+{}
 
 /// A step that refuses leaves the store as it was; but a device fault, damage or a fetch's failure is
 /// told of once and forgotten, and a caller that is to ask again may have made room, asked for works or
 /// begun a fetch.
 pub fn refusals_change_nothing()
     ensures { (order : List ObjectId) (store : Shape) (x : Judged) → RefusesCleanly store (step order store x) }
-{
-}
+{}
