@@ -10,9 +10,7 @@ mod messages;
 mod refusals;
 mod works;
 
-pub use commands::{
-    Command, CopyState, GrantedItem, Kind, OwnItem, Reply, Usage,
-};
+pub use commands::{Command, CopyState, GrantedItem, Kind, OwnItem, Reply, Usage};
 pub use ids::{JobNo, ObjectId, TaskNo};
 pub use items::Items;
 pub use messages::{Arrival, Digest, DirectoryMessage, Location, Message, PeerMessage, Place};
