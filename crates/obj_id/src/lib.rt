@@ -8,6 +8,7 @@ mod ids;
 mod items;
 mod laws;
 mod messages;
+pub mod numbers;
 mod refusals;
 mod works;
 
