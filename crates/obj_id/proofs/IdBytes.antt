@@ -1,9 +1,10 @@
 -- An id's bytes: they are spelled once, and in their order.
-use Rattle.std.proofs.Common.{◌≡◌, ℕ, ◌+◌, ◌<◌, ◌≤◌, ◌^◌, List, [], ◌∷◌, ◌++◌, length, take, drop, get_or, refl, sym, ap, subst, ◌∙◌, arith, inl, inr, lit≤, Result, Ok, Err, IfOk}
+use Rattle.std.proofs.Common.{◌≡◌, ℕ, zero, suc, ◌+◌, ◌<◌, ◌≤◌, ◌^◌, List, [], ◌∷◌, ◌++◌, length, take, drop, get_or, refl, sym, ap, subst, ◌∙◌, arith, inl, inr, lit≤, Result, Ok, Err, IfOk}
 use Rattle.std.proofs.lemmas.Nat.{be_bytes_4, from_be_bytes-to_be_bytes_4}
 use Rattle.std.proofs.lemmas.Bool.{cases_lt}
 use Rattle.std.proofs.lemmas.List.{append-nil, append_assoc, drop_at, get_or_append_left, get_or_past, take_at, length-append, take-append-drop, drop-drop, get_or-drop, length-take-le, length-drop, take_all}
 use Rattle.std.specs.Int.{from_be_bytes, to_be_bytes, w32}
+use Rattle.obj_id.specs.Ids.{IsId, id_bytes}
 use Rattle.obj_id.specs.declared.ids.ObjectId.{ObjectId}
 use Rattle.obj_id.specs.declared.refusals.Refusal.{Refusal}
 use Rattle.obj_id.specs.declared.refusals.Refusal.TheVariants.{BadId}
@@ -116,3 +117,26 @@ IfOk-new r id P made no_job no_index h =
           ]
       | inr none ↦ rw (no_job (omega arith)) tt
     ]
+
+-- bytes after bytes are bytes
+bytes-append : (xs ys : List ℕ) → ((k : ℕ) → get_or xs k 0 < 256) → ((k : ℕ) → get_or ys k 0 < 256) → (k : ℕ) → get_or (xs ++ ys) k 0 < 256
+bytes-append [] ys hx hy k = hy k
+bytes-append (x ∷ xs) ys hx hy zero = hx 0
+bytes-append (x ∷ xs) ys hx hy (suc k) = bytes-append xs ys (λ j. hx (suc j)) hy k
+
+bytes-to_be_bytes : (n k : ℕ) → get_or (to_be_bytes w32 n) k 0 < 256
+bytes-to_be_bytes n zero = omega arith
+bytes-to_be_bytes n (suc zero) = omega arith
+bytes-to_be_bytes n (suc (suc zero)) = omega arith
+bytes-to_be_bytes n (suc (suc (suc zero))) = omega arith
+bytes-to_be_bytes n (suc (suc (suc (suc k)))) = omega arith
+
+-- the bytes of an id are 28
+pub length-id_bytes : (id : ObjectId) → IsId id → length (id_bytes id) ≡ 28
+length-id_bytes id h =
+    omega (arith, h.task_length, length-append (id.task.0 ++ to_be_bytes w32 id.job.0) (to_be_bytes w32 id.index), length-append id.task.0 (to_be_bytes w32 id.job.0))
+
+-- and bytes
+pub bytes-id_bytes : (id : ObjectId) → IsId id → (k : ℕ) → get_or (id_bytes id) k 0 < 256
+bytes-id_bytes id h =
+    bytes-append _ (to_be_bytes w32 id.index) (bytes-append id.task.0 (to_be_bytes w32 id.job.0) h.task_bytes (bytes-to_be_bytes id.job.0)) (bytes-to_be_bytes id.index)

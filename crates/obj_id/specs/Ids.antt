@@ -25,6 +25,11 @@ same_id a b = is_eq (id_cmp a b)
 abbrev pub id_eq : ObjectId → ObjectId → Bool
 id_eq a b = pointwise nat_eq a.task.0 b.task.0 && (nat_eq a.job.0 b.job.0 && nat_eq a.index b.index)
 
+-- what a program's task is: 20 bytes
+pub record IsTask (task : TaskNo) : Type 0 where
+  pub task_length : length task.0 ≡ 20
+  pub task_bytes : (i : ℕ) → slice_index task.0 i < 256
+
 -- what a program's id is: a task of 20 bytes, and a job and an index of 32 bits that are at least 1
 pub record IsId (id : ObjectId) : Type 0 where
   pub task_length : length id.task.0 ≡ 20

@@ -10,6 +10,7 @@ mod laws;
 mod messages;
 pub mod numbers;
 mod refusals;
+mod texts;
 mod works;
 
 pub use commands::{Command, CopyState, GrantedItem, Kind, OwnItem, Reply, Usage};
