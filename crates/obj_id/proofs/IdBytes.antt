@@ -48,7 +48,7 @@ pub length-task : (task job index : List ℕ) → length (task ++ job ++ index) 
 length-task task job index h lj li = omega (arith, h, length-append (task ++ job) index, length-append task job)
 
 -- a part of bytes is bytes
-bytes-drop : (bytes : List ℕ) (n : ℕ) → ((k : ℕ) → get_or bytes k 0 < 256) → (k : ℕ) → get_or (drop n bytes) k 0 < 256
+pub bytes-drop : (bytes : List ℕ) (n : ℕ) → ((k : ℕ) → get_or bytes k 0 < 256) → (k : ℕ) → get_or (drop n bytes) k 0 < 256
 bytes-drop bytes n h k = let same = get_or-drop n bytes k 0 in omega (arith, h (n + k), same)
 
 bytes-take : (bytes : List ℕ) (n : ℕ) → ((k : ℕ) → get_or bytes k 0 < 256) → (k : ℕ) → get_or (take n bytes) k 0 < 256
@@ -119,7 +119,7 @@ IfOk-new r id P made no_job no_index h =
     ]
 
 -- bytes after bytes are bytes
-bytes-append : (xs ys : List ℕ) → ((k : ℕ) → get_or xs k 0 < 256) → ((k : ℕ) → get_or ys k 0 < 256) → (k : ℕ) → get_or (xs ++ ys) k 0 < 256
+pub bytes-append : (xs ys : List ℕ) → ((k : ℕ) → get_or xs k 0 < 256) → ((k : ℕ) → get_or ys k 0 < 256) → (k : ℕ) → get_or (xs ++ ys) k 0 < 256
 bytes-append [] ys hx hy k = hy k
 bytes-append (x ∷ xs) ys hx hy zero = hx 0
 bytes-append (x ∷ xs) ys hx hy (suc k) = bytes-append xs ys (λ j. hx (suc j)) hy k

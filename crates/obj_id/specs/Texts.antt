@@ -1,10 +1,11 @@
 -- How ids and tasks are written.
-use Rattle.std.specs.Prelude.{◌≡◌, ℕ, ◌==◌, Bool, true, false, IsTrue, List, [], ◌++◌, take, drop, codes, decimal, if◌then◌else◌, ◌⊎◌}
+use Rattle.std.specs.Prelude.{◌≡◌, ℕ, ◌==◌, Bool, true, false, IsTrue, List, [], ◌++◌, take, drop, replicate, codes, decimal, if◌then◌else◌, ◌⊎◌}
 use Rattle.std.specs.List.{list_all}
-use Rattle.std.specs.Int.{from_be_bytes, w64}
+use Rattle.std.specs.Int.{from_be_bytes, to_be_bytes, w64}
 use Rattle.hex.specs.Hex.{encode_lower}
 use Rattle.obj_id.specs.Ids.{id_bytes}
 use Rattle.obj_id.specs.declared.ids.ObjectId.{ObjectId}
+use Rattle.obj_id.specs.declared.ids.JobNo.{JobNo}
 use Rattle.obj_id.specs.declared.ids.TaskNo.{TaskNo}
 
 -- the text of each id: its bytes, in lower case
@@ -22,6 +23,10 @@ has_short_text task = list_all (λ byte. byte == 0) (take 12 task.0)
 -- the task's last 8 bytes as a number
 unfoldable pub task_number : TaskNo → ℕ
 task_number task = from_be_bytes w64 (drop 12 task.0)
+
+-- the task of a number, whose first 12 bytes are zero
+abbrev pub numbered_task : ℕ → TaskNo
+numbered_task n = record { 0 = replicate 12 0 ++ to_be_bytes w64 n }
 
 -- `tN`
 abbrev pub short_task_text : TaskNo → List ℕ
@@ -51,6 +56,12 @@ task_text task = if has_short_text task then short_task_text task else full_task
 pub record IsShortTaskText (task : TaskNo) (text : List ℕ) : Type 0 where
   pub has_short : IsTrue (has_short_text task)
   pub spelled : short_task_text task ≡ text
+
+-- the text is the one by which the job names its own object
+pub record IsOwnText (job : JobNo) (id : ObjectId) (text : List ℕ) : Type 0 where
+  pub owner : id.job ≡ job
+  pub has_short : IsTrue (has_short_text id.task)
+  pub spelled : own_text id ≡ text
 
 -- the text is an id's short one, for the job that speaks
 pub record IsShortText (job : ℕ) (id : ObjectId) (text : List ℕ) : Type 0 where

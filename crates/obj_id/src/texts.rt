@@ -1,12 +1,13 @@
 //! The texts of ids and tasks.
-ghost use Rattle.std.specs.Prelude.{◌≡◌, ◌≤◌, ◌↔◌, length, IfOk, IfErr, IsTrue};
+ghost use Rattle.std.specs.Prelude.{◌≡◌, ◌≤◌, ◌↔◌, length, IfOk, IfErr, IfSome, IsTrue};
 ghost use Rattle.std.specs.String.{string_bytes};
 ghost use Rattle.hex.specs.Hex.{encode_lower};
 ghost use Rattle.obj_id.specs.Ids.{IsId, IsTask};
-ghost use Rattle.obj_id.specs.Texts.{full_text, full_task_text};
+ghost use Rattle.obj_id.specs.Texts.{IsOwnText, IsShortTaskText, full_task_text, full_text, has_short_text, numbered_task, task_number};
 ghost use Rattle.obj_id.specs.declared.ids.ObjectId.{ObjectId};
 ghost use Rattle.obj_id.specs.declared.ids.TaskNo.{TaskNo};
 
+use crate::numbers::{read_u32, read_u64};
 use crate::{JobNo, ObjectId, Refusal, TaskNo};
 use hex::FromHex;
 use std::alloc::{AllocError, Global};
@@ -36,6 +37,20 @@ impl ObjectId {
     }
 }
 
+impl ObjectId {
+    /// The job's own object whose short text this is, `tN.I`, if there is one.
+    fn read_own(text: &str, job: JobNo) -> Option<ObjectId>
+        ensures id { IfSome result IsId }
+        ensures spelled { IfSome result (λ id. IsOwnText job id text.now) }
+        ensures read { (id : ObjectId) → IsId id → IsOwnText job id text.now → result ≡ Some id }
+    {
+        let (front, back) = text.split_once('.')?;
+        let task = TaskNo::read_short(front)?;
+        let index = read_u32(back)?;
+        ObjectId::new(task, job, index).ok()
+    }
+}
+
 impl TaskNo {
     /// The task whose 40 digits these are, in lower case. `BadId` where there is none.
     pub fn read_full(text: &str) -> Result<TaskNo, Refusal>
@@ -58,6 +73,43 @@ impl TaskNo {
         ensures { IfOk result (λ text. string_bytes text ≡ full_task_text self.now) }
     {
         hex::encode(alloc, self.0)
+    }
+}
+
+impl TaskNo {
+    /// Whether the task has a short text, `tN`: whether its first 12 bytes are zero.
+    pub fn has_short_text(&self) -> bool
+        ensures { result ≡ has_short_text self.now }
+    {
+        self.0[..12].iter().all(|byte| *byte == 0)
+    }
+
+    /// The last 8 bytes as a number, with the highest byte first.
+    fn number(&self) -> u64
+        ensures { result ≡ task_number self.now }
+    {
+        let mut number = [0; 8];
+        number.copy_from_slice(&self.0[12..]);
+        u64::from_be_bytes(number)
+    }
+
+    /// The task of a number: 12 bytes of zero, and the number with its highest byte first.
+    pub fn numbered(number: u64) -> TaskNo
+        ensures { result ≡ numbered_task number }
+    {
+        let mut bytes = [0; 20];
+        bytes[12..20].copy_from_slice(&number.to_be_bytes());
+        TaskNo(bytes)
+    }
+
+    /// The task whose short text this is, if there is one.
+    fn read_short(text: &str) -> Option<TaskNo>
+        ensures task { IfSome result IsTask }
+        ensures spelled { IfSome result (λ task. IsShortTaskText task text.now) }
+        ensures read { (task : TaskNo) → IsTask task → IsShortTaskText task text.now → result ≡ Some task }
+    {
+        let number = read_u64(text.strip_prefix('t')?)?;
+        Some(TaskNo::numbered(number))
     }
 }
 

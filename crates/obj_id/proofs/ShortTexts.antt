@@ -1,0 +1,65 @@
+-- The parts of short texts, and the bytes that part them.
+use Rattle.std.proofs.Common.{◌≡◌, ◌≢◌, ℕ, zero, suc, ◌+◌, ◌<◌, ◌^◌, Bool, true, false, List, [], ◌∷◌, ◌++◌, length, get_or, refl, sym, ap, ◌∙◌, arith, decimal, codes, subst, lit<, Option, Some, None, MatchOption, IfSome, IfOk, Result, Ok, Err, Bor, ◌≤◌}
+use Rattle.std.proofs.lemmas.List.{append_assoc}
+use Rattle.std.proofs.lemmas.Str.Pattern.{IsSplitOnceResult, split_after}
+use Rattle.std.specs.Result.{result_ok}
+use Rattle.std.proofs.lemmas.Fmt.{digits_decimal}
+use Rattle.std.proofs.lemmas.Str.Parse.{not_in_digits, numerals_by_value, tells_digits}
+use Rattle.std.specs.Int.{IsInRange}
+use Rattle.std.specs.Str.Parse.{AllDigits}
+use Rattle.obj_id.proofs.IdBytes.{IfOk-new}
+use Rattle.obj_id.proofs.Numbered.{task_number-lt}
+use Rattle.obj_id.specs.Ids.{IsId, IsTask}
+use Rattle.obj_id.specs.Texts.{has_short_text, own_text, short_task_text, task_number}
+use Rattle.obj_id.specs.declared.ids.ObjectId.{ObjectId}
+use Rattle.obj_id.specs.declared.ids.TaskNo.{TaskNo}
+use Rattle.obj_id.specs.declared.refusals.Refusal.{Refusal}
+use Rattle.obj_id.specs.declared.refusals.Refusal.TheVariants.{BadId}
+
+-- no element is c
+abbrev pub Without : ℕ → List ℕ → Type 0
+Without c xs = (i : ℕ) → i < length xs → get_or xs i 0 ≢ c
+
+pub Without-nil : (c : ℕ) → Without c []
+Without-nil c i h = absurd (omega arith)
+
+pub Without-cons : (c x : ℕ) (xs : List ℕ) → x ≢ c → Without c xs → Without c (x ∷ xs)
+Without-cons c x xs hx h zero lt = hx
+Without-cons c x xs hx h (suc i) lt = h i (omega arith)
+
+pub Without-append : (c : ℕ) (xs ys : List ℕ) → Without c xs → Without c ys → Without c (xs ++ ys)
+Without-append c [] ys hx hy = hy
+Without-append c (x ∷ xs) ys hx hy = Without-cons c x (xs ++ ys) (hx 0 (omega arith)) (Without-append c xs ys (λ i lt. hx (suc i) (omega arith)) hy)
+
+-- a printed number is digits alone
+pub Without-decimal : (c n : ℕ) → n < 2 ^ 64 → ¬ (IsInRange 48 57 c) → Without c (decimal n)
+Without-decimal c n fits other =
+    let own = numerals_by_value (AllDigits 10) tells_digits in
+    not_in_digits own (decimal n) c (digits_decimal own n fits) other
+
+-- an id's task is a task
+pub IsTask-task : (id : ObjectId) → IsId id → IsTask id.task
+IsTask-task id h = record { task_length = h.task_length; task_bytes = h.task_bytes }
+
+pub Without-short_task_text : (c : ℕ) (task : TaskNo) → IsTask task → ¬ (IsInRange 48 57 c) → 116 ≢ c → Without c (short_task_text task)
+Without-short_task_text c task is other no_t =
+    Without-cons c 116 (decimal (task_number task)) no_t (Without-decimal c (task_number task) (task_number-lt task is) other)
+
+-- the own text is split at its dot
+pub split-own_text : (id : ObjectId) (text : List ℕ) (r : Option (Bor (List ℕ) × Bor (List ℕ))) → IsId id → own_text id ≡ text → IsSplitOnceResult 46 text r
+    → MatchOption r ⊥ (λ x. (x.0.now ≡ short_task_text id.task) × (x.1.now ≡ decimal id.index))
+split-own_text id text r is spelled h =
+    split_after 46 text (short_task_text id.task) (decimal id.index) r h (lit< tt)
+    (sym spelled ∙ append_assoc (short_task_text id.task) (codes ".") (decimal id.index))
+    (Without-short_task_text 46 id.task (IsTask-task id is) (λ range. omega arith) (λ e. omega arith))
+
+-- an id is made, where its job and its index are at least 1
+pub IfSome-new : (r : Result ObjectId Refusal) (o : Option ObjectId) (id : ObjectId) (P : ObjectId → Type 0) → o ≡ result_ok r
+    → (1 ≤ id.job.0 → 1 ≤ id.index → r ≡ Ok id) → (id.job.0 ≡ 0 → r ≡ Err BadId) → (id.index ≡ 0 → r ≡ Err BadId) → P id → IfSome o P
+IfSome-new r o id P e made no_job no_index h =
+    let Q : Option ObjectId → Type 0 = λ x. IfSome x P in
+    subst Q (sym e) (if_ok r (IfOk-new r id P made no_job no_index h))
+  where
+    if_ok : (x : Result ObjectId Refusal) → IfOk x P → IfSome (result_ok x) P
+    if_ok (Ok x) k = k
+    if_ok (Err x) k = tt
