@@ -63,6 +63,12 @@ pub record IsOwnText (job : JobNo) (id : ObjectId) (text : List ℕ) : Type 0 wh
   pub has_short : IsTrue (has_short_text id.task)
   pub spelled : own_text id ≡ text
 
+-- the two texts are those by which the job names another job's object: the owner, and the object in it
+pub record IsOtherText (job : JobNo) (id : ObjectId) (owner name : List ℕ) : Type 0 where
+  pub other : (job.0 == id.job.0) ≡ false
+  pub owned : decimal id.job.0 ≡ owner
+  pub named : IsOwnText id.job id name
+
 -- the text is an id's short one, for the job that speaks
 pub record IsShortText (job : ℕ) (id : ObjectId) (text : List ℕ) : Type 0 where
   pub has_short : IsTrue (has_short_text id.task)

@@ -3,7 +3,7 @@ ghost use Rattle.std.specs.Prelude.{◌≡◌, ◌≤◌, ◌↔◌, length, IfO
 ghost use Rattle.std.specs.String.{string_bytes};
 ghost use Rattle.hex.specs.Hex.{encode_lower};
 ghost use Rattle.obj_id.specs.Ids.{IsId, IsTask};
-ghost use Rattle.obj_id.specs.Texts.{IsOwnText, IsShortTaskText, full_task_text, full_text, has_short_text, numbered_task, task_number};
+ghost use Rattle.obj_id.specs.Texts.{IsOtherText, IsOwnText, IsShortText, IsShortTaskText, full_task_text, full_text, has_short_text, numbered_task, task_number};
 ghost use Rattle.obj_id.specs.declared.ids.ObjectId.{ObjectId};
 ghost use Rattle.obj_id.specs.declared.ids.TaskNo.{TaskNo};
 
@@ -38,6 +38,34 @@ impl ObjectId {
 }
 
 impl ObjectId {
+    /// The id whose short text this is where the job speaks: `tN.I` for its own object, `J/tN.I`
+    /// for one of another job. `BadId` where there is none.
+    pub fn read_short(text: &str, job: JobNo) -> Result<ObjectId, Refusal>
+        ensures id { IfOk result IsId }
+        ensures spelled { IfOk result (λ id. IsShortText job.0 id text.now) }
+        ensures read { (id : ObjectId) → IsId id → IsShortText job.0 id text.now → result ≡ Ok id }
+        ensures refused { IfErr result (λ refusal. refusal ≡ Refusal.BadId) }
+    {
+        let id = match text.split_once('/') {
+            None => ObjectId::read_own(text, job),
+            Some((owner, name)) => ObjectId::read_other(owner, name, job),
+        };
+        id.ok_or(Refusal::BadId)
+    }
+
+    /// The other job's object that these texts name, if there is one.
+    fn read_other(owner: &str, name: &str, job: JobNo) -> Option<ObjectId>
+        ensures id { IfSome result IsId }
+        ensures spelled { IfSome result (λ id. IsOtherText job id owner.now name.now) }
+        ensures read { (id : ObjectId) → IsId id → IsOtherText job id owner.now name.now → result ≡ Some id }
+    {
+        let number = read_u32(owner)?;
+        if job.0 == number {
+            return None;
+        }
+        ObjectId::read_own(name, JobNo(number))
+    }
+
     /// The job's own object whose short text this is, `tN.I`, if there is one.
     fn read_own(text: &str, job: JobNo) -> Option<ObjectId>
         ensures id { IfSome result IsId }
