@@ -1,5 +1,5 @@
 -- The parts of short texts, and the bytes that part them.
-use Rattle.std.proofs.Common.{◌≡◌, ◌≢◌, ℕ, zero, suc, ◌+◌, ◌<◌, ◌^◌, Bool, true, false, List, [], ◌∷◌, ◌++◌, length, get_or, refl, sym, ap, ◌∙◌, arith, decimal, codes, subst, lit<, Option, Some, None, MatchOption, IfSome, IfOk, Result, Ok, Err, Bor, ◌≤◌, ◌==◌, eq-eqb}
+use Rattle.std.proofs.Common.{◌≡◌, ◌≢◌, ℕ, zero, suc, ◌+◌, ◌<◌, ◌^◌, true, false, List, [], ◌∷◌, ◌++◌, length, get_or, refl, sym, ap, ◌∙◌, arith, decimal, codes, subst, lit<, Option, Some, None, MatchOption, IfSome, IfOk, Result, Ok, Err, Bor, ◌≤◌, ◌==◌, eq-eqb}
 use Rattle.std.proofs.lemmas.Bool.{eqb-true}
 use Rattle.std.proofs.lemmas.List.{append_assoc, get_or_at, length-append}
 use Rattle.std.proofs.lemmas.Str.Pattern.{IsSplitOnceResult, split_after, split_parts}
@@ -11,7 +11,7 @@ use Rattle.std.specs.Str.Parse.{AllDigits}
 use Rattle.obj_id.proofs.IdBytes.{IfOk-new}
 use Rattle.obj_id.proofs.Numbered.{task_number-lt}
 use Rattle.obj_id.specs.Ids.{IsId, IsTask}
-use Rattle.obj_id.specs.Texts.{IsOtherText, IsOwnText, IsShortText, has_short_text, own_text, owner_text, short_task_text, task_number}
+use Rattle.obj_id.specs.Texts.{IsOtherText, IsOwnText, IsShortText, own_text, owner_text, short_task_text, task_number}
 use Rattle.obj_id.specs.declared.ids.JobNo.{JobNo}
 use Rattle.obj_id.specs.declared.ids.ObjectId.{ObjectId}
 use Rattle.obj_id.specs.declared.ids.TaskNo.{TaskNo}
@@ -68,12 +68,12 @@ IfSome-new r o id P e made no_job no_index h =
 
 module _ (c : ℕ) (xs ys : List ℕ) where
   -- a list that has c isn't without it
-  with_byte : (text : List ℕ) → text ≡ xs ++ (c ∷ ys) → Without c text → ⊥
+  pub with_byte : (text : List ℕ) → text ≡ xs ++ (c ∷ ys) → Without c text → ⊥
   with_byte text is h =
       let len : length text ≡ length xs + length (c ∷ ys) = ap length is ∙ length-append xs (c ∷ ys) in
       h (length xs) (omega (arith, len)) (ap (λ zs. get_or zs (length xs) 0) is ∙ get_or_at xs c ys 0 (length xs) refl)
 
-Without-own_text : (id : ObjectId) → IsId id → Without 47 (own_text id)
+pub Without-own_text : (id : ObjectId) → IsId id → Without 47 (own_text id)
 Without-own_text id is =
     Without-append 47 (short_task_text id.task ++ codes ".") (decimal id.index)
     (Without-append 47 (short_task_text id.task) (codes ".") (Without-short_task_text 47 id.task (IsTask-task id is) (λ range. omega arith) (λ e. omega arith))
@@ -118,6 +118,7 @@ split-short_text job id text r is h split =
     own (Some x) parts same spelled =
         let P : List ℕ → Type 0 = Without 47 in
         absurd (with_byte 47 x.0.now x.1.now text parts.0 (subst P spelled (Without-own_text id is)))
+
     foreign : (o : Option (Bor (List ℕ) × Bor (List ℕ)))
         → MatchOption o ⊥ (λ x. (x.0.now ≡ decimal id.job.0) × (x.1.now ≡ own_text id))
         → (job.0 == id.job.0) ≡ false → MatchOption o (IsOwnText job id text) (λ x. IsOtherText job id x.0.now x.1.now)

@@ -1,9 +1,9 @@
 //! The texts of ids and tasks.
-ghost use Rattle.std.specs.Prelude.{◌≡◌, ◌≤◌, ◌↔◌, length, IfOk, IfErr, IfSome, IsTrue};
+ghost use Rattle.std.specs.Prelude.{◌≡◌, ◌++◌, ◌≤◌, ◌↔◌, codes, decimal, length, IfOk, IfErr, IfSome, IsTrue};
 ghost use Rattle.std.specs.String.{string_bytes};
 ghost use Rattle.hex.specs.Hex.{encode_lower};
 ghost use Rattle.obj_id.specs.Ids.{IsId, IsTask};
-ghost use Rattle.obj_id.specs.Texts.{IsOtherText, IsOwnText, IsShortText, IsShortTaskText, full_task_text, full_text, has_short_text, numbered_task, task_number};
+ghost use Rattle.obj_id.specs.Texts.{IsIdText, IsOtherText, IsOwnText, IsShortTaskText, IsShortText, IsTaskText, full_task_text, full_text, has_short_text, id_text, numbered_task, short_text, task_number, task_text};
 ghost use Rattle.obj_id.specs.declared.ids.ObjectId.{ObjectId};
 ghost use Rattle.obj_id.specs.declared.ids.TaskNo.{TaskNo};
 
@@ -51,6 +51,54 @@ impl ObjectId {
             Some((owner, name)) => ObjectId::read_other(owner, name, job),
         };
         id.ok_or(Refusal::BadId)
+    }
+
+    /// The id's short text where the job speaks.
+    pub fn write_short(&self, alloc: Global, job: JobNo) -> Result<String, AllocError>
+        requires { IsTrue (has_short_text self.now.task) }
+        ensures { IfOk result (λ text. string_bytes text ≡ short_text job.0 self.now) }
+    {
+        let task = self.task().number();
+        let owner = self.job().0;
+        let index = self.index();
+        if job.0 == owner {
+            own_text(alloc, task, index)
+        } else {
+            other_text(alloc, owner, task, index)
+        }
+    }
+
+    /// Whether the id has a short text: whether its task has one.
+    pub fn has_short_text(&self) -> bool
+        ensures { result ≡ has_short_text self.now.task }
+    {
+        self.task().has_short_text()
+    }
+
+    /// The id that the text names where the job speaks, by its short text or by its digits.
+    /// `BadId` where there is none.
+    pub fn read(text: &str, job: JobNo) -> Result<ObjectId, Refusal>
+        ensures id { IfOk result IsId }
+        ensures named { IfOk result (λ id. IsIdText job.0 id text.now) }
+        ensures read { (id : ObjectId) → IsId id → IsIdText job.0 id text.now → result ≡ Ok id }
+        ensures refused { IfErr result (λ refusal. refusal ≡ Refusal.BadId) }
+    {
+        if let Ok(id) = ObjectId::read_short(text, job) {
+            return Ok(id);
+        }
+        ObjectId::read_full(text)
+    }
+
+    /// The text by which the id is printed where the job speaks: the short one if there is one,
+    /// else its digits.
+    pub fn write(&self, alloc: Global, job: JobNo) -> Result<String, AllocError>
+        ensures { IfOk result (λ text. string_bytes text ≡ id_text job.0 self.now) }
+    {
+        if self.has_short_text() {
+            self.write_short(alloc, job)
+        } else {
+            self.write_full(alloc)
+        }
     }
 
     /// The other job's object that these texts name, if there is one.
@@ -105,6 +153,31 @@ impl TaskNo {
 }
 
 impl TaskNo {
+    /// The task that the text names, as `tN` or by its digits. `BadId` where there is none.
+    pub fn read(text: &str) -> Result<TaskNo, Refusal>
+        ensures task { IfOk result IsTask }
+        ensures named { IfOk result (λ task. IsTaskText task text.now) }
+        ensures read { (task : TaskNo) → IsTask task → IsTaskText task text.now → result ≡ Ok task }
+        ensures refused { IfErr result (λ refusal. refusal ≡ Refusal.BadId) }
+    {
+        if let Some(task) = TaskNo::read_short(text) {
+            return Ok(task);
+        }
+        TaskNo::read_full(text)
+    }
+
+    /// The text by which the task is printed: `tN` if its first 12 bytes are zero, else its digits.
+    pub fn write(&self, alloc: Global) -> Result<String, AllocError>
+        ensures { IfOk result (λ text. string_bytes text ≡ task_text self.now) }
+    {
+        if self.has_short_text() {
+            let number = self.number();
+            format!(in alloc; "t{number}")
+        } else {
+            self.write_full(alloc)
+        }
+    }
+
     /// Whether the task has a short text, `tN`: whether its first 12 bytes are zero.
     pub fn has_short_text(&self) -> bool
         ensures { result ≡ has_short_text self.now }
@@ -139,6 +212,21 @@ impl TaskNo {
         let number = read_u64(text.strip_prefix('t')?)?;
         Some(TaskNo::numbered(number))
     }
+}
+
+/// `tN.I`.
+fn own_text(alloc: Global, task: u64, index: u32) -> Result<String, AllocError>
+    ensures { IfOk result (λ text. string_bytes text ≡ codes "t" ++ decimal task ++ codes "." ++ decimal index) }
+{
+    format!(in alloc; "t{task}.{index}")
+}
+
+/// `J/tN.I`.
+fn other_text(alloc: Global, owner: u32, task: u64, index: u32) -> Result<String, AllocError>
+    ensures { IfOk result (λ text. string_bytes text
+        ≡ decimal owner ++ codes "/" ++ (codes "t" ++ decimal task ++ codes "." ++ decimal index)) }
+{
+    format!(in alloc; "{owner}/t{task}.{index}")
 }
 
 /// Whether the text is the bytes in digits of lower case.

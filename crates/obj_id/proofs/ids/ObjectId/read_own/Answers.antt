@@ -1,8 +1,8 @@
-use Rattle.std.proofs.Common.{rules, ◌≡◌, ℕ, ◌++◌, List, ◌∷◌, Some, Ok, sym, ap, ◌∙◌, lit<, decimal, codes, Option, MatchOption, refl}
+use Rattle.std.proofs.Common.{◌≡◌, ◌++◌, ◌∷◌, sym, ap, ◌∙◌, lit<, decimal, codes, refl}
 use Rattle.std.proofs.lemmas.List.{append_assoc}
 use Rattle.std.proofs.lemmas.Str.Pattern.{split_parts}
 use Rattle.std.specs.Result.{result_ok}
-use Rattle.obj_id.specs.Texts.{own_text, short_task_text, IsOwnText}
+use Rattle.obj_id.specs.Texts.{short_task_text}
 use Rattle.obj_id.proofs.ShortTexts.{IfSome-new, IsTask-task, split-own_text}
 use Rattle.obj_id.proofs.ids.ObjectId.read_own.Goals as goal
 

@@ -1,4 +1,4 @@
-use Rattle.std.proofs.Common.{◌≡◌, Some, Ok, ap, ◌∙◌, ok_or}
+use Rattle.std.proofs.Common.{ap, ◌∙◌, ok_or}
 use Rattle.obj_id.specs.Texts.{IsOtherText, IsOwnText}
 use Rattle.obj_id.specs.declared.refusals.Refusal.TheVariants.{BadId}
 use Rattle.obj_id.proofs.ShortTexts.{split-short_text}

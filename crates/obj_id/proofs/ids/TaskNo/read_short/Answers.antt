@@ -1,4 +1,4 @@
-use Rattle.std.proofs.Common.{rules, ◌≡◌, ℕ, ◌^◌, ◌<◌, List, ◌∷◌, Some, refl, sym, ap, ◌∙◌, lit<, decimal, subst}
+use Rattle.std.proofs.Common.{rules, ◌≡◌, ◌^◌, ◌<◌, ◌∷◌, Some, refl, sym, ap, ◌∙◌, lit<, decimal, subst}
 use Rattle.std.proofs.lemmas.Str.Pattern.{strip_prefix_char}
 use Rattle.obj_id.specs.Texts.{IsShortTaskText, numbered_task, task_number}
 use Rattle.obj_id.specs.declared.ids.TaskNo.{TaskNo}
