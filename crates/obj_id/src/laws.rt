@@ -1,9 +1,11 @@
-//! Laws of ids: what comparing and ordering them means.
-ghost use Rattle.std.specs.Prelude.{◌≡◌, List};
+//! Laws: what comparing ids means, and what a text names.
+ghost use Rattle.std.specs.Prelude.{◌≡◌, ℕ, List};
 ghost use Rattle.std.specs.Cmp.Lexicographic.{slice_cmp};
 ghost use Rattle.std.specs.Ordering.{nat_cmp};
-ghost use Rattle.obj_id.specs.Ids.{IsId, id_bytes, id_cmp, id_eq};
+ghost use Rattle.obj_id.specs.Ids.{IsId, IsTask, id_bytes, id_cmp, id_eq};
+ghost use Rattle.obj_id.specs.Texts.{IsIdText, IsTaskText, id_text, task_text};
 ghost use Rattle.obj_id.specs.declared.ids.ObjectId.{ObjectId};
+ghost use Rattle.obj_id.specs.declared.ids.TaskNo.{TaskNo};
 
 use crate::ObjectId;
 
@@ -13,4 +15,15 @@ pub fn ids_are_ordered_as_their_bytes()
     ensures order { (a b : ObjectId) → ⟦<ObjectId as Ord>⟧.cmp a b ≡ id_cmp a b }
     ensures bytes { (a b : ObjectId) → IsId a → IsId b
         → ⟦<ObjectId as Ord>⟧.cmp a b ≡ slice_cmp nat_cmp (id_bytes a) (id_bytes b) }
+{}
+
+/// Where a job speaks, a text names one object and one task at most, and the text that is printed
+/// for an object or a task is one of its names.
+pub fn a_text_names_one()
+    ensures id { (job : ℕ) (a b : ObjectId) (text : List ℕ) → IsId a → IsId b
+        → IsIdText job a text → IsIdText job b text → a ≡ b }
+    ensures task { (a b : TaskNo) (text : List ℕ) → IsTask a → IsTask b
+        → IsTaskText a text → IsTaskText b text → a ≡ b }
+    ensures printed_id { (job : ℕ) (id : ObjectId) → IsIdText job id (id_text job id) }
+    ensures printed_task { (task : TaskNo) → IsTaskText task (task_text task) }
 {}
