@@ -63,7 +63,7 @@ pub record IsOwnText (job : JobNo) (id : ObjectId) (text : List ℕ) : Type 0 wh
   pub has_short : IsTrue (has_short_text id.task)
   pub spelled : own_text id ≡ text
 
--- the two texts are those by which the job names another job's object: the owner, and the object in it
+-- the texts by which the job names another job's object: its owner's, and its own there
 pub record IsOtherText (job : JobNo) (id : ObjectId) (owner name : List ℕ) : Type 0 where
   pub other : (job.0 == id.job.0) ≡ false
   pub owned : decimal id.job.0 ≡ owner

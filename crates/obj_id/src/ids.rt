@@ -39,7 +39,9 @@ impl ObjectId {
 
     /// The object's name by its parts. `BadId` where the job or the index is 0.
     pub fn new(task: TaskNo, job: JobNo, index: u32) -> Result<ObjectId, Refusal>
-        ensures made { 1 ≤ job.0 → 1 ≤ index → result ≡ Ok (record { task = task; job = job; index = index }) }
+        ensures id { IfOk result IsId }
+        ensures made { 1 ≤ job.0 → 1 ≤ index
+            → result ≡ Ok (record { task = task; job = job; index = index }) }
         ensures no_job { job.0 ≡ 0 → result ≡ Err Refusal.BadId }
         ensures no_index { index ≡ 0 → result ≡ Err Refusal.BadId }
     {

@@ -7,7 +7,8 @@ use itoa::Buffer;
 /// an empty text, a sign, a leading zero, another byte than a digit, or too great a number.
 pub fn read_u64(text: &str) -> Option<u64>
     ensures printed { IfSome result (λ number. decimal number ≡ text.now) }
-    ensures read { (number : ℕ) → number < 2 ^ 64 → decimal number ≡ text.now → result ≡ Some number }
+    ensures read { (number : ℕ) → number < 2 ^ 64 → decimal number ≡ text.now
+        → result ≡ Some number }
 {
     let number: u64 = text.parse().ok()?;
     let mut buffer = Buffer::new();
@@ -21,7 +22,8 @@ pub fn read_u64(text: &str) -> Option<u64>
 /// The number that the text prints, below 2^32. `None` where no number of 32 bits is printed so.
 pub fn read_u32(text: &str) -> Option<u32>
     ensures printed { IfSome result (λ number. decimal number ≡ text.now) }
-    ensures read { (number : ℕ) → number < 2 ^ 32 → decimal number ≡ text.now → result ≡ Some number }
+    ensures read { (number : ℕ) → number < 2 ^ 32 → decimal number ≡ text.now
+        → result ≡ Some number }
 {
     let number: u32 = text.parse().ok()?;
     let mut buffer = Buffer::new();

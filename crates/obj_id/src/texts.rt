@@ -13,31 +13,39 @@ use hex::FromHex;
 use std::alloc::{AllocError, Global};
 
 impl ObjectId {
-    /// The id whose 56 digits these are, in lower case. `BadId` where there is none.
-    pub fn read_full(text: &str) -> Result<ObjectId, Refusal>
+    /// The id that the text names where the job speaks, by its short text or by its digits.
+    /// `BadId` where there is none.
+    pub fn read(text: &str, job: JobNo) -> Result<ObjectId, Refusal>
         ensures id { IfOk result IsId }
-        ensures spelled { IfOk result (λ id. full_text id ≡ text.now) }
-        ensures read { (id : ObjectId) → IsId id → full_text id ≡ text.now → result ≡ Ok id }
+        ensures named { IfOk result (λ id. IsIdText job.0 id text.now) }
+        ensures read { (id : ObjectId) → IsId id → IsIdText job.0 id text.now → result ≡ Ok id }
         ensures refused { IfErr result (λ refusal. refusal ≡ Refusal.BadId) }
     {
-        let Ok(bytes) = <[u8; 28]>::from_hex(text) else {
-            return Err(Refusal::BadId);
-        };
-        if !is_lower_case(&bytes, text) {
-            return Err(Refusal::BadId);
+        if let Ok(id) = ObjectId::read_short(text, job) {
+            return Ok(id);
         }
-        ObjectId::from_bytes(&bytes)
+        ObjectId::read_full(text)
     }
 
-    /// The id's 56 digits, in lower case.
-    pub fn write_full(&self, alloc: Global) -> Result<String, AllocError>
-        ensures { IfOk result (λ text. string_bytes text ≡ full_text self.now) }
+    /// The text by which the id is printed where the job speaks: the short one if there is one,
+    /// else its digits.
+    pub fn write(&self, alloc: Global, job: JobNo) -> Result<String, AllocError>
+        ensures { IfOk result (λ text. string_bytes text ≡ id_text job.0 self.now) }
     {
-        hex::encode(alloc, self.to_bytes())
+        if self.has_short_text() {
+            self.write_short(alloc, job)
+        } else {
+            self.write_full(alloc)
+        }
     }
-}
 
-impl ObjectId {
+    /// Whether the id has a short text: whether its task has one.
+    pub fn has_short_text(&self) -> bool
+        ensures { result ≡ has_short_text self.now.task }
+    {
+        self.task().has_short_text()
+    }
+
     /// The id whose short text this is where the job speaks: `tN.I` for its own object, `J/tN.I`
     /// for one of another job. `BadId` where there is none.
     pub fn read_short(text: &str, job: JobNo) -> Result<ObjectId, Refusal>
@@ -68,44 +76,35 @@ impl ObjectId {
         }
     }
 
-    /// Whether the id has a short text: whether its task has one.
-    pub fn has_short_text(&self) -> bool
-        ensures { result ≡ has_short_text self.now.task }
-    {
-        self.task().has_short_text()
-    }
-
-    /// The id that the text names where the job speaks, by its short text or by its digits.
-    /// `BadId` where there is none.
-    pub fn read(text: &str, job: JobNo) -> Result<ObjectId, Refusal>
+    /// The id whose 56 digits these are, in lower case. `BadId` where there is none.
+    pub fn read_full(text: &str) -> Result<ObjectId, Refusal>
         ensures id { IfOk result IsId }
-        ensures named { IfOk result (λ id. IsIdText job.0 id text.now) }
-        ensures read { (id : ObjectId) → IsId id → IsIdText job.0 id text.now → result ≡ Ok id }
+        ensures spelled { IfOk result (λ id. full_text id ≡ text.now) }
+        ensures read { (id : ObjectId) → IsId id → full_text id ≡ text.now → result ≡ Ok id }
         ensures refused { IfErr result (λ refusal. refusal ≡ Refusal.BadId) }
     {
-        if let Ok(id) = ObjectId::read_short(text, job) {
-            return Ok(id);
+        let Ok(bytes) = <[u8; 28]>::from_hex(text) else {
+            return Err(Refusal::BadId);
+        };
+        if !is_lower_case(&bytes, text) {
+            return Err(Refusal::BadId);
         }
-        ObjectId::read_full(text)
+        ObjectId::from_bytes(&bytes)
     }
 
-    /// The text by which the id is printed where the job speaks: the short one if there is one,
-    /// else its digits.
-    pub fn write(&self, alloc: Global, job: JobNo) -> Result<String, AllocError>
-        ensures { IfOk result (λ text. string_bytes text ≡ id_text job.0 self.now) }
+    /// The id's 56 digits, in lower case.
+    pub fn write_full(&self, alloc: Global) -> Result<String, AllocError>
+        ensures { IfOk result (λ text. string_bytes text ≡ full_text self.now) }
     {
-        if self.has_short_text() {
-            self.write_short(alloc, job)
-        } else {
-            self.write_full(alloc)
-        }
+        hex::encode(alloc, self.to_bytes())
     }
 
     /// The other job's object that these texts name, if there is one.
     fn read_other(owner: &str, name: &str, job: JobNo) -> Option<ObjectId>
         ensures id { IfSome result IsId }
         ensures spelled { IfSome result (λ id. IsOtherText job id owner.now name.now) }
-        ensures read { (id : ObjectId) → IsId id → IsOtherText job id owner.now name.now → result ≡ Some id }
+        ensures read { (id : ObjectId) → IsId id → IsOtherText job id owner.now name.now
+            → result ≡ Some id }
     {
         let number = read_u32(owner)?;
         if job.0 == number {
@@ -124,31 +123,6 @@ impl ObjectId {
         let task = TaskNo::read_short(front)?;
         let index = read_u32(back)?;
         ObjectId::new(task, job, index).ok()
-    }
-}
-
-impl TaskNo {
-    /// The task whose 40 digits these are, in lower case. `BadId` where there is none.
-    pub fn read_full(text: &str) -> Result<TaskNo, Refusal>
-        ensures task { IfOk result IsTask }
-        ensures spelled { IfOk result (λ task. full_task_text task ≡ text.now) }
-        ensures read { (task : TaskNo) → IsTask task → full_task_text task ≡ text.now → result ≡ Ok task }
-        ensures refused { IfErr result (λ refusal. refusal ≡ Refusal.BadId) }
-    {
-        let Ok(bytes) = <[u8; 20]>::from_hex(text) else {
-            return Err(Refusal::BadId);
-        };
-        if !is_lower_case(&bytes, text) {
-            return Err(Refusal::BadId);
-        }
-        Ok(TaskNo(bytes))
-    }
-
-    /// The task's 40 digits, in lower case.
-    pub fn write_full(&self, alloc: Global) -> Result<String, AllocError>
-        ensures { IfOk result (λ text. string_bytes text ≡ full_task_text self.now) }
-    {
-        hex::encode(alloc, self.0)
     }
 }
 
@@ -185,15 +159,6 @@ impl TaskNo {
         self.0[..12].iter().all(|byte| *byte == 0)
     }
 
-    /// The last 8 bytes as a number, with the highest byte first.
-    fn number(&self) -> u64
-        ensures { result ≡ task_number self.now }
-    {
-        let mut number = [0; 8];
-        number.copy_from_slice(&self.0[12..]);
-        u64::from_be_bytes(number)
-    }
-
     /// The task of a number: 12 bytes of zero, and the number with its highest byte first.
     pub fn numbered(number: u64) -> TaskNo
         ensures { result ≡ numbered_task number }
@@ -203,20 +168,55 @@ impl TaskNo {
         TaskNo(bytes)
     }
 
+    /// The task whose 40 digits these are, in lower case. `BadId` where there is none.
+    pub fn read_full(text: &str) -> Result<TaskNo, Refusal>
+        ensures task { IfOk result IsTask }
+        ensures spelled { IfOk result (λ task. full_task_text task ≡ text.now) }
+        ensures read { (task : TaskNo) → IsTask task → full_task_text task ≡ text.now
+            → result ≡ Ok task }
+        ensures refused { IfErr result (λ refusal. refusal ≡ Refusal.BadId) }
+    {
+        let Ok(bytes) = <[u8; 20]>::from_hex(text) else {
+            return Err(Refusal::BadId);
+        };
+        if !is_lower_case(&bytes, text) {
+            return Err(Refusal::BadId);
+        }
+        Ok(TaskNo(bytes))
+    }
+
+    /// The task's 40 digits, in lower case.
+    pub fn write_full(&self, alloc: Global) -> Result<String, AllocError>
+        ensures { IfOk result (λ text. string_bytes text ≡ full_task_text self.now) }
+    {
+        hex::encode(alloc, self.0)
+    }
+
     /// The task whose short text this is, if there is one.
     fn read_short(text: &str) -> Option<TaskNo>
         ensures task { IfSome result IsTask }
         ensures spelled { IfSome result (λ task. IsShortTaskText task text.now) }
-        ensures read { (task : TaskNo) → IsTask task → IsShortTaskText task text.now → result ≡ Some task }
+        ensures read { (task : TaskNo) → IsTask task → IsShortTaskText task text.now
+            → result ≡ Some task }
     {
         let number = read_u64(text.strip_prefix('t')?)?;
         Some(TaskNo::numbered(number))
+    }
+
+    /// The last 8 bytes as a number, with the highest byte first.
+    fn number(&self) -> u64
+        ensures { result ≡ task_number self.now }
+    {
+        let mut number = [0; 8];
+        number.copy_from_slice(&self.0[12..]);
+        u64::from_be_bytes(number)
     }
 }
 
 /// `tN.I`.
 fn own_text(alloc: Global, task: u64, index: u32) -> Result<String, AllocError>
-    ensures { IfOk result (λ text. string_bytes text ≡ codes "t" ++ decimal task ++ codes "." ++ decimal index) }
+    ensures { IfOk result (λ text. string_bytes text
+        ≡ codes "t" ++ decimal task ++ codes "." ++ decimal index) }
 {
     format!(in alloc; "t{task}.{index}")
 }
