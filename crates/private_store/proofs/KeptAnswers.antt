@@ -1,10 +1,8 @@
 -- The answer of a device work keeps the store.
-use Rattle.std.proofs.Common.{◌≡◌, ℕ, ◌+◌, ◌≤◌, ◌<◌, Bool, true, false, not, cond, ◌&&◌, ◌||◌, ◌==◌, List, [], ◌∷◌, length, filter, Option, Some, None, is_some, is_none, refl, sym, ap, subst, ◌∙◌, arith}
-use Rattle.std.specs.List.{find}
-use Rattle.obj_id.specs.declared.ids.ObjectId.{ObjectId}
+use Rattle.std.proofs.Common.{◌≡◌, ℕ, Bool, true, false, not, cond, ◌&&◌, ◌||◌, ◌==◌, Option, Some, None, refl, sym, ap, ◌∙◌}
 use Rattle.obj_id.specs.declared.commands.Kind.{Kind}
 use Rattle.obj_id.specs.declared.commands.CopyState.{CopyState}
-use Rattle.obj_id.specs.declared.commands.CopyState.TheVariants.{Created, Sealed, Restoring, Fetching, Away}
+use Rattle.obj_id.specs.declared.commands.CopyState.TheVariants.{Sealed, Restoring, Away}
 use Rattle.obj_id.specs.declared.refusals.Refusal.{Refusal}
 use Rattle.obj_id.specs.declared.refusals.Refusal.TheVariants.{DeviceFailed, Damaged}
 use Rattle.obj_id.specs.Ids.{same_id}
@@ -12,18 +10,18 @@ use Rattle.private_store.specs.declared.inputs.WorkVerdict.{WorkVerdict}
 use Rattle.private_store.specs.declared.inputs.WorkVerdict.TheVariants as work
 use Rattle.private_store.specs.Limits.{most_copies}
 use Rattle.private_store.specs.Tables.{at, ById, with_entry}
-use Rattle.private_store.specs.Shape.{Copy, Shape, Change, WorkInFlight, HandGiven}
+use Rattle.private_store.specs.Shape.{Copy, Shape, WorkInFlight}
 use Rattle.private_store.specs.Copies.{is_primary, is_sealed, is_away}
 use Rattle.private_store.specs.Room.{set_copy}
 use Rattle.private_store.specs.Change.{done, erasing, settled}
 use Rattle.private_store.specs.Events.{work_of, without_work, written, read_back, answer}
 use Rattle.private_store.specs.Kept.{IsCopyKept, IsUseKept, has_extent, has_work, has_read, has_write, has_hand, is_fetching, is_restoring}
-use Rattle.private_store.proofs.KeptCopy.{IsBare, IsLoose, true_false, false_true, or_false_left, or_false_right, sealed_is, restoring_is, has_work-split}
+use Rattle.private_store.proofs.KeptCopy.{IsLoose, true_false, false_true, or_false_left, or_false_right, sealed_is, restoring_is, has_work-split}
 use Rattle.private_store.proofs.KeptLists.{find-any}
-use Rattle.private_store.proofs.KeptRows.{IsRowChange, IsLiveKept, row_same, row_put, same_itself}
-use Rattle.private_store.proofs.KeptWorks.{rest_of, rest_keep, rest_free, same_rest}
-use Rattle.private_store.proofs.KeptChanges.{no_write_of, no_hand_of, unheld_of}
-use Rattle.private_store.proofs.KeptStore.{IsFrameKept, settle_moved, Keeps, same_keeps, needing_keeps, put_row, kept_copy}
+use Rattle.private_store.proofs.KeptRows.{IsRowChange, IsLiveKept, row_same, same_itself}
+use Rattle.private_store.proofs.KeptWorks.{rest_keep, rest_free, same_rest}
+use Rattle.private_store.proofs.KeptChanges.{no_hand_of, unheld_of}
+use Rattle.private_store.proofs.KeptStore.{IsFrameKept, settle_moved, Keeps, needing_keeps, put_row, kept_copy}
 
 module _ {store : Shape} (h : IsLiveKept store) (number : ℕ) (w : WorkInFlight) (found : work_of store number ≡ Some w) (copy : Copy) (e : at store.copies w.id ≡ Some copy) where
   abbrev rest : Shape
@@ -64,7 +62,7 @@ module _ {store : Shape} (h : IsLiveKept store) (number : ℕ) (w : WorkInFlight
 
     write_failed : IsLoose store.job rest.works store.given store.ended_tasks w.id copy
     write_failed = record {
-      bare = record { own = kept.own; form = kept.form; marks = kept.marks; holds = kept.holds; use_kept = used copy.state copy.kind copy.backed kept.granted still };
+      bare = record { own = kept.own; form = kept.form; marks = kept.marks; holds = kept.holds; uses = used copy.state copy.kind copy.backed kept.granted still };
       scope = kept.scope;
     }
 
@@ -75,7 +73,7 @@ module _ {store : Shape} (h : IsLiveKept store) (number : ℕ) (w : WorkInFlight
         form = kept.form;
         marks = record { secondary = λ t. false_true (sym spilling.1 ∙ t); away = λ t. ((kept.away t).0, refl); faulty = kept.faulty };
         holds = kept.holds;
-        use_kept = used copy.state copy.kind (Some w.number) kept.granted still;
+        uses = used copy.state copy.kind (Some w.number) kept.granted still;
       };
       scope = kept.scope;
     }
@@ -112,7 +110,7 @@ module _ {store : Shape} (h : IsLiveKept store) (number : ℕ) (w : WorkInFlight
         };
         marks = record { secondary = kept.secondary; away = λ t. true_false t; faulty = λ t. true_false (sym (ap is_away coming) ∙ kept.faulty t) };
         holds = record { held = λ _. refl; sessions = kept.sessions; few_holds = kept.few_holds };
-        use_kept = used Sealed copy.kind copy.backed (λ t. true_false (sym no_hand ∙ t)) refl;
+        uses = used Sealed copy.kind copy.backed (λ t. true_false (sym no_hand ∙ t)) refl;
       };
       scope = kept.scope;
     }
@@ -124,7 +122,7 @@ module _ {store : Shape} (h : IsLiveKept store) (number : ℕ) (w : WorkInFlight
         form = record { resident = refl; in_fetch = kept.in_fetch ∙ ap is_fetching coming; fetched = λ t. true_false t; gaps = kept.gaps; sized = λ _. kept.sized (ap is_fetching coming) };
         marks = record { secondary = kept.secondary; away = λ _. kept.away (ap (λ s. is_away s || is_restoring s) coming); faulty = λ _. refl };
         holds = record { held = λ t. true_false (sym (unheld_of copy kept (ap is_sealed coming)) ∙ t); sessions = kept.sessions; few_holds = kept.few_holds };
-        use_kept = used Away copy.kind copy.backed (λ t. true_false (sym no_hand ∙ t)) refl;
+        uses = used Away copy.kind copy.backed (λ t. true_false (sym no_hand ∙ t)) refl;
       };
       scope = kept.scope;
     }

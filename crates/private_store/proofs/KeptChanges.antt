@@ -1,28 +1,22 @@
 -- The changes of a copy that commands and answers make, each of which keeps it.
-use Rattle.std.proofs.Common.{◌≡◌, ℕ, zero, suc, ◌+◌, ◌-◌, ◌/◌, ◌≤◌, ◌<◌, Bool, true, false, not, cond, ◌&&◌, ◌||◌, ◌==◌, List, [], ◌∷◌, ◌++◌, length, filter, Option, Some, None, is_some, unwrap_or, refl, sym, ap, subst, ◌∙◌, arith}
-use Rattle.std.specs.Prelude.{nat_lt, nat_le, IsTrue, option_and_then}
-use Rattle.std.specs.List.{list_all, list_any}
-use Rattle.std.specs.Option.{option_map_or}
-use Rattle.std.specs.Ordering.{nat_cmp}
-use Rattle.std.specs.FinMap.{find}
-use Rattle.std.proofs.lemmas.Bool.{ltb-true, leb-true, lt-ltb, le-leb, leb-false}
+use Rattle.std.proofs.Common.{◌≡◌, ℕ, ◌+◌, ◌≤◌, ◌<◌, Bool, true, false, not, cond, ◌||◌, ◌==◌, List, [], ◌∷◌, ◌++◌, length, filter, Option, Some, None, is_some, unwrap_or, refl, sym, ap, subst, ◌∙◌, arith}
+use Rattle.std.specs.Prelude.{nat_le, option_and_then}
+use Rattle.std.proofs.lemmas.Bool.{leb-false}
 use Rattle.std.proofs.lemmas.List.{length_push}
 use Rattle.std.proofs.lemmas.List.Folds.{list_any-append}
 use Rattle.obj_id.specs.Ids.{same_task}
 use Rattle.obj_id.specs.declared.ids.ObjectId.{ObjectId}
 use Rattle.obj_id.specs.declared.ids.TaskNo.{TaskNo}
 use Rattle.obj_id.specs.declared.commands.Kind.{Kind}
-use Rattle.obj_id.specs.declared.commands.Kind.TheVariants.{Primary, Secondary}
+use Rattle.obj_id.specs.declared.commands.Kind.TheVariants.{Secondary}
 use Rattle.obj_id.specs.declared.commands.CopyState.{CopyState}
-use Rattle.obj_id.specs.declared.commands.CopyState.TheVariants.{Created, Sealed, Restoring, Fetching, Away}
-use Rattle.obj_id.specs.declared.refusals.Refusal.{Refusal}
-use Rattle.private_store.specs.Limits.{longest_object, most_borrowers, most_holds, chunk_size}
-use Rattle.private_store.specs.Shape.{Copy, Fetch, Phase, locating, sized, pulling, failed, WorkInFlight, HandGiven, Shape}
-use Rattle.private_store.specs.Tables.{at}
-use Rattle.private_store.specs.Copies.{is_primary, is_sealed, is_away, is_created, visible}
-use Rattle.private_store.specs.Commands.{new_copy, fetched_copy, holds_of, all_holds, with_holds, without_borrower, has_borrower, counted, chunk_count}
-use Rattle.private_store.specs.Kept.{IsFormKept, AreMarksKept, AreHoldsKept, IsUseKept, IsScopeKept, IsCopyKept, are_held, are_gaps, has_extent, has_work, has_read, has_write, has_hand, is_remembered, is_restoring, is_fetching, is_pulling}
-use Rattle.private_store.proofs.KeptCopy.{IsBare, IsLoose, IsAbsentKept, is_kept_up, true_false, false_true, and_left, and_right, both, or_false_left, or_false_right, or_left, or_right, refuted, has_work-split}
+use Rattle.obj_id.specs.declared.commands.CopyState.TheVariants.{Created, Sealed, Fetching}
+use Rattle.private_store.specs.Limits.{longest_object, most_borrowers, most_holds}
+use Rattle.private_store.specs.Shape.{Copy, Fetch, WorkInFlight, HandGiven}
+use Rattle.private_store.specs.Copies.{is_primary, is_sealed, is_away}
+use Rattle.private_store.specs.Commands.{new_copy, fetched_copy, holds_of, all_holds, with_holds, without_borrower}
+use Rattle.private_store.specs.Kept.{AreMarksKept, AreHoldsKept, IsUseKept, IsScopeKept, IsCopyKept, are_held, are_gaps, has_extent, has_work, has_read, has_write, has_hand, is_remembered, is_restoring, is_fetching, is_pulling}
+use Rattle.private_store.proofs.KeptCopy.{IsBare, IsLoose, IsAbsentKept, true_false, false_true, or_false_left, or_false_right, refuted, has_work-split}
 use Rattle.private_store.proofs.KeptLists.{any-filter-only, length-filter-le}
 use Rattle.private_store.proofs.KeptHolds.{holds_keep}
 use Rattle.private_store.proofs.KeptEnd.{same_task_is}
@@ -65,7 +59,7 @@ module _ {job : ℕ} {works : List WorkInFlight} {given : List HandGiven} {ended
     };
     marks = record { secondary = h.secondary; away = λ t. true_false t; faulty = λ t. true_false (sym (ap is_away e) ∙ h.faulty t) };
     holds = record { held = λ _. refl; sessions = h.sessions; few_holds = h.few_holds };
-    use_kept = record {
+    uses = record {
       granted = λ t. true_false (sym (no_hand_of (ap is_sealed e)) ∙ t);
       spilled = λ t. true_false (sym (no_write_of (ap is_sealed e)) ∙ t);
       restored = h.restored ∙ ap is_restoring e;
@@ -77,7 +71,7 @@ module _ {job : ℕ} {works : List WorkInFlight} {given : List HandGiven} {ended
   -- a session has n holds
   pub held_copy : (session n : ℕ) → ((n == 0) ≡ false → is_sealed copy.state ≡ true) → n + all_holds copy ≤ most_holds + holds_of copy session → IsLoose job works given ended id (with_holds copy session n)
   held_copy session n s le = record {
-    bare = record { own = h.own; form = h.form; marks = h.marks; holds = holds_keep copy.state copy.holds session n h.holds s le; use_kept = h.use_kept };
+    bare = record { own = h.own; form = h.form; marks = h.marks; holds = holds_keep copy.state copy.holds session n h.holds s le; uses = h.uses };
     scope = h.scope;
   }
 
@@ -87,7 +81,7 @@ module _ {job : ℕ} {works : List WorkInFlight} {given : List HandGiven} {ended
     form = h.form;
     marks = record { secondary = λ e. let s = h.secondary e in (refl, s.1, s.2); away = h.away; faulty = h.faulty };
     holds = h.holds;
-    use_kept = h.use_kept;
+    uses = h.uses;
   }
 
   pub borrowed_copy : (task : TaskNo) → is_primary copy.kind ≡ true → is_remembered ended task ≡ false → nat_le most_borrowers (length copy.borrowers) ≡ false → IsCopyKept job works given ended id (record copy { borrowers = copy.borrowers ++ task ∷ [] })
@@ -96,7 +90,7 @@ module _ {job : ℕ} {works : List WorkInFlight} {given : List HandGiven} {ended
     form = h.form;
     marks = record { secondary = λ e. false_true (sym p ∙ e); away = h.away; faulty = h.faulty };
     holds = h.holds;
-    use_kept = h.use_kept;
+    uses = h.uses;
     scope = record {
       of_live_task = h.of_live_task;
       by_live_tasks = λ t r. by_task t (is_remembered copy.borrowers t) refl (sym (list_any-append (same_task t) copy.borrowers (task ∷ [])) ∙ r);
@@ -108,6 +102,7 @@ module _ {job : ℕ} {works : List WorkInFlight} {given : List HandGiven} {ended
       lone : (b : Bool) → b || false ≡ true → b ≡ true
       lone true e = refl
       lone false e = e
+
       by_task : (t : TaskNo) (b : Bool) → is_remembered copy.borrowers t ≡ b → b || (same_task t task || false) ≡ true → is_remembered ended t ≡ false
       by_task t true e r = h.by_live_tasks t e
       by_task t false e r = subst (λ x. is_remembered ended x ≡ false) (sym (same_task_is t task (lone (same_task t task) r))) fresh
@@ -118,7 +113,7 @@ module _ {job : ℕ} {works : List WorkInFlight} {given : List HandGiven} {ended
     form = h.form;
     marks = record { secondary = λ e. let s = h.secondary e in (s.0, ap (filter (λ t. not (same_task task t))) s.1, s.2); away = h.away; faulty = h.faulty };
     holds = h.holds;
-    use_kept = h.use_kept;
+    uses = h.uses;
   }
 
   pub without_borrower_scope : (task : TaskNo) → IsScopeKept ended id copy.doomed (without_borrower copy task).borrowers
@@ -135,7 +130,7 @@ module _ {job : ℕ} {works : List WorkInFlight} {given : List HandGiven} {ended
     form = h.form;
     marks = record { secondary = h.secondary; away = h.away; faulty = λ t. true_false t };
     holds = h.holds;
-    use_kept = h.use_kept;
+    uses = h.uses;
     scope = h.scope;
     doomed = h.doomed;
   }
@@ -154,7 +149,7 @@ module _ {job : ℕ} {works : List WorkInFlight} {given : List HandGiven} {ended
     };
     marks = h.marks;
     holds = h.holds;
-    use_kept = h.use_kept;
+    uses = h.uses;
     scope = h.scope;
     doomed = h.doomed;
   }
@@ -166,7 +161,7 @@ module _ {job : ℕ} {works : List WorkInFlight} {given : List HandGiven} {ended
     form = record { resident = r; in_fetch = refl; fetched = λ t. true_false t; gaps = refl; sized = λ _. s };
     marks = record { secondary = h.secondary; away = λ t. true_false t; faulty = λ t. true_false (sym (ap is_away e) ∙ h.faulty t) };
     holds = record { held = λ _. refl; sessions = h.sessions; few_holds = h.few_holds };
-    use_kept = record {
+    uses = record {
       granted = λ t. true_false (sym (no_hand_of (ap is_sealed e)) ∙ t);
       spilled = λ t. true_false (sym (no_write_of (ap is_sealed e)) ∙ t);
       restored = h.restored ∙ ap is_restoring e;
@@ -202,7 +197,7 @@ module _ (job : ℕ) (works : List WorkInFlight) (given : List HandGiven) (ended
     form = record { resident = refl; in_fetch = refl; fetched = λ t. true_false t; gaps = refl; sized = λ _. (pos, long) };
     marks = new_marks kind;
     holds = no_holds Created;
-    use_kept = new_use Created kind refl;
+    uses = new_use Created kind refl;
     scope = new_scope false;
     doomed = λ t. true_false t;
   }
@@ -213,7 +208,7 @@ module _ (job : ℕ) (works : List WorkInFlight) (given : List HandGiven) (ended
     form = record { resident = refl; in_fetch = refl; fetched = λ t. refl; gaps = refl; sized = λ t. false_true t };
     marks = record { secondary = λ e. (refl, refl, refl); away = λ t. true_false t; faulty = λ t. true_false t };
     holds = no_holds Fetching;
-    use_kept = new_use Fetching Secondary refl;
+    uses = new_use Fetching Secondary refl;
     scope = new_scope false;
     doomed = λ t. true_false t;
   }

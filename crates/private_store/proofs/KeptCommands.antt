@@ -1,23 +1,21 @@
 -- The commands that make no room keep the store.
-use Rattle.std.proofs.Common.{◌≡◌, ℕ, zero, suc, ◌+◌, ◌-◌, ◌≤◌, ◌<◌, Bool, true, false, not, cond, ◌&&◌, ◌||◌, ◌==◌, List, [], ◌∷◌, ◌++◌, length, filter, fold, Option, Some, None, is_some, unwrap_or, refl, sym, ap, subst, ◌∙◌, arith}
-use Rattle.std.specs.Prelude.{nat_le, nat_lt}
+use Rattle.std.proofs.Common.{◌≡◌, ℕ, ◌-◌, true, false, not, ◌||◌, ◌==◌, List, [], ◌∷◌, ◌++◌, length, Some, None, unwrap_or, refl, arith}
+use Rattle.std.specs.Prelude.{nat_le}
 use Rattle.std.specs.Option.{option_map_or}
 use Rattle.std.specs.Ordering.{nat_cmp}
 use Rattle.std.specs.FinMap.{find}
-use Rattle.std.proofs.lemmas.Bool.{leb-false, eqb-false}
 use Rattle.obj_id.specs.declared.ids.ObjectId.{ObjectId}
 use Rattle.obj_id.specs.declared.ids.TaskNo.{TaskNo}
 use Rattle.obj_id.specs.declared.commands.CopyState.TheVariants.{Sealed}
-use Rattle.obj_id.specs.Ids.{same_id, same_task}
-use Rattle.private_store.specs.Limits.{most_holds, most_borrowers}
+use Rattle.private_store.specs.Limits.{most_borrowers}
 use Rattle.private_store.specs.Tables.{at, ids_of, with_entry}
-use Rattle.private_store.specs.Shape.{Copy, Shape, Change}
-use Rattle.private_store.specs.Copies.{is_primary, is_created, is_sealed, visible}
+use Rattle.private_store.specs.Shape.{Shape, Change}
+use Rattle.private_store.specs.Copies.{is_primary, is_created}
 use Rattle.private_store.specs.Room.{set_copy}
-use Rattle.private_store.specs.Change.{done, checked, needing, sending, has_ended, settled, doom}
-use Rattle.private_store.specs.Commands.{write, seal, read, release, unpin, borrow, give_up, delete, peek, leave, leave_one, holds_of, all_holds, with_holds, without_borrower, has_borrower, scoped, at_each}
-use Rattle.private_store.specs.Kept.{IsScopeKept, are_held}
-use Rattle.private_store.proofs.KeptCopy.{bare, tight, true_false, false_true, not_false, created_is, and_left, or_false_left, or_false_right}
+use Rattle.private_store.specs.Change.{done, sending, has_ended, settled}
+use Rattle.private_store.specs.Commands.{write, seal, read, release, unpin, borrow, give_up, delete, peek, leave, leave_one, holds_of, with_holds, without_borrower, has_borrower, at_each}
+use Rattle.private_store.specs.Kept.{are_held}
+use Rattle.private_store.proofs.KeptCopy.{bare, false_true, not_false, created_is, or_false_right}
 use Rattle.private_store.proofs.KeptRows.{IsLiveKept, row_same}
 use Rattle.private_store.proofs.KeptChanges.{visible_at, sealed_copy, held_copy, unpinned_bare, borrowed_copy, without_borrower_bare, without_borrower_scope}
 use Rattle.private_store.proofs.KeptStore.{Keeps, same_keeps, checked_keeps, check_keeps, checks_keep, needing_keeps, sending_keeps, scoped_keeps, set_keeps, settle, doomed_keeps, put_row, kept_copy}
@@ -54,9 +52,9 @@ module _ {store : Shape} (h : IsLiveKept store) where
 
   pub unpin_keeps : (id : ObjectId) (task : TaskNo) → Keeps (unpin store id task)
   unpin_keeps id task = needing_keeps h _ _ _ (λ copy v. checked_keeps h _ _ (
-    let e = (visible_at (at store.copies id) copy v).0 in
-    let k = kept_copy h id copy e in
-    scoped_keeps h id copy (record copy { pinned = false }) e (unpinned_bare copy k) k.scope k.doomed))
+      let e = (visible_at (at store.copies id) copy v).0 in
+      let k = kept_copy h id copy e in
+      scoped_keeps h id copy (record copy { pinned = false }) e (unpinned_bare copy k) k.scope k.doomed))
 
   pub borrow_keeps : (id : ObjectId) (task : TaskNo) → Keeps (borrow store id task)
   borrow_keeps id task = check_keeps h (has_ended store id.task || has_ended store task) _ [] _ (λ live. checks_keep h _ (needing_keeps h _ _ _ (λ copy v.
@@ -68,17 +66,17 @@ module _ {store : Shape} (h : IsLiveKept store) where
 
   pub give_up_keeps : (id : ObjectId) (task : TaskNo) → Keeps (give_up store id task)
   give_up_keeps id task = needing_keeps h _ _ _ (λ copy v. checked_keeps h _ _ (
-    let e = (visible_at (at store.copies id) copy v).0 in
-    let k = kept_copy h id copy e in
-    scoped_keeps h id copy (without_borrower copy task) e (without_borrower_bare copy k task) (without_borrower_scope copy k task) k.doomed))
+      let e = (visible_at (at store.copies id) copy v).0 in
+      let k = kept_copy h id copy e in
+      scoped_keeps h id copy (without_borrower copy task) e (without_borrower_bare copy k task) (without_borrower_scope copy k task) k.doomed))
 
   pub delete_keeps : (id : ObjectId) → Keeps (delete store id)
   delete_keeps id = needing_keeps h _ _ _ (λ copy v. checked_keeps h _ _ (
-    let e = (visible_at (at store.copies id) copy v).0 in
-    let k = kept_copy h id copy e in
-    sending_keeps _ _ (record {
-      is = doomed_keeps h id copy store.copies (row_same store.copies id (Some copy) h.rows.in_order h.rows.few e) (bare k) (record { of_live_task = λ d. false_true d; by_live_tasks = k.by_live_tasks; few_borrowers = k.few_borrowers });
-    })))
+      let e = (visible_at (at store.copies id) copy v).0 in
+      let k = kept_copy h id copy e in
+      sending_keeps _ _ (record {
+        is = doomed_keeps h id copy store.copies (row_same store.copies id (Some copy) h.rows.in_order h.rows.few e) (bare k) (record { of_live_task = λ d. false_true d; by_live_tasks = k.by_live_tasks; few_borrowers = k.few_borrowers });
+      })))
 
   leave_one_keeps : (session : ℕ) (id : ObjectId) → Keeps (leave_one session store id)
   leave_one_keeps session id =

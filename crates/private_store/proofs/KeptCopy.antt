@@ -1,25 +1,36 @@
 -- What a copy keeps while it changes, and a row of the table, which is a copy or none.
-use Rattle.std.proofs.Common.{◌≡◌, ℕ, ◌≤◌, Bool, true, false, not, cond, ◌&&◌, ◌||◌, List, [], ◌∷◌, Option, Some, None, is_some, is_none, refl, sym, ap, subst, ◌∙◌, T}
-use Rattle.std.specs.Option.{option_map_or}
-use Rattle.std.specs.Ordering.{nat_cmp}
-use Rattle.std.specs.FinMap.{is_sorted}
-use Rattle.std.specs.List.{list_any, list_all}
-use Rattle.std.specs.Prelude.{nat_lt, IsTrue}
+use Rattle.std.proofs.Common.{◌≡◌, ℕ, Bool, true, false, not, ◌&&◌, ◌||◌, List, [], ◌∷◌, Option, Some, None, refl, sym, ap, subst, ◌∙◌, T, is_some, is_none, unwrap_or}
 use Rattle.obj_id.specs.declared.ids.ObjectId.{ObjectId}
 use Rattle.obj_id.specs.declared.ids.TaskNo.{TaskNo}
 use Rattle.obj_id.specs.declared.commands.Kind.{Kind}
 use Rattle.obj_id.specs.declared.commands.CopyState.{CopyState}
 use Rattle.obj_id.specs.declared.commands.CopyState.TheVariants.{Created, Sealed, Restoring, Fetching, Away}
 use Rattle.obj_id.specs.Ids.{same_id}
-use Rattle.private_store.specs.Shape.{Copy, Fetch, Phase, WorkInFlight, HandGiven}
-use Rattle.private_store.specs.Copies.{is_primary, is_held, is_sealed, is_away, is_created}
-use Rattle.private_store.specs.Kept.{IsFormKept, AreMarksKept, AreHoldsKept, IsUseKept, IsScopeKept, IsCopyKept, are_held, has_work, has_read, has_write, has_hand, has_extent, is_remembered, is_restoring, is_fetching, are_gaps}
+use Rattle.private_store.specs.Shape.{Copy, WorkInFlight, HandGiven}
+use Rattle.private_store.specs.Copies.{is_sealed, is_created}
+use Rattle.private_store.specs.Kept.{IsFormKept, AreMarksKept, AreHoldsKept, IsUseKept, IsScopeKept, IsCopyKept, are_held, has_work, has_read, has_write, has_hand, is_restoring, is_fetching}
 
 pub true_false : {B : Type 0} → false ≡ true → B
 true_false e = absurd (subst T (sym e) tt)
 
 pub false_true : {B : Type 0} → true ≡ false → B
 false_true e = absurd (subst T e tt)
+
+-- ---- options
+
+pub none_of : {A : Type 0} (o : Option A) → is_none o ≡ true → o ≡ None
+none_of None e = refl
+none_of (Some x) e = true_false e
+
+pub none_here : {A : Type 0} (o : Option A) → is_some o ≡ false → o ≡ None
+none_here None e = refl
+none_here (Some x) e = false_true e
+
+pub some_value : {A : Type 0} (x y : A) → Some x ≡ Some y → x ≡ y
+some_value x y e = ap (λ o. unwrap_or o x) e
+
+pub none_some : {A B : Type 0} (x : A) → None ≡ Some x → B
+none_some x e = true_false (ap is_some e)
 
 -- ---- states
 
@@ -145,7 +156,7 @@ pub record IsBare (job : ℕ) (works : List WorkInFlight) (given : List HandGive
   pub form : IsFormKept copy.state copy.kind copy.length copy.offset copy.fetch
   pub marks : AreMarksKept copy.state copy.kind copy.pinned copy.borrowers copy.backed copy.fault
   pub holds : AreHoldsKept copy.state copy.holds
-  pub use_kept : IsUseKept works given id copy.state copy.kind copy.backed
+  pub uses : IsUseKept works given id copy.state copy.kind copy.backed
 
 -- a copy that may be doomed with nothing to keep it
 pub record IsLoose (job : ℕ) (works : List WorkInFlight) (given : List HandGiven) (ended : List TaskNo) (id : ObjectId) (copy : Copy) : Type 0 where
@@ -157,13 +168,13 @@ is_kept_up works given id copy = are_held copy.holds || has_hand given id || has
 
 module _ {job : ℕ} {works : List WorkInFlight} {given : List HandGiven} {id : ObjectId} {copy : Copy} where
   pub bare : {ended : List TaskNo} → IsCopyKept job works given ended id copy → IsBare job works given id copy
-  bare h = record { own = h.own; form = h.form; marks = h.marks; holds = h.holds; use_kept = h.use_kept }
+  bare h = record { own = h.own; form = h.form; marks = h.marks; holds = h.holds; uses = h.uses }
 
   pub loose : {ended : List TaskNo} → IsCopyKept job works given ended id copy → IsLoose job works given ended id copy
   loose h = record { bare = bare h; scope = h.scope }
 
   pub tight : {ended : List TaskNo} → IsLoose job works given ended id copy → (copy.doomed ≡ true → is_kept_up works given id copy ≡ true) → IsCopyKept job works given ended id copy
-  tight h d = record { own = h.bare.own; form = h.bare.form; marks = h.bare.marks; holds = h.bare.holds; use_kept = h.bare.use_kept; scope = h.scope; doomed = d }
+  tight h d = record { own = h.bare.own; form = h.bare.form; marks = h.bare.marks; holds = h.bare.holds; uses = h.bare.uses; scope = h.scope; doomed = d }
 
 -- ---- rows
 
@@ -186,7 +197,7 @@ module _ (job : ℕ) {works old_works : List WorkInFlight} {given old_given : Li
     form = h.form;
     marks = h.marks;
     holds = h.holds;
-    use_kept = use_carried copy.state copy.kind copy.backed h.use_kept;
+    uses = use_carried copy.state copy.kind copy.backed h.uses;
     scope = h.scope;
     doomed = λ e. ap (λ b. are_held copy.holds || b || has_work works id) same.hand ∙ ap (λ b. are_held copy.holds || has_hand old_given id || b) same.work ∙ h.doomed e;
   }

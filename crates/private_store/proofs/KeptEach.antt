@@ -1,16 +1,15 @@
 -- Changes of copies alone, one id after another: what they do to the table, row by row.
-use Rattle.std.proofs.Common.{◌≡◌, ℕ, ◌+◌, ◌≤◌, ◌<◌, Bool, true, false, not, cond, ◌&&◌, ◌||◌, List, [], ◌∷◌, ◌++◌, length, filter, fold, Option, Some, None, is_some, refl, sym, ap, subst, ◌∙◌, T, arith}
+use Rattle.std.proofs.Common.{◌≡◌, ℕ, Bool, true, false, cond, ◌&&◌, List, [], ◌∷◌, fold, Option, Some, None, is_some, refl, sym, ap, subst, ◌∙◌}
 use Rattle.std.specs.Option.{option_map_or}
 use Rattle.obj_id.specs.declared.ids.ObjectId.{ObjectId}
-use Rattle.private_store.specs.Limits.{most_copies}
-use Rattle.private_store.specs.Tables.{ById, at, with_entry, without_entry}
+use Rattle.private_store.specs.Tables.{ById, at}
 use Rattle.private_store.specs.Shape.{Copy, Shape, Change}
 use Rattle.private_store.specs.Copies.{is_idle, in_scope}
 use Rattle.private_store.specs.Room.{set_copy, drop_copy}
 use Rattle.private_store.specs.Change.{done, sending, settled, doomed, doom}
 use Rattle.private_store.specs.Commands.{scoped, at_each}
 use Rattle.private_store.specs.Kept.{are_held, has_work, has_hand}
-use Rattle.private_store.proofs.KeptCopy.{is_kept_up, true_false, false_true, and_right, and_rest, idle_granted, idle_working, not_idle}
+use Rattle.private_store.proofs.KeptCopy.{is_kept_up, false_true, and_right, and_rest, idle_granted, idle_working, not_idle}
 use Rattle.private_store.proofs.KeptRows.{IsRowChange, row_put, row_drop, row_then, row_here}
 
 -- ---- changes of copies alone

@@ -1,31 +1,28 @@
 -- The end of a task keeps the store: its copies are doomed, and what it borrowed is given up.
-use Rattle.std.proofs.Common.{◌≡◌, ℕ, ◌+◌, ◌≤◌, ◌<◌, Bool, true, false, not, cond, ◌&&◌, ◌||◌, ◌==◌, List, [], ◌∷◌, ◌++◌, length, filter, fold, Option, Some, None, is_some, is_none, refl, sym, ap, subst, ◌∙◌, T, arith}
+use Rattle.std.proofs.Common.{◌≡◌, ℕ, ◌≤◌, Bool, true, false, not, cond, ◌&&◌, ◌||◌, ◌==◌, List, [], ◌∷◌, length, filter, fold, Option, Some, None, is_some, refl, sym, ap, subst, ◌∙◌, T, arith}
 use Rattle.std.specs.Option.{option_map_or}
-use Rattle.std.specs.List.{list_any, list_all}
 use Rattle.std.specs.FinMap.{is_sorted}
 use Rattle.std.specs.FinMap.{nat_cmp-IsAntisymmetric, slice_cmp-IsAntisymmetric}
 use Rattle.std.specs.Cmp.{tied_itself, Equal-is}
 use Rattle.std.specs.Cmp.Lexicographic.{nat_list_cmp_total}
 use Rattle.std.specs.Ordering.{is_eq}
-use Rattle.std.proofs.lemmas.Bool.{leb-false}
-use Rattle.std.proofs.lemmas.List.{length_push}
 use Rattle.obj_id.specs.declared.ids.ObjectId.{ObjectId}
 use Rattle.obj_id.specs.declared.ids.TaskNo.{TaskNo}
 use Rattle.obj_id.specs.Ids.{id_cmp, same_id, same_task, task_cmp}
-use Rattle.private_store.specs.Limits.{most_copies, most_ended_tasks, most_borrowers}
+use Rattle.private_store.specs.Limits.{most_copies, most_borrowers}
 use Rattle.private_store.specs.Tables.{ById, at, is_among, ids_of, with_entry}
-use Rattle.private_store.specs.Shape.{Copy, Shape, Change, HandGiven}
+use Rattle.private_store.specs.Shape.{Copy, Shape}
 use Rattle.private_store.specs.Copies.{in_scope}
 use Rattle.private_store.specs.Room.{set_copy}
-use Rattle.private_store.specs.Change.{done, doom, doomed, settled, sending, has_ended, checked}
-use Rattle.private_store.specs.Commands.{of_task, task_ended, scoped, give_up_one, has_borrower, without_borrower, at_each}
-use Rattle.private_store.specs.Kept.{IsCopyKept, AreMarksKept, IsScopeKept, are_held, has_work, has_hand, is_remembered}
-use Rattle.private_store.proofs.KeptCopy.{IsBare, IsAbsentKept, IsRowKept, bare, is_kept_up, true_false, false_true, or_false_left, refuted, or_left, or_right, and_right, and_rest}
-use Rattle.private_store.proofs.KeptLists.{any-filter, any-filter-le, any-filter-only, all-filter, length-filter-le}
+use Rattle.private_store.specs.Change.{done, doom, doomed, settled, sending}
+use Rattle.private_store.specs.Commands.{of_task, task_ended, scoped, give_up_one, has_borrower, without_borrower}
+use Rattle.private_store.specs.Kept.{IsCopyKept, AreMarksKept, are_held, has_work, is_remembered}
+use Rattle.private_store.proofs.KeptCopy.{IsBare, IsAbsentKept, IsRowKept, is_kept_up, true_false, false_true, refuted, or_right, and_rest}
+use Rattle.private_store.proofs.KeptLists.{any-filter, any-filter-le, any-filter-only, length-filter-le}
 use Rattle.private_store.proofs.KeptWorks.{pushed_no}
-use Rattle.private_store.proofs.KeptRows.{IsRowChange, row_put, row_same, row_then, IsLiveKept, AreRowsKept, AreHandsKept, same_is}
+use Rattle.private_store.proofs.KeptRows.{IsRowChange, row_put, row_same, IsLiveKept, same_is}
 use Rattle.private_store.proofs.KeptFold.{Visits, AreVisited, visited, among-filter, among-ids}
-use Rattle.private_store.proofs.KeptEach.{IsOfCopies, doomed_of_copies, scoped_of_copies, fold_of_copies, at_each-shape, RowOf, doomed_row}
+use Rattle.private_store.proofs.KeptEach.{IsOfCopies, doomed_of_copies, scoped_of_copies, RowOf, doomed_row}
 
 -- ---- tasks
 
@@ -99,7 +96,7 @@ module _ (store : Shape) (h : IsLiveKept store) (task : TaskNo) where
       form = k.form;
       marks = k.marks;
       holds = k.holds;
-      use_kept = record {
+      uses = record {
         granted = λ g. k.granted (any-filter-only (λ hand. same_id id hand.id) (λ hand. not (hand.id.job.0 == store.job && same_task task hand.id.task)) store.given g);
         spilled = k.spilled;
         restored = k.restored;
@@ -136,7 +133,7 @@ module _ (store : Shape) (h : IsLiveKept store) (task : TaskNo) where
       (λ w g. record { no_work = w; no_hand = λ _. g })
       (λ up. record {
         half = record {
-          bare_kept = record { own = k.bare_kept.own; form = k.bare_kept.form; marks = k.bare_kept.marks; holds = k.bare_kept.holds; use_kept = k.bare_kept.use_kept };
+          bare_kept = record { own = k.bare_kept.own; form = k.bare_kept.form; marks = k.bare_kept.marks; holds = k.bare_kept.holds; uses = k.bare_kept.uses };
           by_live_tasks = k.by_live_tasks;
           few_borrowers = k.few_borrowers;
           was = k.was;
@@ -162,6 +159,7 @@ module _ (store : Shape) (h : IsLiveKept store) (task : TaskNo) where
       half_row : (q : ObjectId) (o : Option Copy) → at store.copies q ≡ o → IsRowKept store.job store.works store.given store.ended_tasks q o → HalfRow q o
       half_row q None e k = absent_start q k
       half_row q (Some copy) e k = half_start q copy e k
+
       ready_row : (q : ObjectId) (o : Option Copy) → at store.copies q ≡ o → IsRowKept store.job store.works store.given store.ended_tasks q o → is_among (ids_of store.copies) q && same_task task q.task ≡ false → ReadyRow q o
       ready_row q None e k t = absent_start q k
       ready_row q (Some copy) e k t = ready_start q copy e (and_rest (is_among (ids_of store.copies) q) (same_task task q.task) (among-ids store.copies q ∙ ap is_some e) t) k
@@ -183,7 +181,7 @@ module _ (store : Shape) (h : IsLiveKept store) (task : TaskNo) where
       form = k.half.bare_kept.form;
       marks = k.half.bare_kept.marks;
       holds = k.half.bare_kept.holds;
-      use_kept = k.half.bare_kept.use_kept;
+      uses = k.half.bare_kept.uses;
       scope = record {
         of_live_task = k.of_live_task;
         by_live_tasks = λ t r. pushed_no (same_task t) store.ended_tasks task (refuted (same_task t task) (λ s. sym none ∙ subst (λ x. is_remembered copy.borrowers x ≡ true) (same_task_is t task s) r)) ∙ k.half.by_live_tasks t r;
@@ -205,7 +203,7 @@ module _ (store : Shape) (h : IsLiveKept store) (task : TaskNo) where
   without_ready : (id : ObjectId) (copy : Copy) → IsReady id copy → IsReady id (without_borrower copy task)
   without_ready id copy k = record {
     half = record {
-      bare_kept = record { own = k.half.bare_kept.own; form = k.half.bare_kept.form; marks = without_marks copy k.half.bare_kept.marks; holds = k.half.bare_kept.holds; use_kept = k.half.bare_kept.use_kept };
+      bare_kept = record { own = k.half.bare_kept.own; form = k.half.bare_kept.form; marks = without_marks copy k.half.bare_kept.marks; holds = k.half.bare_kept.holds; uses = k.half.bare_kept.uses };
       by_live_tasks = λ t r. k.half.by_live_tasks t (remembered-filter task copy.borrowers t r).0;
       few_borrowers = let l = length-filter-le (λ t. not (same_task task t)) copy.borrowers in let f = k.half.few_borrowers in omega (arith, l, f);
       was = k.half.was;
@@ -220,7 +218,7 @@ module _ (store : Shape) (h : IsLiveKept store) (task : TaskNo) where
   doomed_ready : (id : ObjectId) (copy : Copy) → IsReady id copy → is_kept_up store.works start.given id copy ≡ true → IsReady id (record copy { doomed = true })
   doomed_ready id copy k up = record {
     half = record {
-      bare_kept = record { own = k.half.bare_kept.own; form = k.half.bare_kept.form; marks = k.half.bare_kept.marks; holds = k.half.bare_kept.holds; use_kept = k.half.bare_kept.use_kept };
+      bare_kept = record { own = k.half.bare_kept.own; form = k.half.bare_kept.form; marks = k.half.bare_kept.marks; holds = k.half.bare_kept.holds; uses = k.half.bare_kept.uses };
       by_live_tasks = k.half.by_live_tasks;
       few_borrowers = k.half.few_borrowers;
       was = k.half.was;
@@ -247,8 +245,8 @@ module _ (store : Shape) (h : IsLiveKept store) (task : TaskNo) where
         elim (in_scope left) as (λ b. RowOf most copies id (IsOver id) (cond b (done (set_copy now id left)) (doom (set_copy now id left) id)).shape.copies) [
           | true ↦ record { row = Some left; change = without_change copy e; holds = copy_over id left ready (without_none copy) }
           | false ↦ doomed_row most copies id (IsOver id) (set_copy now id left) left (without_change copy e)
-            (λ w g. absent_over id (record { no_work = w; no_hand = λ _. g }))
-            (λ up. copy_over id (record left { doomed = true }) (doomed_ready id left ready up) (without_none copy))
+              (λ w g. absent_over id (record { no_work = w; no_hand = λ _. g }))
+              (λ up. copy_over id (record left { doomed = true }) (doomed_ready id left ready up) (without_none copy))
         ]
 
     copy_visit : (copy : Copy) → at copies id ≡ Some copy → IsReady id copy → (a b : Bool) → has_borrower copy task ≡ b

@@ -1,16 +1,15 @@
 -- EndTask keeps the store.
-use Rattle.std.proofs.Common.{◌≡◌, ℕ, ◌+◌, ◌≤◌, ◌<◌, Bool, true, false, not, ◌&&◌, ◌==◌, List, [], ◌∷◌, ◌++◌, length, filter, fold, refl, sym, ap, subst, ◌∙◌, arith}
-use Rattle.std.specs.Prelude.{nat_le, is_none, ◌||◌}
+use Rattle.std.proofs.Common.{◌≡◌, ◌≤◌, false, not, ◌&&◌, ◌==◌, [], ◌∷◌, ◌++◌, length, fold, sym, ap, subst, ◌∙◌, arith}
+use Rattle.std.specs.Prelude.{nat_le}
 use Rattle.std.proofs.lemmas.Bool.{leb-false}
 use Rattle.std.proofs.lemmas.List.{length_push}
-use Rattle.obj_id.specs.declared.ids.ObjectId.{ObjectId}
 use Rattle.obj_id.specs.declared.ids.TaskNo.{TaskNo}
 use Rattle.obj_id.specs.declared.refusals.Refusal.TheVariants.{Gone, TooMany}
 use Rattle.obj_id.specs.Ids.{same_task}
 use Rattle.private_store.specs.Limits.{most_ended_tasks}
 use Rattle.private_store.specs.Tables.{ById, ids_of}
 use Rattle.private_store.specs.Shape.{Copy, Shape, Change, HandGiven}
-use Rattle.private_store.specs.Change.{done, doom, doomed, sending, has_ended}
+use Rattle.private_store.specs.Change.{done, doom, sending, has_ended}
 use Rattle.private_store.specs.Commands.{of_task, task_ended, give_up_one, at_each, end_task}
 use Rattle.private_store.proofs.KeptLists.{all-filter, length-filter-le}
 use Rattle.private_store.proofs.KeptRows.{IsLiveKept}

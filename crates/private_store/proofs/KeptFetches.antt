@@ -1,5 +1,5 @@
 -- The messages of a fetch, and those to its source, keep the store.
-use Rattle.std.proofs.Common.{◌≡◌, ℕ, ◌+◌, ◌≤◌, ◌<◌, Bool, true, false, not, cond, ◌&&◌, ◌||◌, ◌==◌, List, [], ◌∷◌, length, filter, Option, Some, None, is_some, is_none, unwrap_or, refl, sym, ap, subst, ◌∙◌, arith}
+use Rattle.std.proofs.Common.{◌≡◌, ℕ, Bool, true, false, not, cond, ◌&&◌, ◌==◌, List, [], ◌∷◌, length, filter, Option, Some, None, is_some, is_none, unwrap_or, refl, sym, ap, ◌∙◌, arith}
 use Rattle.std.specs.Prelude.{nat_le, nat_lt, option_and_then}
 use Rattle.std.specs.Option.{option_map_or}
 use Rattle.std.specs.List.{list_all}
@@ -20,38 +20,33 @@ use Rattle.private_store.specs.Room.{set_copy}
 use Rattle.private_store.specs.Change.{done, sending}
 use Rattle.private_store.specs.Commands.{chunk_count, restore}
 use Rattle.private_store.specs.Events.{with_fetch, fetch_of, located, located_copy, fetch_failed, chunk_taken, chunk_arrived, is_missing, not_here_arrived, quiet, pull_answer, pull_arrived}
-use Rattle.private_store.specs.Kept.{IsOrderOfUse, IsCopyKept, are_gaps, has_extent, is_fetching, is_pulling}
-use Rattle.private_store.proofs.KeptCopy.{true_false, false_true, and_left, and_right, both, fetching_is}
+use Rattle.private_store.specs.Kept.{IsOrderOfUse, IsCopyKept, are_gaps, has_extent, is_pulling}
+use Rattle.private_store.proofs.KeptCopy.{true_false, and_left, and_right, both, fetching_is, none_of, some_value}
 use Rattle.private_store.proofs.KeptLists.{all-filter}
 use Rattle.private_store.proofs.KeptRows.{IsLiveKept}
 use Rattle.private_store.proofs.KeptGet.{restore_keeps}
 use Rattle.private_store.proofs.KeptChanges.{visible_at, fetched_on, arrived_copy}
 use Rattle.private_store.proofs.KeptStore.{Keeps, same_keeps, sending_keeps, set_keeps, kept_copy}
 
-none_of : {X : Type 0} (o : Option X) → is_none o ≡ true → o ≡ None
-none_of None e = refl
-none_of (Some x) e = true_false e
-
 -- the copy and the fetch that a message is of
 record IsFetchOf (store : Shape) (id : ObjectId) (copy : Copy) (fetch : Fetch) : Type 0 where
   is : at store.copies id ≡ Some copy
   fetched : copy.fetch ≡ Some fetch
-
-some_pair : {A B : Type 0} (p q : A × B) → Some p ≡ Some q → p ≡ q
-some_pair p q e = ap (λ o. unwrap_or o p) e
 
 fetch_at : (store : Shape) (id : ObjectId) (number : ℕ) (p : Copy × Fetch) → fetch_of store id number ≡ Some p → IsFetchOf store id p.0 p.1
 fetch_at store id number p e = by_copy (at store.copies id) refl e
   where
     by_number : (copy : Copy) (fetch : Fetch) → at store.copies id ≡ Some copy → copy.fetch ≡ Some fetch → (b : Bool) → ◌≡◌ {A = Option (Copy × Fetch)} (cond b (Some (copy, fetch)) None) (Some p) → IsFetchOf store id p.0 p.1
     by_number copy fetch a f true e =
-        let same : ◌≡◌ {A = Copy × Fetch} (copy, fetch) p = some_pair (copy, fetch) p e in
+        let same : ◌≡◌ {A = Copy × Fetch} (copy, fetch) p = some_value {A = Copy × Fetch} (copy, fetch) p e in
         record { is = a ∙ ap (λ x. Some x.0) same; fetched = sym (ap (λ x. x.0.fetch) same) ∙ f ∙ ap (λ x. Some x.1) same }
     by_number copy fetch a f false e = true_false (ap is_some e)
+
     by_fetch : (copy : Copy) → at store.copies id ≡ Some copy → (o : Option Fetch) → copy.fetch ≡ o
         → ◌≡◌ {A = Option (Copy × Fetch)} (option_and_then (λ fetch. cond (fetch.number == number) (Some (copy, fetch)) None) o) (Some p) → IsFetchOf store id p.0 p.1
     by_fetch copy a None f e = true_false (ap is_some e)
     by_fetch copy a (Some fetch) f e = by_number copy fetch a f (fetch.number == number) e
+
     by_copy : (o : Option Copy) → at store.copies id ≡ o
         → ◌≡◌ {A = Option (Copy × Fetch)} (option_and_then (λ copy. option_and_then (λ fetch. cond (fetch.number == number) (Some (copy, fetch)) None) copy.fetch) o) (Some p) → IsFetchOf store id p.0 p.1
     by_copy None a e = true_false (ap is_some e)

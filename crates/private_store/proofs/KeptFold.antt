@@ -1,13 +1,12 @@
 -- A change of one row, made for each id of a list.
-use Rattle.std.proofs.Common.{◌≡◌, ℕ, ◌+◌, ◌≤◌, ◌<◌, Bool, true, false, not, cond, ◌&&◌, ◌||◌, List, [], ◌∷◌, ◌++◌, length, map, filter, fold, Option, Some, None, is_some, refl, sym, ap, subst, ◌∙◌, T, arith}
-use Rattle.std.specs.Prelude.{count_by}
+use Rattle.std.proofs.Common.{◌≡◌, ℕ, ◌≤◌, Bool, true, false, cond, ◌&&◌, ◌||◌, List, [], ◌∷◌, length, filter, fold, Option, Some, is_some, refl, sym, ap, subst, ◌∙◌, T}
 use Rattle.std.specs.FinMap.{is_sorted}
 use Rattle.obj_id.specs.declared.ids.ObjectId.{ObjectId}
 use Rattle.obj_id.specs.Ids.{id_cmp, same_id}
 use Rattle.private_store.specs.Tables.{ById, at, is_among, ids_of}
 use Rattle.private_store.specs.Shape.{Copy}
-use Rattle.private_store.proofs.KeptCopy.{or_left, or_right, true_false, false_true}
-use Rattle.private_store.proofs.KeptRows.{IsRowChange, row_here, row_elsewhere, same_is, same_itself}
+use Rattle.private_store.proofs.KeptCopy.{or_left, or_right}
+use Rattle.private_store.proofs.KeptRows.{IsRowChange, same_is, same_itself}
 
 -- what passes a filter
 pub among-filter : (p : ObjectId → Bool) (ids : List ObjectId) (q : ObjectId) → is_among (filter p ids) q ≡ is_among ids q && p q
@@ -21,6 +20,7 @@ among-filter p (id ∷ ids) q =
     here : (b : Bool) → same_id q id ≡ b → p id ≡ true → (c : Bool) → b || (c && p q) ≡ (b || c) && p q
     here true t e c = sym (ap p (same_is q id t) ∙ e)
     here false t e c = refl
+
     there : (b : Bool) → same_id q id ≡ b → p id ≡ false → (c : Bool) → c && p q ≡ (b || c) && p q
     there true t e true = refl
     there true t e false = sym (ap p (same_is q id t) ∙ e)
@@ -53,12 +53,12 @@ module _ (most : ℕ) (f : ById Copy → ObjectId → ById Copy) (Before After :
       let v = visit copies id h n (before id (or_left (same_id id id) (is_among ids id) (same_itself id))) in
       visited ids (f copies id) v.change.in_order v.change.few
       (λ q t. subst (Before q) (sym (v.change.rows q))
-        (elim (same_id q id) as (λ b. same_id q id ≡ b → Before q (cond b v.row (at copies q))) [
-          | true ↦ λ s. subst (λ x. Before x v.row) (sym (same_is q id s)) v.again
-          | false ↦ λ s. before q (or_right (same_id q id) (is_among ids q) t)
-        ] refl))
+      (elim (same_id q id) as (λ b. same_id q id ≡ b → Before q (cond b v.row (at copies q))) [
+        | true ↦ λ s. subst (λ x. Before x v.row) (sym (same_is q id s)) v.again
+        | false ↦ λ s. before q (or_right (same_id q id) (is_among ids q) t)
+      ] refl))
       (λ q t. subst (After q) (sym (v.change.rows q))
-        (elim (same_id q id) as (λ b. same_id q id ≡ b → After q (cond b v.row (at copies q))) [
-          | true ↦ λ s. subst (λ x. After x v.row) (sym (same_is q id s)) v.done
-          | false ↦ λ s. after q (ap (λ b. b || is_among ids q) s ∙ t)
-        ] refl))
+      (elim (same_id q id) as (λ b. same_id q id ≡ b → After q (cond b v.row (at copies q))) [
+        | true ↦ λ s. subst (λ x. After x v.row) (sym (same_is q id s)) v.done
+        | false ↦ λ s. after q (ap (λ b. b || is_among ids q) s ∙ t)
+      ] refl))

@@ -1,5 +1,5 @@
 -- Create and Get keep the store: what takes room, and what a fetch does.
-use Rattle.std.proofs.Common.{◌≡◌, ℕ, zero, suc, ◌+◌, ◌-◌, ◌/◌, ◌≤◌, ◌<◌, Bool, true, false, not, cond, ◌&&◌, ◌||◌, ◌==◌, List, [], ◌∷◌, ◌++◌, length, Option, Some, None, is_some, is_ok, refl, sym, ap, subst, ◌∙◌, arith}
+use Rattle.std.proofs.Common.{◌≡◌, ℕ, zero, suc, ◌+◌, ◌≤◌, ◌<◌, true, false, not, ◌&&◌, ◌||◌, ◌==◌, List, [], ◌∷◌, ◌++◌, length, Option, Some, None, is_some, is_ok, refl, sym, ap, subst, ◌∙◌, arith}
 use Rattle.std.specs.Prelude.{nat_le, nat_lt, ◌^◌}
 use Rattle.std.specs.List.{list_all}
 use Rattle.std.proofs.lemmas.Bool.{leb-false, leb-true, ltb-true, lt-ltb, le-leb, eqb-false}
@@ -7,29 +7,24 @@ use Rattle.obj_id.specs.declared.ids.ObjectId.{ObjectId}
 use Rattle.obj_id.specs.declared.commands.Kind.{Kind}
 use Rattle.obj_id.specs.declared.commands.CopyState.{CopyState}
 use Rattle.obj_id.specs.declared.commands.CopyState.TheVariants.{Created, Sealed, Restoring, Fetching, Away}
-use Rattle.obj_id.specs.declared.refusals.Refusal.{Refusal}
 use Rattle.obj_id.specs.declared.refusals.Refusal.TheVariants.{Absent, NotSealed, Pending}
 use Rattle.obj_id.specs.Ids.{same_id}
 use Rattle.private_store.specs.Limits.{longest_object, most_holds, most_copies, most_works, has_numbers}
 use Rattle.private_store.specs.Extents.{rounded}
-use Rattle.private_store.specs.Tables.{ById, at, with_entry}
-use Rattle.private_store.specs.Shape.{Copy, Shape, Change, Fetch, Phase, locating, sized, pulling, failed, WorkInFlight}
+use Rattle.private_store.specs.Tables.{at, with_entry}
+use Rattle.private_store.specs.Shape.{Copy, Shape, Fetch, Phase, locating, sized, pulling, failed}
 use Rattle.private_store.specs.Copies.{is_sealed, is_away}
-use Rattle.private_store.specs.Room.{Room, make_room, works_left, set_copy}
-use Rattle.private_store.specs.Change.{refused, done, checked, needing, sending, in_room, has_ended}
+use Rattle.private_store.specs.Room.{make_room, works_left, set_copy}
+use Rattle.private_store.specs.Change.{refused, checked, needing, sending, has_ended}
 use Rattle.private_store.specs.Commands.{is_length, is_full_of_copies, new_copy, created, create, get_sealed, restoring, restore, get_away, counted, chunk_count, begin_pull, get_fetching, get_copy, fetched_copy, fetch_begun, begin_fetch, get, holds_of, all_holds, with_holds}
-use Rattle.private_store.specs.Kept.{IsOrderOfUse, IsCopyKept, are_held, are_gaps, has_work, has_read, has_write, has_hand, is_fetching, is_restoring}
-use Rattle.private_store.proofs.KeptCopy.{true_false, false_true, tight, and_left, and_right, and_rest, both, or_left, or_right, not_false}
-use Rattle.private_store.proofs.KeptRows.{IsRowChange, row_put, rows_changed, IsLiveKept, same_itself}
+use Rattle.private_store.specs.Kept.{IsOrderOfUse, IsCopyKept, are_held, are_gaps, has_work, has_hand, is_fetching, is_restoring}
+use Rattle.private_store.proofs.KeptCopy.{true_false, false_true, tight, and_left, and_right, and_rest, both, or_right, not_false, none_here}
+use Rattle.private_store.proofs.KeptRows.{row_put, rows_changed, IsLiveKept, same_itself}
 use Rattle.private_store.proofs.KeptWorks.{ask_keeps, next_work, pushed_no, pushed_yes}
 use Rattle.private_store.proofs.KeptRoom.{IsMade}
-use Rattle.private_store.proofs.KeptPlan.{IsRoomKept, room_keeps, in_room_keeps}
+use Rattle.private_store.proofs.KeptPlan.{room_keeps, in_room_keeps}
 use Rattle.private_store.proofs.KeptChanges.{no_write_of, no_hand_of, unheld_of, no_work_of, held_copy, told_copy, fetched_on, new_kept, fetched_kept}
-use Rattle.private_store.proofs.KeptStore.{Keeps, same_keeps, checked_keeps, check_keeps, checks_keep, needing_keeps, sending_keeps, keeps_row, set_keeps, drop_keeps, put_row, kept_copy, kept_absent}
-
-none_here : {X : Type 0} (o : Option X) → is_some o ≡ false → o ≡ None
-none_here None e = refl
-none_here (Some x) e = false_true e
+use Rattle.private_store.proofs.KeptStore.{Keeps, same_keeps, check_keeps, checks_keep, needing_keeps, sending_keeps, keeps_row, set_keeps, drop_keeps, put_row, kept_copy, kept_absent}
 
 -- ---- chunks
 
@@ -80,8 +75,8 @@ module _ (order : List ObjectId) (once : IsOrderOfUse order) {store : Shape} (h 
       let r = room_keeps order once store h n in
       check_keeps h (not (is_length store n)) _ _ _ (λ l. check_keeps h (has_ended store id.task) _ _ _ (λ live. check_keeps h (is_some (at store.copies id)) _ _ _ (λ none. check_keeps h (is_full_of_copies store) _ [] _ (λ few. checks_keep h _
       (in_room_keeps store room (created id kind n) r.made r.kept (λ offset m _.
-        let t = not_false (is_length store n) l in
-        placed_keeps id kind n offset own live (none_here (at store.copies id) none) (leb-false most_copies (length store.copies) few) (length_positive store n t) (length_within store n t) m))))))
+      let t = not_false (is_length store n) l in
+      placed_keeps id kind n offset own live (none_here (at store.copies id) none) (leb-false most_copies (length store.copies) few) (length_positive store n t) (length_within store n t) m))))))
 
   -- ---- Get of a copy that is here
 
@@ -104,7 +99,7 @@ module _ (order : List ObjectId) (once : IsOrderOfUse order) {store : Shape} (h 
         form = record { resident = refl; in_fetch = k.in_fetch ∙ ap is_fetching s; fetched = λ t. true_false t; gaps = k.gaps; sized = λ _. k.sized (ap is_fetching s) };
         marks = record { secondary = k.secondary; away = λ _. k.away (ap (λ x. is_away x || is_restoring x) s); faulty = λ t. true_false (sym (ap is_some f) ∙ t) };
         holds = record { held = λ t. true_false (sym (unheld_of copy k (ap is_sealed s)) ∙ t); sessions = k.sessions; few_holds = k.few_holds };
-        use_kept = record {
+        uses = record {
           granted = λ t. true_false (sym (no_hand_of copy k (ap is_sealed s)) ∙ t);
           spilled = λ t. true_false (sym (pushed_no (λ x. same_id id x.id && x.writes) store.works w (ap (λ b. b && false) (same_itself id)) ∙ no_write_of copy k (ap is_sealed s)) ∙ t);
           restored = pushed_yes (λ x. same_id id x.id && not x.writes) store.works w (ap (λ b. b && true) (same_itself id));
@@ -132,8 +127,8 @@ module _ (order : List ObjectId) (once : IsOrderOfUse order) {store : Shape} (h 
       let r = room_keeps order once store h copy.length in
       check_keeps h (works_left store == 0) _ [] _ (λ left. checks_keep h _
       (check_keeps h (is_ok room.offset && not (has_numbers store.works_asked 1)) _ [] _ (λ numbers. checks_keep h _
-        (in_room_keeps store room (restoring id copy) r.made r.kept (λ offset m ok. restored_keeps id copy offset e s f (works_few left)
-          (ltb-true (store.works_asked + 1) (2 ^ 64) (not_false (has_numbers store.works_asked 1) (and_rest (is_ok room.offset) (not (has_numbers store.works_asked 1)) ok numbers))) m)))))
+      (in_room_keeps store room (restoring id copy) r.made r.kept (λ offset m ok. restored_keeps id copy offset e s f (works_few left)
+      (ltb-true (store.works_asked + 1) (2 ^ 64) (not_false (has_numbers store.works_asked 1) (and_rest (is_ok room.offset) (not (has_numbers store.works_asked 1)) ok numbers))) m)))))
 
   get_away_keeps : (id : ObjectId) (copy : Copy) → at store.copies id ≡ Some copy → copy.state ≡ Away → Keeps (get_away order store id copy)
   get_away_keeps id copy e s =

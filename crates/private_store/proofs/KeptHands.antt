@@ -1,27 +1,26 @@
 -- Grant and Withdraw keep the store.
-use Rattle.std.proofs.Common.{◌≡◌, ℕ, ◌+◌, ◌≤◌, ◌<◌, Bool, true, false, not, cond, ◌&&◌, ◌||◌, ◌==◌, List, [], ◌∷◌, ◌++◌, length, filter, Option, Some, None, is_some, is_none, refl, sym, ap, subst, ◌∙◌, arith}
+use Rattle.std.proofs.Common.{◌≡◌, ℕ, Bool, true, false, not, cond, ◌&&◌, ◌||◌, ◌==◌, [], ◌∷◌, ◌++◌, length, filter, Option, Some, None, is_none, refl, sym, ap, subst, ◌∙◌, arith}
 use Rattle.std.specs.Prelude.{nat_le}
 use Rattle.std.specs.Option.{option_map_or}
-use Rattle.std.specs.List.{list_any, list_all}
-use Rattle.std.proofs.lemmas.Bool.{leb-false, eqb-true, eqb-false, eq-eqb}
+use Rattle.std.proofs.lemmas.Bool.{leb-false, eqb-false}
 use Rattle.std.proofs.lemmas.List.{length_push}
 use Rattle.std.proofs.lemmas.List.Folds.{list_all-append}
 use Rattle.obj_id.specs.declared.ids.ObjectId.{ObjectId}
 use Rattle.obj_id.specs.Ids.{same_id}
 use Rattle.private_store.specs.Limits.{most_hands, greatest_depth}
-use Rattle.private_store.specs.Tables.{ById, at}
-use Rattle.private_store.specs.Shape.{Copy, Shape, Change, HandGiven, WorkInFlight}
-use Rattle.private_store.specs.Copies.{is_primary, is_sealed, is_idle, visible}
+use Rattle.private_store.specs.Tables.{at}
+use Rattle.private_store.specs.Shape.{Copy, Shape, HandGiven}
+use Rattle.private_store.specs.Copies.{is_primary, is_sealed, is_idle}
 use Rattle.private_store.specs.Room.{drop_copy}
-use Rattle.private_store.specs.Change.{done, checked, settled}
-use Rattle.private_store.specs.Commands.{grant, grant_own, grant_foreign, gives, is_sealed_primary, has_given, withdraw, oldest}
-use Rattle.private_store.specs.Kept.{IsCopyKept, are_held, has_work, has_hand}
-use Rattle.private_store.proofs.KeptCopy.{SameFor, IsAbsentKept, IsRowKept, IsLoose, true_false, false_true, not_false, and_left, and_right, or_left, or_right, or_false_right, both}
+use Rattle.private_store.specs.Change.{settled}
+use Rattle.private_store.specs.Commands.{grant, grant_own, grant_foreign, is_sealed_primary, has_given, withdraw}
+use Rattle.private_store.specs.Kept.{IsCopyKept}
+use Rattle.private_store.proofs.KeptCopy.{SameFor, IsAbsentKept, IsRowKept, IsLoose, true_false, not_false, and_left, and_right, or_left, or_right, or_false_right, both}
 use Rattle.private_store.proofs.KeptLists.{any-filter, any-filter-le, any-filter-only, all-filter, length-filter-le}
-use Rattle.private_store.proofs.KeptRows.{AreHandsKept, AreRowsKept, IsLiveKept, rows_moved, row_same, same_is, same_both}
-use Rattle.private_store.proofs.KeptWorks.{pushed_no, pushed_yes}
+use Rattle.private_store.proofs.KeptRows.{AreHandsKept, IsLiveKept, rows_moved, row_same, same_is, same_both}
+use Rattle.private_store.proofs.KeptWorks.{pushed_no}
 use Rattle.private_store.proofs.KeptChanges.{visible_at}
-use Rattle.private_store.proofs.KeptStore.{IsFrameKept, in_frame, settle_moved, kept_copy, Keeps, same_keeps, checked_keeps, check_keeps, checks_keep, needing_keeps}
+use Rattle.private_store.proofs.KeptStore.{IsFrameKept, in_frame, settle_moved, kept_copy, Keeps, checked_keeps, check_keeps, checks_keep, needing_keeps}
 
 module _ {store : Shape} (h : IsLiveKept store) where
   -- ---- grants
@@ -55,7 +54,7 @@ module _ {store : Shape} (h : IsLiveKept store) where
     form = k.form;
     marks = k.marks;
     holds = k.holds;
-    use_kept = record { granted = λ _. (s, p); spilled = k.spilled; restored = k.restored };
+    uses = record { granted = λ _. (s, p); spilled = k.spilled; restored = k.restored };
     scope = k.scope;
     doomed = λ t. true_false (sym d ∙ t);
   }
@@ -116,7 +115,7 @@ module _ {store : Shape} (h : IsLiveKept store) where
       form = k.form;
       marks = k.marks;
       holds = k.holds;
-      use_kept = record { granted = λ g. k.granted (any-filter-only (λ hand. same_id id hand.id) keep store.given g); spilled = k.spilled; restored = k.restored };
+      uses = record { granted = λ g. k.granted (any-filter-only (λ hand. same_id id hand.id) keep store.given g); spilled = k.spilled; restored = k.restored };
     };
     scope = k.scope;
   }

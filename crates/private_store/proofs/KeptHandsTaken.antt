@@ -1,18 +1,17 @@
 -- What others grant and take back keeps the store, live or not.
-use Rattle.std.proofs.Common.{◌≡◌, ℕ, ◌+◌, ◌≤◌, Bool, true, false, not, cond, ◌&&◌, ◌||◌, ◌==◌, List, [], ◌∷◌, length, filter, Option, Some, None, is_some, is_none, refl, sym, ap, subst, ◌∙◌, arith}
+use Rattle.std.proofs.Common.{◌≡◌, ℕ, Bool, true, false, not, cond, ◌&&◌, ◌||◌, ◌==◌, [], filter, Option, Some, None, is_none, refl, sym, ap, subst, ◌∙◌, arith}
 use Rattle.std.specs.Option.{option_map_or}
-use Rattle.std.specs.List.{list_any, list_all}
+use Rattle.std.specs.List.{list_any}
 use Rattle.std.proofs.lemmas.Bool.{eq-eqb}
 use Rattle.obj_id.specs.declared.ids.ObjectId.{ObjectId}
 use Rattle.obj_id.specs.Ids.{same_id}
-use Rattle.private_store.specs.Tables.{ById, at, with_entry, without_entry}
-use Rattle.private_store.specs.Shape.{Copy, Shape, Change, HandGiven, Seen}
-use Rattle.private_store.specs.Change.{done}
-use Rattle.private_store.specs.Events.{is_live, received, withdrawn, is_hand, hands_of, hangs_on, without_hand, hand_ended}
-use Rattle.private_store.specs.Kept.{IsShapeKept, has_hand}
-use Rattle.private_store.proofs.KeptCopy.{SameFor, IsRowKept, IsAbsentKept, copy_carried, true_false, false_true}
+use Rattle.private_store.specs.Tables.{ById, at}
+use Rattle.private_store.specs.Shape.{Copy, Shape, HandGiven, Seen}
+use Rattle.private_store.specs.Events.{is_live, received, withdrawn, is_hand, hangs_on, hand_ended}
+use Rattle.private_store.specs.Kept.{IsShapeKept}
+use Rattle.private_store.proofs.KeptCopy.{SameFor, IsRowKept, copy_carried, true_false}
 use Rattle.private_store.proofs.KeptLists.{any-filter-all, any-filter-le, all-filter, all_weaker, length-filter-le}
-use Rattle.private_store.proofs.KeptRows.{IsLiveKept, AreRowsKept, to_live, from_live, same_is}
+use Rattle.private_store.proofs.KeptRows.{IsLiveKept, to_live, from_live, same_is}
 
 -- other hands are received
 pub seen_keeps : (store : Shape) (seen : ById Seen) → IsShapeKept store → IsShapeKept (record store { received = seen })
@@ -49,6 +48,7 @@ module _ (store : Shape) (id : ObjectId) (giver : ℕ) where
       by_none None true t = refl
       by_none None false t = refl
       by_none (Some g) b t = true_false t
+
       by_same : (b : Bool) → same_id q hand.id ≡ b → not b || keep hand ≡ true
       by_same false s = refl
       by_same true s =

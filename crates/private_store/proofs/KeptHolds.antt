@@ -1,22 +1,21 @@
 -- What the holds on a copy keep when a session's number of holds changes.
-use Rattle.std.proofs.Common.{◌≡◌, ℕ, ◌+◌, ◌-◌, ◌≤◌, ◌<◌, Bool, true, false, not, cond, ◌&&◌, ◌||◌, ◌==◌, List, [], ◌∷◌, filter, Option, Some, None, is_some, unwrap_or, refl, sym, ap, subst, ◌∙◌, T, arith}
-use Rattle.std.specs.Prelude.{sum_by, nat_lt, nat_le, IsTrue}
+use Rattle.std.proofs.Common.{◌≡◌, ℕ, ◌+◌, ◌≤◌, Bool, true, false, not, cond, ◌&&◌, ◌==◌, List, [], ◌∷◌, filter, Some, None, unwrap_or, refl, ap, ◌∙◌, T, arith}
+use Rattle.std.specs.Prelude.{sum_by, nat_lt}
 use Rattle.std.specs.List.{list_all}
 use Rattle.std.specs.declared.cmp.Ordering.{Ordering}
 use Rattle.std.specs.declared.cmp.Ordering.TheVariants.{Less, Equal, Greater}
-use Rattle.std.specs.Ordering.{nat_cmp, is_lt, is_eq, eq_by_cmp}
+use Rattle.std.specs.Ordering.{nat_cmp, is_lt, is_eq}
 use Rattle.std.specs.Cmp.{nat_cmp_total}
 use Rattle.std.specs.FinMap.{find, put, is_sorted}
 use Rattle.std.specs.FinMap.Entries.{below_all, by_order, is_sorted-put, is_sorted-where_key}
-use Rattle.std.proofs.lemmas.Bool.{eqb-false, lt-ltb, leb-false}
+use Rattle.std.proofs.lemmas.Bool.{eqb-false, lt-ltb}
 use Rattle.std.proofs.lemmas.List.Sums.{sum_by-cons}
 use Rattle.obj_id.specs.declared.commands.CopyState.{CopyState}
 use Rattle.private_store.specs.Limits.{most_holds}
-use Rattle.private_store.specs.Shape.{Copy}
 use Rattle.private_store.specs.Copies.{is_sealed}
-use Rattle.private_store.specs.Commands.{holds_of, all_holds, without_session, with_holds}
+use Rattle.private_store.specs.Commands.{without_session}
 use Rattle.private_store.specs.Kept.{AreHoldsKept, are_held}
-use Rattle.private_store.proofs.KeptCopy.{true_false, false_true, and_left, and_right, both, true_T, T_true}
+use Rattle.private_store.proofs.KeptCopy.{and_left, and_right, both, true_T, T_true}
 use Rattle.private_store.proofs.KeptLists.{all-filter}
 
 less_is : (r : Ordering) → T (is_lt r) → r ≡ Less

@@ -1,9 +1,9 @@
 -- Lists under tests: what adding an element, or filtering, leaves of a count, and of what some or all elements are.
-use Rattle.std.proofs.Common.{◌≡◌, ℕ, zero, suc, ◌+◌, ◌≤◌, ◌<◌, Bool, true, false, not, cond, ◌&&◌, ◌||◌, List, [], ◌∷◌, ◌++◌, length, filter, Option, Some, None, is_some, unwrap_or, refl, sym, ap, subst, ◌∙◌, T, arith}
-use Rattle.std.specs.Prelude.{count_by, sum_by, nat_lt, nat_le, take}
+use Rattle.std.proofs.Common.{◌≡◌, ℕ, zero, suc, ◌+◌, ◌≤◌, Bool, true, false, not, cond, ◌||◌, List, [], ◌∷◌, ◌++◌, length, filter, Some, None, is_some, unwrap_or, refl, sym, ap, subst, ◌∙◌, arith}
+use Rattle.std.specs.Prelude.{count_by, take}
 use Rattle.std.specs.List.{list_any, list_all, find}
 use Rattle.std.proofs.lemmas.List.Sums.{sum_by-cons, sum_by-append}
-use Rattle.private_store.proofs.KeptCopy.{true_false, false_true, or_false_left, or_false_right, and_left, and_right, both}
+use Rattle.private_store.proofs.KeptCopy.{true_false, or_false_left, or_false_right, and_left, and_right, both, some_value, none_some}
 
 one_at_most : (n : ℕ) → 1 + n ≤ 1 → n ≡ 0
 one_at_most n h = omega (arith, h)
@@ -112,12 +112,6 @@ module _ {X : Type 0} where
   pub all_weaker : (p q : X → Bool) (xs : List X) → ((x : X) → p x ≡ true → q x ≡ true) → list_all p xs ≡ true → list_all q xs ≡ true
   all_weaker p q [] h k = refl
   all_weaker p q (x ∷ xs) h k = both _ _ (h x (and_left (p x) (list_all p xs) k)) (all_weaker p q xs h (and_right (p x) (list_all p xs) k))
-
-  some_value : (x y : X) → Some x ≡ Some y → x ≡ y
-  some_value x y e = ap (λ o. unwrap_or o x) e
-
-  none_some : {B : Type 0} (x : X) → None ≡ Some x → B
-  none_some x e = true_false (ap is_some e)
 
   pub find-passes : (q : X → Bool) (xs : List X) (w : X) → find q xs ≡ Some w → q w ≡ true
   find-passes q [] w e = none_some w e

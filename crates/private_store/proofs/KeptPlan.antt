@@ -1,32 +1,25 @@
 -- What making room for n bytes keeps, whatever the plan is.
-use Rattle.std.proofs.Common.{◌≡◌, ℕ, zero, suc, ◌+◌, ◌-◌, ◌≤◌, ◌<◌, Bool, true, false, not, cond, ◌&&◌, ◌||◌, List, [], ◌∷◌, ◌++◌, length, filter, fold, Option, Some, None, Ok, Err, Result, is_some, is_none, is_ok, unwrap_or, refl, sym, ap, subst, ◌∙◌, T, arith, min}
-use Rattle.std.specs.Prelude.{IsTrue, ◌==◌, ◌^◌, count_by, nat_lt, take}
-use Rattle.std.specs.Option.{option_map_or}
+use Rattle.std.proofs.Common.{◌≡◌, ℕ, ◌+◌, ◌≤◌, Bool, true, false, cond, List, [], ◌∷◌, ◌++◌, length, fold, Option, Some, None, Ok, Err, is_some, is_ok, unwrap_or, refl, sym, ap, subst, ◌∙◌, arith}
+use Rattle.std.specs.Prelude.{◌==◌, count_by, nat_lt, take}
 use Rattle.std.proofs.lemmas.Bool.{ltb-true}
 use Rattle.std.proofs.lemmas.List.{length-take}
 use Rattle.obj_id.specs.declared.ids.ObjectId.{ObjectId}
 use Rattle.obj_id.specs.declared.refusals.Refusal.{Refusal}
 use Rattle.obj_id.specs.declared.refusals.Refusal.TheVariants.{DeviceFailed, Pending, TooMany, Full, Busy}
-use Rattle.obj_id.specs.Ids.{id_cmp, same_id}
-use Rattle.private_store.specs.Limits.{most_works, most_copies, has_numbers}
-use Rattle.private_store.specs.Tables.{ById, at, is_among}
+use Rattle.obj_id.specs.Ids.{same_id}
+use Rattle.private_store.specs.Limits.{has_numbers}
+use Rattle.private_store.specs.Tables.{is_among}
 use Rattle.private_store.specs.Shape.{Copy, Shape, Change}
 use Rattle.private_store.specs.Copies.{is_evictable, is_spillable, is_passing, device_used}
-use Rattle.private_store.specs.Room.{Room, Plan, fits, wait, full, busy, evict, spill, shortest, shortest_from, in_order, offset_without, victims, spilled, spill_plan, bytes_of_copies, works_left, plan, evicted, asked, no_room, spill_room, evict_room, room_by, make_room}
-use Rattle.private_store.specs.Change.{refused, in_room, sending}
+use Rattle.private_store.specs.Room.{Room, Plan, fits, wait, full, busy, evict, spill, shortest, shortest_from, in_order, offset_without, victims, spilled, spill_plan, bytes_of_copies, works_left, plan, asked, no_room, spill_room, evict_room, room_by, make_room}
+use Rattle.private_store.specs.Change.{refused, in_room}
 use Rattle.private_store.specs.Kept.{IsOrderOfUse}
-use Rattle.private_store.proofs.KeptCopy.{true_false, false_true, and_right}
+use Rattle.private_store.proofs.KeptCopy.{true_false, and_right, some_value, none_some}
 use Rattle.private_store.proofs.KeptLists.{count-cons, count-append, count-take, count-filter, some_counted, count_none}
 use Rattle.private_store.proofs.KeptRows.{IsLiveKept}
 use Rattle.private_store.proofs.KeptFold.{among-filter}
 use Rattle.private_store.proofs.KeptRoom.{IsMade, passes, evict_keeps, spills_keep, spillable_is}
 use Rattle.private_store.proofs.KeptStore.{Keeps, sending_keeps}
-
-none_some : {A B : Type 0} (x : A) → None ≡ Some x → B
-none_some x e = true_false (ap is_some e)
-
-some_value : {A : Type 0} (x y : A) → Some x ≡ Some y → x ≡ y
-some_value x y e = ap (λ o. unwrap_or o x) e
 
 -- ---- ids of the order of use
 
@@ -98,9 +91,9 @@ module _ (order : List ObjectId) (once : IsOrderOfUse order) (store : Shape) whe
         | false ↦ elim (works_left store == 0) as (λ b. IsPlan (cond b busy (spill (take (works_left store) ids)))) [
           | true ↦ tt
           | false ↦ record {
-              chosen = fewer_chosen store (is_spillable store) ids (take (works_left store) ids) h (λ q. count-take (same_id q) (works_left store) ids);
-              few = let k = length-take (works_left store) ids in omega (arith, k);
-            }
+            chosen = fewer_chosen store (is_spillable store) ids (take (works_left store) ids) h (λ q. count-take (same_id q) (works_left store) ids);
+            few = let k = length-take (works_left store) ids in omega (arith, k);
+          }
         ]
       ]
 

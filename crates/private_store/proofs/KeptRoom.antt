@@ -1,30 +1,25 @@
 -- What making room keeps: copies that go are such as may, and works are asked for as many as are left.
-use Rattle.std.proofs.Common.{◌≡◌, ℕ, zero, suc, ◌+◌, ◌-◌, ◌≤◌, ◌<◌, Bool, true, false, not, cond, ◌&&◌, ◌||◌, List, [], ◌∷◌, ◌++◌, length, filter, fold, Option, Some, None, Ok, Err, is_some, is_none, is_ok, unwrap_or, refl, sym, ap, subst, ◌∙◌, T, arith, min}
-use Rattle.std.specs.Prelude.{IsTrue, ◌==◌, ◌^◌, count_by, nat_lt, take}
+use Rattle.std.proofs.Common.{◌≡◌, ℕ, ◌+◌, ◌≤◌, ◌<◌, Bool, true, false, not, cond, ◌&&◌, ◌||◌, List, [], ◌∷◌, ◌++◌, length, fold, Option, Some, None, is_some, is_none, refl, sym, ap, subst, ◌∙◌, T, arith}
+use Rattle.std.specs.Prelude.{◌^◌, count_by}
 use Rattle.std.specs.Option.{option_map_or}
 use Rattle.std.specs.FinMap.{is_sorted}
-use Rattle.std.proofs.lemmas.Bool.{ltb-true, eqb-false}
-use Rattle.std.proofs.lemmas.List.{length_push, length-take}
+use Rattle.std.proofs.lemmas.List.{length_push}
 use Rattle.obj_id.specs.declared.ids.ObjectId.{ObjectId}
 use Rattle.obj_id.specs.declared.ids.TaskNo.{TaskNo}
-use Rattle.obj_id.specs.declared.commands.CopyState.{CopyState}
-use Rattle.obj_id.specs.declared.commands.CopyState.TheVariants.{Created, Sealed, Restoring, Fetching, Away}
-use Rattle.obj_id.specs.declared.commands.Kind.{Kind}
-use Rattle.obj_id.specs.declared.refusals.Refusal.TheVariants.{DeviceFailed, Pending, TooMany}
+use Rattle.obj_id.specs.declared.commands.CopyState.TheVariants.{Away}
 use Rattle.obj_id.specs.Ids.{id_cmp, same_id}
-use Rattle.private_store.specs.Limits.{most_works, most_copies, has_numbers}
+use Rattle.private_store.specs.Limits.{most_works, most_copies}
 use Rattle.private_store.specs.Tables.{ById, at, with_entry, without_entry, is_among}
-use Rattle.private_store.specs.Shape.{Copy, WorkInFlight, HandGiven, Shape, Change}
-use Rattle.private_store.specs.Copies.{is_primary, is_sealed, is_idle, is_evictable, is_spillable, is_passing}
-use Rattle.private_store.specs.Room.{Room, Plan, fits, wait, full, busy, evict, spill, shortest, shortest_from, in_order, offset_without, victims, spilled, spill_plan, works_left, plan, set_copy, drop_copy, evicted, asked, no_room, spill_room, evict_room, room_by, make_room}
-use Rattle.private_store.specs.Change.{refused, in_room, sending}
-use Rattle.private_store.specs.Kept.{IsOrderOfUse, IsCopyKept, are_held, has_work, has_read, has_write, has_hand, is_fetching, is_restoring}
-use Rattle.private_store.proofs.KeptCopy.{IsRowKept, IsAbsentKept, true_false, false_true, or_left, or_right, and_left, and_right, not_true, idle_held, idle_granted, idle_working, sealed_is, refuted, or_false_left, or_false_right, has_work-split}
-use Rattle.private_store.proofs.KeptLists.{count-cons, count-append, count-take, count-filter, some_counted, none_counted}
-use Rattle.private_store.proofs.KeptRows.{IsRowChange, row_put, row_drop, row_same, AreRowsKept, IsLiveKept, same_is, same_itself}
+use Rattle.private_store.specs.Shape.{Copy, WorkInFlight, HandGiven, Shape}
+use Rattle.private_store.specs.Copies.{is_primary, is_sealed, is_idle, is_evictable, is_spillable}
+use Rattle.private_store.specs.Room.{set_copy, drop_copy, evicted, asked}
+use Rattle.private_store.specs.Kept.{IsOrderOfUse, IsCopyKept, are_held, has_work, has_read, has_write, has_hand, is_fetching}
+use Rattle.private_store.proofs.KeptCopy.{IsRowKept, true_false, false_true, or_left, or_right, and_left, and_right, idle_held, idle_granted, idle_working, sealed_is, refuted, or_false_left, or_false_right, has_work-split, none_of}
+use Rattle.private_store.proofs.KeptLists.{count-cons, none_counted}
+use Rattle.private_store.proofs.KeptRows.{IsRowChange, row_put, row_drop, row_same, IsLiveKept, same_itself}
 use Rattle.private_store.proofs.KeptWorks.{ask_keeps, pushed_no, pushed_yes, next_work}
-use Rattle.private_store.proofs.KeptFold.{among-filter, Visits, AreVisited, visited}
-use Rattle.private_store.proofs.KeptStore.{with_copies, kept_copy, Keeps, sending_keeps}
+use Rattle.private_store.proofs.KeptFold.{Visits, visited}
+use Rattle.private_store.proofs.KeptStore.{with_copies, kept_copy}
 
 -- ---- copies that may go
 
@@ -52,7 +47,7 @@ module _ {job : ℕ} {works : List WorkInFlight} {given : List HandGiven} {ended
     form = record { resident = refl; in_fetch = h.in_fetch ∙ g.still; fetched = λ e. true_false e; gaps = h.gaps; sized = λ _. h.sized g.still };
     marks = record { secondary = h.secondary; away = λ _. (p, g.backed p); faulty = λ _. refl };
     holds = record { held = λ e. true_false (sym g.unheld ∙ e); sessions = h.sessions; few_holds = h.few_holds };
-    use_kept = record { granted = λ e. true_false (sym g.no_hand ∙ e); spilled = λ e. true_false (sym (no_write works id g.no_work) ∙ e); restored = no_read works id g.no_work };
+    uses = record { granted = λ e. true_false (sym g.no_hand ∙ e); spilled = λ e. true_false (sym (no_write works id g.no_work) ∙ e); restored = no_read works id g.no_work };
     scope = h.scope;
     doomed = h.doomed;
   }
@@ -72,7 +67,7 @@ evicted-is store id =
     ≡ record store { copies = option_map_or (λ copy. cond (is_primary copy.kind) (with_entry store.copies id (away_copy copy)) (without_entry store.copies id)) o store.copies }) [
       | None ↦ refl
       | Some copy ↦ elim (is_primary copy.kind) as (λ b. cond b (set_copy store id (record copy { state = Away; offset = None })) (drop_copy store id)
-      ≡ record store { copies = cond b (with_entry store.copies id (away_copy copy)) (without_entry store.copies id) }) [ true ↦ refl | false ↦ refl ]
+          ≡ record store { copies = cond b (with_entry store.copies id (away_copy copy)) (without_entry store.copies id) }) [ true ↦ refl | false ↦ refl ]
     ]
 
 evicted-fold : (store : Shape) (ids : List ObjectId) → fold evicted store ids ≡ record store { copies = fold gone store.copies ids }
@@ -197,10 +192,6 @@ pub record MaySpill (copies : ById Copy) (works : List WorkInFlight) (id : Objec
   pub unbacked : copy.backed ≡ None
   pub no_work : has_work works id ≡ false
 
-none_of : (o : Option ℕ) → is_none o ≡ true → o ≡ None
-none_of None e = refl
-none_of (Some n) e = true_false e
-
 pub spillable_is : (store : Shape) (id : ObjectId) → passes store (is_spillable store) id ≡ true → MaySpill store.copies store.works id
 spillable_is store id t = by_row (at store.copies id) refl t
   where
@@ -231,7 +222,7 @@ module _ (store : Shape) (h : IsLiveKept store) where
         form = k.form;
         marks = k.marks;
         holds = k.holds;
-        use_kept = record {
+        uses = record {
           granted = k.granted;
           spilled = λ e. (m.sealed, m.primary, m.unbacked);
           restored = pushed_no (λ x. same_id id x.id && not x.writes) store.works w (ap (λ b. b && false) (same_itself id)) ∙ k.restored;

@@ -1,5 +1,5 @@
 -- A change of one row of a job's table of copies, and what the rows and the lists of a store keep.
-use Rattle.std.proofs.Common.{◌≡◌, ℕ, ◌+◌, ◌≤◌, ◌<◌, Bool, true, false, not, cond, ◌&&◌, ◌||◌, List, [], ◌∷◌, length, Option, Some, None, is_some, is_none, refl, sym, ap, subst, ◌∙◌, T, arith}
+use Rattle.std.proofs.Common.{◌≡◌, ℕ, ◌+◌, ◌≤◌, ◌<◌, Bool, true, false, not, cond, ◌&&◌, ◌||◌, List, length, Option, Some, None, is_some, is_none, refl, sym, ap, subst, ◌∙◌, T, arith}
 use Rattle.std.specs.Prelude.{IsTrue, ◌==◌, ◌^◌, nat_lt, nat_le, count_by}
 use Rattle.std.specs.List.{list_all}
 use Rattle.std.specs.Ordering.{is_eq}
@@ -13,9 +13,9 @@ use Rattle.private_store.specs.Limits.{most_copies, most_works, most_hands, most
 use Rattle.private_store.specs.Tables.{ById, at, with_entry, without_entry}
 use Rattle.private_store.specs.Shape.{Copy, WorkInFlight, HandGiven, Shape}
 use Rattle.private_store.specs.Events.{is_live}
-use Rattle.private_store.specs.Kept.{IsShapeKept, has_work, has_hand}
+use Rattle.private_store.specs.Kept.{IsShapeKept}
 use Rattle.private_store.proofs.Stamps.{id_cmp-IsAntisymmetric, id_cmp-IsTotalOrder}
-use Rattle.private_store.proofs.KeptCopy.{SameFor, IsRowKept, IsAbsentKept, row_carried, true_false, T_true, true_T}
+use Rattle.private_store.proofs.KeptCopy.{SameFor, IsRowKept, row_carried, true_false, T_true, true_T}
 
 pub same_is : (a b : ObjectId) → same_id a b ≡ true → a ≡ b
 same_is a b e = id_cmp-IsAntisymmetric a b ((Equal-is (id_cmp a b)).0 e)

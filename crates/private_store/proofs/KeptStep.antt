@@ -1,6 +1,6 @@
--- Every step of a job's store keeps what `IsShapeKept` says, and the order of use.
-use Rattle.std.proofs.Common.{◌≡◌, ℕ, ◌+◌, ◌≤◌, ◌<◌, Bool, true, false, not, cond, ◌&&◌, ◌||◌, ◌==◌, List, [], ◌∷◌, ◌++◌, length, filter, Option, Some, None, is_some, refl, sym, ap, subst, ◌∙◌, arith}
-use Rattle.std.specs.Prelude.{count_by, option_to_list}
+-- Every step of a job's store keeps what `IsShapeKept` says.
+use Rattle.std.proofs.Common.{◌≡◌, ℕ, ◌+◌, ◌≤◌, Bool, true, false, not, ◌&&◌, ◌==◌, List, [], ◌∷◌, ◌++◌, filter, Option, Some, None, is_some, refl, sym, ap, subst, ◌∙◌, arith}
+use Rattle.std.specs.Prelude.{count_by}
 use Rattle.std.specs.List.{find}
 use Rattle.std.proofs.lemmas.Bool.{eqb-true}
 use Rattle.std.proofs.lemmas.List.{append-nil}
@@ -15,9 +15,8 @@ use Rattle.private_store.specs.declared.inputs.Judged.{Judged}
 use Rattle.private_store.specs.declared.inputs.Judged.TheVariants as judged
 use Rattle.private_store.specs.declared.inputs.WorkVerdict.{WorkVerdict}
 use Rattle.private_store.specs.Limits.{is_quota}
-use Rattle.private_store.specs.Tables.{ById, at, is_among}
-use Rattle.private_store.specs.Shape.{Copy, Shape, Change, Life, not_begun, live, ended, unbegun, end_job}
-use Rattle.private_store.specs.Copies.{fits_quota}
+use Rattle.private_store.specs.Tables.{at, is_among}
+use Rattle.private_store.specs.Shape.{Shape, Change, not_begun, live, ended, unbegun}
 use Rattle.private_store.specs.Change.{refused, done, checked, sending, erasing}
 use Rattle.private_store.specs.Commands.{list, usage}
 use Rattle.private_store.specs.Events.{is_live, begin, requota, over, end_job_here, answer, work_of}
@@ -25,7 +24,7 @@ use Rattle.private_store.specs.Step.{owned, commanded, step, is_used, reordered,
 use Rattle.private_store.specs.Kept.{IsOrderOfUse, IsShapeKept}
 use Rattle.private_store.proofs.Checks.{needing-none}
 use Rattle.private_store.proofs.KeptCopy.{true_false, false_true, not_false}
-use Rattle.private_store.proofs.KeptLists.{count-append, count-cons, count-no, count-yes, count_none, count-filter}
+use Rattle.private_store.proofs.KeptLists.{count-append, count-no, count-yes, count_none, count-filter}
 use Rattle.private_store.proofs.KeptRows.{IsLiveKept, to_live, from_live, same_both}
 use Rattle.private_store.proofs.KeptFold.{among-filter}
 use Rattle.private_store.proofs.KeptStore.{Keeps, same_keeps, checked_keeps, check_keeps, checks_keep}
@@ -178,35 +177,3 @@ step_keeps order store (judged.NotHere id number from) once h = living store h S
 step_keeps order store (judged.Received id n giver depth) once h = received_keeps store id n giver.0 depth h
 step_keeps order store (judged.Withdrawn id giver depth) once h = withdrawn_keeps store id giver.0 depth h
 step_keeps order store judged.End once h = one_check store h (not (is_live store)) Stale (erasing store (end_job_here store)) (λ _. end_kept store h)
-
--- ---- the order of use
-
-pub order_keeps : (order : List ObjectId) (c : Change) → IsOrderOfUse order → IsOrderOfUse (order_after order c)
-order_keeps order c once = by_use c.used
-  where
-    stays : Option ObjectId → ObjectId → Bool
-    stays used id = is_some (at c.shape.copies id) && not (is_used used id)
-    fewer : (used : Option ObjectId) (q : ObjectId) → count_by (same_id q) (filter (stays used) order) ≤ 1
-    fewer used q = let k = count-filter (same_id q) (stays used) order in let o = once q in omega (arith, k, o)
-    not_both : (a b c : Bool) → c ≡ true → a && (b && not c) ≡ false
-    not_both true true c e = ap not e
-    not_both true false c e = refl
-    not_both false b c e = refl
-    used_last : (id q : ObjectId) (b : Bool) → same_id q id ≡ b → count_by (same_id q) (filter (stays (Some id)) order ++ id ∷ []) ≤ 1
-    used_last id q true e =
-        let a = count-append (same_id q) (filter (stays (Some id)) order) (id ∷ []) in
-        let none : is_among (filter (stays (Some id)) order) q ≡ false =
-        among-filter (stays (Some id)) order q ∙ not_both (is_among order q) (is_some (at c.shape.copies q)) (same_id id q) (same_both id q ∙ e) in
-        let z = count_none (same_id q) (filter (stays (Some id)) order) none in
-        let o : count_by (same_id q) (id ∷ []) ≡ 1 + count_by (same_id q) [] = count-yes (same_id q) id [] e in
-        let n : count_by (same_id q) [] ≡ 0 = refl in
-        omega (arith, a, z, o, n)
-    used_last id q false e =
-        let a = count-append (same_id q) (filter (stays (Some id)) order) (id ∷ []) in
-        let f = fewer (Some id) q in
-        let o : count_by (same_id q) (id ∷ []) ≡ count_by (same_id q) [] = count-no (same_id q) id [] e in
-        let n : count_by (same_id q) [] ≡ 0 = refl in
-        omega (arith, a, f, o, n)
-    by_use : (used : Option ObjectId) → IsOrderOfUse (reordered order c.shape.copies used)
-    by_use None q = subst (λ ids. count_by (same_id q) ids ≤ 1) (sym (append-nil (filter (stays None) order))) (fewer None q)
-    by_use (Some id) q = used_last id q (same_id q id) refl

@@ -1,24 +1,23 @@
 -- What a live store keeps when one copy changes, is dropped, settles or is doomed.
-use Rattle.std.proofs.Common.{◌≡◌, ℕ, ◌+◌, ◌≤◌, ◌<◌, Bool, true, false, not, cond, ◌&&◌, ◌||◌, List, [], ◌∷◌, length, Option, Some, None, is_some, is_none, refl, sym, ap, subst, ◌∙◌, T, arith}
+use Rattle.std.proofs.Common.{◌≡◌, ◌≤◌, ◌<◌, Bool, true, false, cond, List, [], ◌∷◌, length, Option, Some, None, is_some, refl, sym, ap, subst, ◌∙◌}
 use Rattle.std.specs.Option.{option_map_or}
 use Rattle.obj_id.specs.declared.ids.ObjectId.{ObjectId}
-use Rattle.obj_id.specs.declared.ids.TaskNo.{TaskNo}
 use Rattle.obj_id.specs.declared.refusals.Refusal.{Refusal}
 use Rattle.std.specs.Prelude.{◌^◌}
 use Rattle.obj_id.specs.Ids.{same_id}
 use Rattle.private_store.specs.Events.{is_live}
 use Rattle.private_store.specs.Limits.{most_copies, most_ended_tasks, is_quota}
-use Rattle.private_store.specs.Tables.{ById, at, with_entry, without_entry}
+use Rattle.private_store.specs.Tables.{ById, at, with_entry}
 use Rattle.private_store.specs.Shape.{Copy, Shape, Change, Sending, WorkInFlight, HandGiven}
-use Rattle.private_store.specs.Copies.{is_idle, is_primary, is_held, in_scope}
+use Rattle.private_store.specs.Copies.{in_scope}
 use Rattle.private_store.specs.Room.{set_copy, drop_copy}
-use Rattle.private_store.specs.Change.{refused, done, checked, needing, sending, erasing, settled, doomed, doom}
+use Rattle.private_store.specs.Change.{done, checked, needing, sending, erasing, settled, doomed, doom}
 use Rattle.private_store.specs.Commands.{scoped}
-use Rattle.private_store.specs.Kept.{IsCopyKept, IsScopeKept, are_held, has_work, has_hand, is_remembered}
+use Rattle.private_store.specs.Kept.{IsCopyKept, IsScopeKept, has_work, has_hand}
 use Rattle.private_store.proofs.Sound.{checked_has, needing_has}
-use Rattle.private_store.proofs.KeptCopy.{SameFor, IsRowKept, IsAbsentKept, IsBare, IsLoose, bare, loose, tight, is_kept_up, true_false, false_true, and_left, and_right, and_rest, idle_held, idle_granted, idle_working, not_idle}
+use Rattle.private_store.proofs.KeptCopy.{SameFor, IsRowKept, IsAbsentKept, IsBare, IsLoose, tight, is_kept_up, false_true}
 use Rattle.private_store.proofs.KeptEach.{settled_row, settled_of_copies}
-use Rattle.private_store.proofs.KeptRows.{AreWorksKept, AreHandsKept, rows_moved, same_lists, IsRowChange, row_put, row_drop, row_same, row_then, row_here, AreRowsKept, rows_changed, IsLiveKept}
+use Rattle.private_store.proofs.KeptRows.{AreWorksKept, AreHandsKept, rows_moved, same_lists, IsRowChange, row_put, row_drop, row_then, row_here, AreRowsKept, rows_changed, IsLiveKept}
 
 pub with_copies : {store : Shape} → IsLiveKept store → (new : ById Copy) → AreRowsKept store.job store.works store.given store.ended_tasks new → IsLiveKept (record store { copies = new })
 with_copies h new r = record { live = h.live; quota = h.quota; rows = r; works = h.works; hands = h.hands; fetches = h.fetches; ended = h.ended }
@@ -79,7 +78,7 @@ module _ {store : Shape} (h : IsLiveKept store) where
       let gone : Copy = record copy { doomed = true } in
       subst (λ o. IsLiveKept (option_map_or (λ x. settled (set_copy S id (record x { doomed = true })) id) o S)) (sym (row_here c))
       (settle id gone (with_entry new id gone) (row_then c (row_put new id gone c.in_order c.few (λ f. false_true (sym (ap is_some (row_here c)) ∙ f))))
-      (record { bare = record { own = k.own; form = k.form; marks = k.marks; holds = k.holds; use_kept = k.use_kept }; scope = s }))
+      (record { bare = record { own = k.own; form = k.form; marks = k.marks; holds = k.holds; uses = k.uses }; scope = s }))
 
 -- ---- changes
 

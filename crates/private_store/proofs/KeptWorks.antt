@@ -1,20 +1,19 @@
 -- What the works of a store keep while one is asked for, and while one ends.
-use Rattle.std.proofs.Common.{◌≡◌, ℕ, ◌+◌, ◌≤◌, ◌<◌, Bool, true, false, not, cond, ◌&&◌, ◌||◌, List, [], ◌∷◌, ◌++◌, length, filter, Option, Some, None, is_some, refl, sym, ap, subst, ◌∙◌, T, arith}
-use Rattle.std.specs.Prelude.{IsTrue, ◌==◌, ◌^◌, count_by, nat_lt, nat_le}
+use Rattle.std.proofs.Common.{◌≡◌, ℕ, ◌+◌, ◌≤◌, ◌<◌, Bool, true, false, not, ◌&&◌, ◌||◌, List, [], ◌∷◌, ◌++◌, length, filter, Some, refl, sym, ap, subst, ◌∙◌, arith}
+use Rattle.std.specs.Prelude.{◌==◌, ◌^◌, count_by, nat_lt, nat_le}
 use Rattle.std.specs.List.{list_any, list_all, find}
-use Rattle.std.proofs.lemmas.Bool.{leb-true, le-leb, eqb-true, eq-eqb, lt-ltb, ltb-true}
+use Rattle.std.proofs.lemmas.Bool.{leb-true, le-leb, eqb-true, lt-ltb}
 use Rattle.std.proofs.lemmas.List.Folds.{list_any-append, list_all-append}
 use Rattle.std.proofs.lemmas.List.{length_push}
 use Rattle.obj_id.specs.declared.ids.ObjectId.{ObjectId}
-use Rattle.obj_id.specs.declared.ids.TaskNo.{TaskNo}
 use Rattle.obj_id.specs.Ids.{same_id}
 use Rattle.private_store.specs.Limits.{most_works, most_copies}
-use Rattle.private_store.specs.Tables.{ById, at}
+use Rattle.private_store.specs.Tables.{ById}
 use Rattle.private_store.specs.Shape.{Copy, WorkInFlight, HandGiven, Shape}
 use Rattle.private_store.specs.Room.{asked}
-use Rattle.private_store.specs.Kept.{IsCopyKept, has_work, has_read, has_write, has_hand}
-use Rattle.private_store.proofs.KeptCopy.{SameFor, true_false, false_true, or_left, or_right, and_left, and_right, both}
-use Rattle.private_store.proofs.KeptLists.{count-append, count-cons, count-yes, count-no, count_none, count-filter, length-filter-le, all-filter, all_weaker, any-taken, none-taken}
+use Rattle.private_store.specs.Kept.{IsCopyKept, has_work}
+use Rattle.private_store.proofs.KeptCopy.{SameFor, or_left, or_right, and_left, and_right, both}
+use Rattle.private_store.proofs.KeptLists.{count-append, count-yes, count-no, count_none, count-filter, length-filter-le, all-filter, all_weaker, any-taken, none-taken}
 use Rattle.private_store.proofs.KeptRows.{IsRowChange, AreWorksKept, IsLiveKept, rows_moved, same_is, same_itself}
 
 or_nothing : (a b : Bool) → b ≡ false → a || (b || false) ≡ a
@@ -67,7 +66,7 @@ works_asked_keep works asked id writes h free few end =
       one_work = λ q. one_more (λ x. same_id q x.id) works w (h.one_work q) (λ e. subst (λ x. has_work works x ≡ false) (sym (same_is q id e)) free);
       numbers_used = list_all-append (λ x. nat_lt 0 x.number && nat_le x.number (asked + 1)) works (w ∷ [])
           ∙ both _ _ (all_weaker _ _ works (λ x e. let le : x.number ≤ asked = leb-true x.number asked (and_right (nat_lt 0 x.number) (nat_le x.number asked) e) in
-            both _ _ (and_left (nat_lt 0 x.number) (nat_le x.number asked) e) (le-leb x.number (asked + 1) (omega (arith, le)))) h.numbers_used)
+          both _ _ (and_left (nat_lt 0 x.number) (nat_le x.number asked) e) (le-leb x.number (asked + 1) (omega (arith, le)))) h.numbers_used)
           (both (nat_lt 0 (asked + 1) && nat_le (asked + 1) (asked + 1)) true (both _ _ (lt-ltb 0 (asked + 1) (omega arith)) (le-leb (asked + 1) (asked + 1) (omega arith))) refl);
       one_number = λ n. one_more (λ x. x.number == n) works w (h.one_number n) (λ e. let is : asked + 1 ≡ n = eqb-true (asked + 1) n e in number_above works asked n h.numbers_used (omega (arith, is)));
       numbers_end = end;

@@ -24,3 +24,4 @@ pub mod KeptFetches
 pub mod KeptAnswers
 pub mod KeptHandsTaken
 pub mod KeptStep
+pub mod KeptView
