@@ -43,9 +43,6 @@ module _ {job : ℕ} {works : List WorkInFlight} {given : List HandGiven} {ended
   pub no_work_of : is_sealed copy.state ≡ false → is_restoring copy.state ≡ false → has_work works id ≡ false
   no_work_of e f = has_work-split works id ∙ ap (λ b. b || has_read works id) (no_write_of e) ∙ h.restored ∙ f
 
-  pub no_fault_of : is_away copy.state ≡ false → is_some copy.fault ≡ false
-  no_fault_of e = refuted (is_some copy.fault) (λ t. sym e ∙ h.faulty t)
-
   -- the copy is sealed by its writer
   pub sealed_copy : copy.state ≡ Created → IsCopyKept job works given ended id (record copy { state = Sealed })
   sealed_copy e = record {

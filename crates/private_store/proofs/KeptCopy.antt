@@ -170,9 +170,6 @@ module _ {job : ℕ} {works : List WorkInFlight} {given : List HandGiven} {id : 
   pub bare : {ended : List TaskNo} → IsCopyKept job works given ended id copy → IsBare job works given id copy
   bare h = record { own = h.own; form = h.form; marks = h.marks; holds = h.holds; uses = h.uses }
 
-  pub loose : {ended : List TaskNo} → IsCopyKept job works given ended id copy → IsLoose job works given ended id copy
-  loose h = record { bare = bare h; scope = h.scope }
-
   pub tight : {ended : List TaskNo} → IsLoose job works given ended id copy → (copy.doomed ≡ true → is_kept_up works given id copy ≡ true) → IsCopyKept job works given ended id copy
   tight h d = record { own = h.bare.own; form = h.bare.form; marks = h.bare.marks; holds = h.bare.holds; uses = h.bare.uses; scope = h.scope; doomed = d }
 

@@ -1,5 +1,5 @@
 -- Create and Get keep the store: what takes room, and what a fetch does.
-use Rattle.std.proofs.Common.{◌≡◌, ℕ, zero, suc, ◌+◌, ◌≤◌, ◌<◌, true, false, not, ◌&&◌, ◌||◌, ◌==◌, List, [], ◌∷◌, ◌++◌, length, Option, Some, None, is_some, is_ok, refl, sym, ap, subst, ◌∙◌, arith}
+use Rattle.std.proofs.Common.{◌≡◌, ℕ, zero, suc, ◌+◌, ◌≤◌, ◌<◌, true, false, not, ◌&&◌, ◌||◌, ◌==◌, List, [], ◌∷◌, ◌++◌, length, Some, None, is_some, is_ok, refl, sym, ap, subst, ◌∙◌, arith}
 use Rattle.std.specs.Prelude.{nat_le, nat_lt, ◌^◌}
 use Rattle.std.specs.List.{list_all}
 use Rattle.std.proofs.lemmas.Bool.{leb-false, leb-true, ltb-true, lt-ltb, le-leb, eqb-false}
@@ -18,7 +18,7 @@ use Rattle.private_store.specs.Room.{make_room, works_left, set_copy}
 use Rattle.private_store.specs.Change.{refused, checked, needing, sending, has_ended}
 use Rattle.private_store.specs.Commands.{is_length, is_full_of_copies, new_copy, created, create, get_sealed, restoring, restore, get_away, counted, chunk_count, begin_pull, get_fetching, get_copy, fetched_copy, fetch_begun, begin_fetch, get, holds_of, all_holds, with_holds}
 use Rattle.private_store.specs.Kept.{IsOrderOfUse, IsCopyKept, are_held, are_gaps, has_work, has_hand, is_fetching, is_restoring}
-use Rattle.private_store.proofs.KeptCopy.{true_false, false_true, tight, and_left, and_right, and_rest, both, or_right, not_false, none_here}
+use Rattle.private_store.proofs.KeptCopy.{true_false, tight, and_left, and_right, and_rest, both, or_right, not_false, none_here}
 use Rattle.private_store.proofs.KeptRows.{row_put, rows_changed, IsLiveKept, same_itself}
 use Rattle.private_store.proofs.KeptWorks.{ask_keeps, next_work, pushed_no, pushed_yes}
 use Rattle.private_store.proofs.KeptRoom.{IsMade}

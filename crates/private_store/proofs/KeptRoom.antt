@@ -8,7 +8,7 @@ use Rattle.obj_id.specs.declared.ids.ObjectId.{ObjectId}
 use Rattle.obj_id.specs.declared.ids.TaskNo.{TaskNo}
 use Rattle.obj_id.specs.declared.commands.CopyState.TheVariants.{Away}
 use Rattle.obj_id.specs.Ids.{id_cmp, same_id}
-use Rattle.private_store.specs.Limits.{most_works, most_copies}
+use Rattle.private_store.specs.Limits.{most_works}
 use Rattle.private_store.specs.Tables.{ById, at, with_entry, without_entry, is_among}
 use Rattle.private_store.specs.Shape.{Copy, WorkInFlight, HandGiven, Shape}
 use Rattle.private_store.specs.Copies.{is_primary, is_sealed, is_idle, is_evictable, is_spillable}
@@ -134,9 +134,6 @@ or_rest : (a b : Bool) → a ≡ true → not a || b ≡ true → b ≡ true
 or_rest true b e f = f
 or_rest false b e f = true_false e
 
-le_trans : (a b c : ℕ) → a ≤ b → b ≤ c → a ≤ c
-le_trans a b c h k = omega (arith, h, k)
-
 -- the copy is there, and passes the test
 abbrev pub passes : Shape → (ObjectId → Copy → Bool) → ObjectId → Bool
 passes store test id = option_map_or (test id) (at store.copies id) false
@@ -172,7 +169,7 @@ module _ (store : Shape) (h : IsLiveKept store) where
       record {
         copies = fold gone store.copies ids;
         is = evicted-fold store ids;
-        kept = with_copies h (fold gone store.copies ids) (record { in_order = v.in_order; each = λ q. (v.each q).kept; few = le_trans _ most most_copies v.few h.rows.few });
+        kept = with_copies h (fold gone store.copies ids) (record { in_order = v.in_order; each = λ q. (v.each q).kept; few = let f = v.few in let g = h.rows.few in omega (arith, f, g) });
         fewer = v.few;
         absent = λ q. (v.each q).absent;
         others = λ q copy e f. (v.each q).other (refuted (is_among ids q) (λ t. sym f ∙ sealed_passes q copy (subst (λ o. option_map_or (is_evictable store q) o false ≡ true) e (chosen q t)))) ∙ e;

@@ -41,9 +41,6 @@ pub record IsRowChange (most : ℕ) (copies : ById Copy) (id : ObjectId) (o : Op
 pub row_here : {most : ℕ} {copies : ById Copy} {id : ObjectId} {o : Option Copy} {new : ById Copy} → IsRowChange most copies id o new → at new id ≡ o
 row_here {copies} {id} {o} {new} h = h.rows id ∙ ap (λ b. cond b o (at copies id)) (same_itself id)
 
-pub row_elsewhere : {most : ℕ} {copies : ById Copy} {id : ObjectId} {o : Option Copy} {new : ById Copy} → IsRowChange most copies id o new → (q : ObjectId) → same_id q id ≡ false → at new q ≡ at copies q
-row_elsewhere {copies} {id} {o} {new} h q e = h.rows q ∙ ap (λ b. cond b o (at copies q)) e
-
 put_size : (most : ℕ) (b : Bool) (n : ℕ) → n ≤ most → (b ≡ false → n < most) → cond b n (n + 1) ≤ most
 put_size most true n h k = h
 put_size most false n h k = omega (arith, k refl)

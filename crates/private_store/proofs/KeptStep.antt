@@ -1,32 +1,26 @@
 -- Every step of a job's store keeps what `IsShapeKept` says.
-use Rattle.std.proofs.Common.{◌≡◌, ℕ, ◌+◌, ◌≤◌, Bool, true, false, not, ◌&&◌, ◌==◌, List, [], ◌∷◌, ◌++◌, filter, Option, Some, None, is_some, refl, sym, ap, subst, ◌∙◌, arith}
-use Rattle.std.specs.Prelude.{count_by}
+use Rattle.std.proofs.Common.{◌≡◌, ℕ, Bool, true, false, not, ◌==◌, List, [], ◌∷◌, None, is_some, refl, sym, ap, subst, arith}
 use Rattle.std.specs.List.{find}
 use Rattle.std.proofs.lemmas.Bool.{eqb-true}
-use Rattle.std.proofs.lemmas.List.{append-nil}
 use Rattle.obj_id.specs.declared.ids.ObjectId.{ObjectId}
 use Rattle.obj_id.specs.declared.works.Quota.{Quota}
 use Rattle.obj_id.specs.declared.commands.Command.{Command}
 use Rattle.obj_id.specs.declared.commands.Command.TheVariants as command
 use Rattle.obj_id.specs.declared.refusals.Refusal.{Refusal}
 use Rattle.obj_id.specs.declared.refusals.Refusal.TheVariants.{NotAdmitted, Stale, BadSize, NotGranted}
-use Rattle.obj_id.specs.Ids.{same_id}
 use Rattle.private_store.specs.declared.inputs.Judged.{Judged}
 use Rattle.private_store.specs.declared.inputs.Judged.TheVariants as judged
 use Rattle.private_store.specs.declared.inputs.WorkVerdict.{WorkVerdict}
 use Rattle.private_store.specs.Limits.{is_quota}
-use Rattle.private_store.specs.Tables.{at, is_among}
 use Rattle.private_store.specs.Shape.{Shape, Change, not_begun, live, ended, unbegun}
 use Rattle.private_store.specs.Change.{refused, done, checked, sending, erasing}
 use Rattle.private_store.specs.Commands.{list, usage}
 use Rattle.private_store.specs.Events.{is_live, begin, requota, over, end_job_here, answer, work_of}
-use Rattle.private_store.specs.Step.{owned, commanded, step, is_used, reordered, order_after}
+use Rattle.private_store.specs.Step.{owned, commanded, step}
 use Rattle.private_store.specs.Kept.{IsOrderOfUse, IsShapeKept}
 use Rattle.private_store.proofs.Checks.{needing-none}
 use Rattle.private_store.proofs.KeptCopy.{true_false, false_true, not_false}
-use Rattle.private_store.proofs.KeptLists.{count-append, count-no, count-yes, count_none, count-filter}
-use Rattle.private_store.proofs.KeptRows.{IsLiveKept, to_live, from_live, same_both}
-use Rattle.private_store.proofs.KeptFold.{among-filter}
+use Rattle.private_store.proofs.KeptRows.{IsLiveKept, to_live, from_live}
 use Rattle.private_store.proofs.KeptStore.{Keeps, same_keeps, checked_keeps, check_keeps, checks_keep}
 use Rattle.private_store.proofs.KeptCommands.{write_keeps, seal_keeps, read_keeps, peek_keeps, release_keeps, unpin_keeps, borrow_keeps, give_up_keeps, delete_keeps, leave_keeps}
 use Rattle.private_store.proofs.KeptEndTask.{end_task_keeps}

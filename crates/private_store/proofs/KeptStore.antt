@@ -11,7 +11,7 @@ use Rattle.private_store.specs.Tables.{ById, at, with_entry}
 use Rattle.private_store.specs.Shape.{Copy, Shape, Change, Sending, WorkInFlight, HandGiven}
 use Rattle.private_store.specs.Copies.{in_scope}
 use Rattle.private_store.specs.Room.{set_copy, drop_copy}
-use Rattle.private_store.specs.Change.{done, checked, needing, sending, erasing, settled, doomed, doom}
+use Rattle.private_store.specs.Change.{done, checked, needing, sending, settled, doomed, doom}
 use Rattle.private_store.specs.Commands.{scoped}
 use Rattle.private_store.specs.Kept.{IsCopyKept, IsScopeKept, has_work, has_hand}
 use Rattle.private_store.proofs.Sound.{checked_has, needing_has}
@@ -88,9 +88,6 @@ pub record Keeps (c : Change) : Type 0 where
 pub sending_keeps : (sent : List Sending) (c : Change) → Keeps c → Keeps (sending sent c)
 unfolding sending
 sending_keeps sent c k = record { is = k.is }
-
-pub erasing_keeps : (store : Shape) (c : Change) → Keeps c → Keeps (erasing store c)
-erasing_keeps store c k = record { is = k.is }
 
 module _ {store : Shape} (h : IsLiveKept store) where
   pub same_keeps : (c : Change) → c.shape ≡ store → Keeps c
