@@ -25,3 +25,4 @@ pub mod KeptAnswers
 pub mod KeptHandsTaken
 pub mod KeptStep
 pub mod KeptView
+pub mod KeptTests
