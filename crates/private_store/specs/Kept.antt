@@ -1,13 +1,15 @@
 -- What every store keeps that came from an unbegun one by inputs, whatever they were: the invariants
 -- of a job's store.
-use Rattle.std.specs.Prelude.{◌≡◌, ℕ, ◌%◌, ◌≤◌, ◌<◌, ◌^◌, ◌==◌, nat_lt, nat_le, Bool, true, false, not, ◌||◌, ◌&&◌, List, [], length, count_by, Option, Some, None, is_some, is_none, IsTrue}
+use Rattle.std.specs.Prelude.{◌≡◌, ℕ, ◌%◌, ◌≤◌, ◌<◌, ◌^◌, ◌==◌, nat_lt, nat_le, Bool, true, false, not, ◌||◌, ◌&&◌, List, [], ◌∷◌, length, count_by, sum_by, Option, Some, None, is_some, is_none, IsTrue}
 use Rattle.std.specs.Option.{option_map_or}
 use Rattle.std.specs.List.{list_any, list_all}
 use Rattle.std.specs.Ordering.{nat_cmp}
 use Rattle.std.specs.FinMap.{is_sorted}
 use Rattle.obj_id.specs.declared.ids.TaskNo.{TaskNo}
 use Rattle.obj_id.specs.declared.ids.ObjectId.{ObjectId}
+use Rattle.obj_id.specs.declared.commands.Kind.{Kind}
 use Rattle.obj_id.specs.declared.commands.CopyState.{CopyState}
+use Rattle.obj_id.specs.declared.refusals.Refusal.{Refusal}
 use Rattle.obj_id.specs.declared.commands.CopyState.TheVariants.{Created, Sealed, Restoring, Fetching, Away}
 use Rattle.obj_id.specs.declared.works.Extent.{Extent}
 use Rattle.obj_id.specs.Ids.{id_cmp, same_id, same_task}
@@ -15,8 +17,8 @@ use Rattle.private_store.specs.Limits.{longest_object, most_copies, most_works, 
 use Rattle.private_store.specs.Tables.{at}
 use Rattle.private_store.specs.Extents.{end_of, is_apart}
 use Rattle.private_store.specs.Shape.{Copy, Shape, Phase, pulling, Fetch, WorkInFlight, HandGiven, Seen}
-use Rattle.private_store.specs.Copies.{is_primary, is_sealed, is_away, is_held, extent_of, device_used}
-use Rattle.private_store.specs.Commands.{all_holds, chunk_count}
+use Rattle.private_store.specs.Copies.{is_primary, is_sealed, is_away, extent_of, device_used}
+use Rattle.private_store.specs.Commands.{chunk_count}
 use Rattle.private_store.specs.Events.{is_live}
 use Rattle.private_store.specs.Contents.{Contents, bytes_at, digest_at, digest_of, keeps_digest}
 
@@ -63,43 +65,76 @@ are_gaps n (pulling source missing) =
     nat_lt 0 (length missing) && list_all (λ i. nat_lt i (chunk_count n)) missing && nat_lt 0 n && nat_le n longest_object
 are_gaps n _ = true
 
+-- whether there is a hold
+abbrev pub are_held : List (ℕ × ℕ) → Bool
+are_held [] = false
+are_held (_ ∷ _) = true
+
+-- where a copy is: in the window, on its way, or on the device alone
+pub record IsFormKept (state : CopyState) (kind : Kind) (n : ℕ) (offset : Option ℕ) (fetch : Option Fetch) : Type 0 where
+  -- it is resident in the states that have an extent
+  pub resident : is_some offset ≡ has_extent state fetch
+  -- it is in a fetch exactly while it is Fetching, and is a secondary then
+  pub in_fetch : is_some fetch ≡ is_fetching state
+  pub fetched : is_fetching state ≡ true → is_primary kind ≡ false
+  pub gaps : IsTrue (option_map_or (λ f. are_gaps n f.phase) fetch true)
+  -- all but fetches have bytes
+  pub sized : is_fetching state ≡ false → (0 < n) × (n ≤ longest_object)
+
+-- what the kind and the state of a copy leave to its other marks
+pub record AreMarksKept (state : CopyState) (kind : Kind) (pinned : Bool) (borrowers : List TaskNo) (backed : Option ℕ) (fault : Option Refusal) : Type 0 where
+  -- a secondary is neither pinned nor borrowed nor backed
+  pub secondary : is_primary kind ≡ false → (pinned ≡ false) × (borrowers ≡ []) × (backed ≡ None)
+  -- what is away, or comes back, is a backed primary
+  pub away : is_away state || is_restoring state ≡ true → (is_primary kind ≡ true) × (is_some backed ≡ true)
+  -- only what is away has a fault to tell of
+  pub faulty : is_some fault ≡ true → is_away state ≡ true
+
+pub record AreHoldsKept (state : CopyState) (holds : List (ℕ × ℕ)) : Type 0 where
+  -- what a session holds is sealed
+  pub held : are_held holds ≡ true → is_sealed state ≡ true
+  -- sessions by rising number, each with a hold at least
+  pub sessions : IsTrue (is_sorted nat_cmp holds && list_all (λ e. nat_lt 0 e.1) holds)
+  pub few_holds : sum_by (λ e. e.1) holds ≤ most_holds
+
+-- the works and the hands that stand on a copy
+pub record IsUseKept (works : List WorkInFlight) (given : List HandGiven) (id : ObjectId) (state : CopyState) (kind : Kind) (backed : Option ℕ) : Type 0 where
+  -- what this job granted is sealed, and a primary
+  pub granted : has_hand given id ≡ true → (is_sealed state ≡ true) × (is_primary kind ≡ true)
+  -- what is being spilled is a sealed primary that isn't backed
+  pub spilled : has_write works id ≡ true → (is_sealed state ≡ true) × (is_primary kind ≡ true) × (backed ≡ None)
+  -- what is being read back is Restoring
+  pub restored : has_read works id ≡ is_restoring state
+
+-- a copy under the tasks that have ended
+pub record IsScopeKept (ended : List TaskNo) (id : ObjectId) (doomed : Bool) (borrowers : List TaskNo) : Type 0 where
+  -- a task that has ended has no copies but doomed ones, and borrows nothing
+  pub of_live_task : doomed ≡ false → is_remembered ended id.task ≡ false
+  pub by_live_tasks : (task : TaskNo) → is_remembered borrowers task ≡ true → is_remembered ended task ≡ false
+  pub few_borrowers : length borrowers ≤ most_borrowers
+
 -- one copy of a job's store, under the job's works in flight, the hands that it gave and its ended tasks
 pub record IsCopyKept (job : ℕ) (works : List WorkInFlight) (given : List HandGiven) (ended : List TaskNo) (id : ObjectId) (copy : Copy) : Type 0 where
   -- a job's store has that job's objects alone
   pub own : id.job.0 ≡ job
-  -- it is resident in the states that have an extent
-  pub resident : is_some copy.offset ≡ has_extent copy.state copy.fetch
-  -- it is in a fetch exactly while it is Fetching, and is a secondary then
-  pub in_fetch : is_some copy.fetch ≡ is_fetching copy.state
-  pub fetched : is_fetching copy.state ≡ true → is_primary copy.kind ≡ false
-  pub gaps : IsTrue (option_map_or (λ f. are_gaps copy.length f.phase) copy.fetch true)
-  -- all but fetches have bytes
-  pub sized : is_fetching copy.state ≡ false → (0 < copy.length) × (copy.length ≤ longest_object)
-  -- a secondary is neither pinned nor borrowed nor backed
-  pub secondary : is_primary copy.kind ≡ false → (copy.pinned ≡ false) × (copy.borrowers ≡ []) × (copy.backed ≡ None)
-  -- what is away, or comes back, is a backed primary
-  pub away : is_away copy.state || is_restoring copy.state ≡ true → (is_primary copy.kind ≡ true) × (is_some copy.backed ≡ true)
-  -- what a session holds is sealed
-  pub held : is_held copy ≡ true → is_sealed copy.state ≡ true
-  -- what this job granted is sealed, and a primary
-  pub granted : has_hand given id ≡ true → (is_sealed copy.state ≡ true) × (is_primary copy.kind ≡ true)
-  -- what is being spilled is a sealed primary that isn't backed
-  pub spilled : has_write works id ≡ true → (is_sealed copy.state ≡ true) × (is_primary copy.kind ≡ true) × (copy.backed ≡ None)
-  -- what is being read back is Restoring
-  pub restored : has_read works id ≡ is_restoring copy.state
+  pub form : IsFormKept copy.state copy.kind copy.length copy.offset copy.fetch
+  pub open form use *
+  pub marks : AreMarksKept copy.state copy.kind copy.pinned copy.borrowers copy.backed copy.fault
+  pub open marks use *
+  pub holds : AreHoldsKept copy.state copy.holds
+  pub open holds use *
+  pub uses : IsUseKept works given id copy.state copy.kind copy.backed
+  pub open uses use *
+  pub scope : IsScopeKept ended id copy.doomed copy.borrowers
+  pub open scope use *
   -- what is doomed is kept by something
-  pub doomed : copy.doomed ≡ true → is_held copy || has_hand given id || has_work works id ≡ true
-  -- only what is away has a fault to tell of
-  pub faulty : is_some copy.fault ≡ true → is_away copy.state ≡ true
-  -- sessions by rising number, each with a hold at least
-  pub sessions : IsTrue (is_sorted nat_cmp copy.holds && list_all (λ e. nat_lt 0 e.1) copy.holds)
-  pub holds : all_holds copy ≤ most_holds
-  pub borrowers : length copy.borrowers ≤ most_borrowers
-  -- a task that has ended has no copies but doomed ones, and borrows nothing
-  pub of_live_task : copy.doomed ≡ false → is_remembered ended id.task ≡ false
-  pub by_live_tasks : (task : TaskNo) → is_remembered copy.borrowers task ≡ true → is_remembered ended task ≡ false
+  pub doomed : copy.doomed ≡ true → are_held copy.holds || has_hand given id || has_work works id ≡ true
 
 -- ---- the store without contents
+
+-- an order of use: no object stands in it twice
+abbrev pub IsOrderOfUse : List ObjectId → Type 0
+IsOrderOfUse order = (id : ObjectId) → count_by (same_id id) order ≤ 1
 
 pub record IsShapeKept (store : Shape) : Type 0 where
   -- a store that isn't live has nothing but what others granted
@@ -107,15 +142,16 @@ pub record IsShapeKept (store : Shape) : Type 0 where
   pub quota : is_live store ≡ true → is_quota store.quota ≡ true
   pub by_id : IsTrue (is_sorted id_cmp store.copies)
   pub each : (id : ObjectId) (copy : Copy) → at store.copies id ≡ Some copy → IsCopyKept store.job store.works store.given store.ended_tasks id copy
-  -- each work is of a copy, which has no other
-  pub works_of_copies : IsTrue (list_all (λ work. is_some (at store.copies work.id)) store.works)
+  -- no work is of an object that has no copy, and no copy has two
+  pub works_of_copies : (id : ObjectId) → at store.copies id ≡ None → has_work store.works id ≡ false
   pub one_work : (id : ObjectId) → count_by (λ work. same_id id work.id) store.works ≤ 1
   -- no work has a number that is still to come, or another's
   pub numbers_used : IsTrue (list_all (λ work. nat_lt 0 work.number && nat_le work.number store.works_asked) store.works)
   pub one_number : (n : ℕ) → count_by (λ work. work.number == n) store.works ≤ 1
   pub numbers_end : (store.works_asked < 2 ^ 64) × (store.fetches_begun < 2 ^ 64)
-  -- a hand of an own object hangs on nothing, and the object has a copy
-  pub own_hands : IsTrue (list_all (λ hand. not (hand.id.job.0 == store.job) || (is_some (at store.copies hand.id) && is_none hand.hangs_on)) store.given)
+  -- no hand is of an own object that has no copy, and a hand of an own object hangs on nothing
+  pub hands_of_copies : (id : ObjectId) → id.job.0 ≡ store.job → at store.copies id ≡ None → has_hand store.given id ≡ false
+  pub own_hands : IsTrue (list_all (λ hand. not (hand.id.job.0 == store.job) || is_none hand.hangs_on) store.given)
   pub most_copies : length store.copies ≤ most_copies
   pub most_works : length store.works ≤ most_works
   pub most_hands : length store.given ≤ most_hands
