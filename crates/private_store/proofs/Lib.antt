@@ -36,3 +36,4 @@ pub mod KeptHandsTaken
 pub mod KeptStep
 pub mod KeptView
 pub mod KeptTests
+pub mod NumbersRise

@@ -13,6 +13,8 @@ use Rattle.obj_id.specs.declared.refusals.Refusal.{Refusal}
 use Rattle.obj_id.specs.declared.commands.CopyState.TheVariants.{Created, Sealed, Restoring, Fetching, Away}
 use Rattle.obj_id.specs.declared.works.Extent.{Extent}
 use Rattle.obj_id.specs.Ids.{id_cmp, same_id, same_task}
+use Rattle.private_store.specs.declared.inputs.Judged.{Judged}
+use Rattle.private_store.specs.declared.inputs.Judged.TheVariants as judged
 use Rattle.private_store.specs.Limits.{longest_object, most_copies, most_works, most_holds, most_borrowers, most_hands, most_ended_tasks, is_quota}
 use Rattle.private_store.specs.Tables.{at}
 use Rattle.private_store.specs.Extents.{end_of, is_apart}
@@ -194,3 +196,14 @@ pub record IsKept (store : Shape) (contents : Contents) : Type 0 where
   pub extents : AreExtentsKept store
   pub device : IsDeviceKept store
   pub filled : AreContentsKept store contents
+
+-- ---- over a step
+
+-- no number of a work or a fetch is used again
+pub record NumbersRise (store after : Shape) : Type 0 where
+  pub works : store.works_asked ≤ after.works_asked
+  pub fetches : store.fetches_begun ≤ after.fetches_begun
+
+abbrev pub is_end : Judged → Bool
+is_end judged.End = true
+is_end _ = false
