@@ -1,5 +1,5 @@
 -- D3: first fit gives the least multiple of 16 that is free, or none where none is.
-use Rattle.std.proofs.Common.{◌≡◌, ℕ, zero, suc, ◌+◌, ◌*◌, ◌<◌, ◌≤◌, true, false, List, Some, None, is_some, unwrap_or, refl, sym, ap, subst, ◌∙◌, T, arith}
+use Rattle.std.proofs.Common.{◌≡◌, ℕ, zero, suc, ◌+◌, ◌*◌, ◌%◌, ◌<◌, ◌≤◌, true, false, List, Some, None, is_some, unwrap_or, refl, sym, ap, subst, ◌∙◌, T, arith}
 use Rattle.obj_id.specs.declared.works.Extent.{Extent}
 use Rattle.private_store.specs.Extents.{is_free, first_from}
 
@@ -12,14 +12,27 @@ none_some x e = absurd (subst T (ap is_some (sym e)) tt)
 true_false : {B : Type 0} → true ≡ false → B
 true_false e = absurd (subst T e tt)
 
+next_unit : (n : ℕ) → n % 16 ≡ 0 → (n + 16) % 16 ≡ 0
+next_unit n u = omega arith
+
 module _ (extents : List Extent) (window n : ℕ) where
-  from-free : (offset k p : ℕ) → first_from extents window n offset k ≡ Some p → is_free extents window n p ≡ true
+  -- what is found is free
+  pub from-free : (offset k p : ℕ) → first_from extents window n offset k ≡ Some p → is_free extents window n p ≡ true
   from-free offset zero p e = none_some p e
   from-free offset (suc k) p e =
       elim (is_free extents window n offset) as (λ b. is_free extents window n offset ≡ b → elim b [ true ↦ Some offset | false ↦ first_from extents window n (offset + 16) k ] ≡ Some p → is_free extents window n p ≡ true) [
         | true ↦ λ t e. subst (λ x. is_free extents window n x ≡ true) (some_value offset p e) t
         | false ↦ λ _ e. from-free (offset + 16) k p e
       ] refl e
+
+  -- and a whole number of units from where the search began
+  pub from-units : (offset k p : ℕ) → offset % 16 ≡ 0 → first_from extents window n offset k ≡ Some p → p % 16 ≡ 0
+  from-units offset zero p u e = none_some p e
+  from-units offset (suc k) p u e =
+      elim (is_free extents window n offset) as (λ b. elim b [ true ↦ Some offset | false ↦ first_from extents window n (offset + 16) k ] ≡ Some p → p % 16 ≡ 0) [
+        | true ↦ λ e. ap (λ x. x % 16) (sym (some_value offset p e)) ∙ u
+        | false ↦ λ e. from-units (offset + 16) k p (next_unit offset u) e
+      ] e
 
   -- a free place within reach is found, at or before it
   from-least : (offset k i : ℕ) → i < k → is_free extents window n (offset + 16 * i) ≡ true

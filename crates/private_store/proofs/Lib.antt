@@ -2,6 +2,8 @@ pub mod Checks
 pub mod Stamps
 pub mod FirstFit
 pub mod Sound
+pub mod Rows
+pub mod Clearing
 pub mod Stamped
 pub mod Runs
 pub mod ExampleWords
