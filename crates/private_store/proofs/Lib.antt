@@ -4,6 +4,7 @@ pub mod FirstFit
 pub mod Sound
 pub mod Rows
 pub mod Clearing
+pub mod CalmSteps
 pub mod Stamped
 pub mod Runs
 pub mod ExampleWords

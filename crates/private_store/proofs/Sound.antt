@@ -189,13 +189,13 @@ sound_put {old} {mid} id copy order h = record {
   there = ap is_some (find-put id_cmp id_cmp-IsTotalOrder id id copy mid) ∙ ap (λ r. is_some (cond (is_eq r) (Some copy) (at mid id))) (tied_itself id_cmp-IsTotalOrder id);
 }
 
-checked_has : (P : Change → Type 0) (store : Shape) (checks : List (Bool × Refusal)) (rest : Change) → ((r : Refusal) → P (refused store r)) → P rest → P (checked store checks rest)
+pub checked_has : (P : Change → Type 0) (store : Shape) (checks : List (Bool × Refusal)) (rest : Change) → ((r : Refusal) → P (refused store r)) → P rest → P (checked store checks rest)
 unfolding checked
 checked_has P store [] rest h k = k
 checked_has P store (check ∷ checks) rest h k =
     elim check.0 as (λ b. P (cond b (refused store check.1) (checked store checks rest))) [ true ↦ h check.1 | false ↦ checked_has P store checks rest h k ]
 
-needing_has : {X : Type 0} (P : Change → Type 0) (store : Shape) (o : Option X) (r : Refusal) (f : X → Change) → P (refused store r) → ((x : X) → o ≡ Some x → P (f x)) → P (needing store o r f)
+pub needing_has : {X : Type 0} (P : Change → Type 0) (store : Shape) (o : Option X) (r : Refusal) (f : X → Change) → P (refused store r) → ((x : X) → o ≡ Some x → P (f x)) → P (needing store o r f)
 unfolding needing
 needing_has P store None r f h k = h
 needing_has P store (Some x) r f h k = k x refl
