@@ -53,7 +53,7 @@ not_same table id q x none e =
       | false ↦ λ _. refl
     ] refl
 
-not_same_back : (id q : ObjectId) → same_id id q ≡ false → same_id q id ≡ false
+pub not_same_back : (id q : ObjectId) → same_id id q ≡ false → same_id q id ≡ false
 not_same_back id q f =
     elim (same_id q id) as (λ b. same_id q id ≡ b → b ≡ false) [
       | true ↦ λ t. true_false (sym f ∙ ap (same_id id) (same_is q id t) ∙ same_self id)

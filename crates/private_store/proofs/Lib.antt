@@ -5,6 +5,8 @@ pub mod Sound
 pub mod Rows
 pub mod Clearing
 pub mod CalmSteps
+pub mod Turns
+pub mod StepTurns
 pub mod Stamped
 pub mod Runs
 pub mod ExampleWords
