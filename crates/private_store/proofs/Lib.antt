@@ -7,6 +7,7 @@ pub mod Clearing
 pub mod CalmSteps
 pub mod Turns
 pub mod StepTurns
+pub mod ExtentsKept
 pub mod Stamped
 pub mod Runs
 pub mod ExampleWords
