@@ -16,7 +16,7 @@ use Rattle.private_store.specs.Kept.{IsShapeKept, AreExtentsKept, is_placed, are
 use Rattle.private_store.proofs.Rows.{true_false, same_is, same_self, IsTame, Tame}
 use Rattle.private_store.proofs.Clearing.{all_extents, extent_at}
 use Rattle.private_store.proofs.Turns.{Stands, nowhere, fresh, same, Puts, Turn, calm, spills, puts, requotas, empties, receives, IsTurn}
-use Rattle.private_store.proofs.StepTurns.{step_turn}
+use Rattle.private_store.proofs.StepTurns.{step_turn, all_may}
 
 none_some : {A : Type 0} {B : Type 0} (x : A) → None ≡ Some x → B
 none_some x e = absurd (subst T (ap is_some (sym e)) tt)
@@ -134,7 +134,7 @@ rewindow store window within fit = record {
   apart = fit.apart;
 }
 
-module _ (s : Bool) (store : Shape) (fit : Fit store.quota.window store.copies) where
+module _ (s : ObjectId → Bool) (store : Shape) (fit : Fit store.quota.window store.copies) where
   put_fit : (copies : ById Copy) (quota : Quota) (id : ObjectId) (d : Copy) → at copies id ≡ Some d → ((q : ObjectId) → same_id q id ≡ false → Tame (at store.copies q) (at copies q)) → Stands s store copies id d → Fit store.quota.window copies
   put_fit copies quota id d here others stands = by_stand stands
     where
@@ -172,7 +172,7 @@ module _ (s : Bool) (store : Shape) (fit : Fit store.quota.window store.copies) 
 -- extents stay apart, and within the window
 pub extents_keep : (order : List ObjectId) (store : Shape) (x : Judged) → IsShapeKept store → AreExtentsKept store → AreExtentsKept (step order store x).shape
 extents_keep order store x shape kept =
-    let fit = turn_fit true store (record { placed = kept.placed; apart = kept.apart }) (step order store x) (step_turn true store shape order x (λ _. refl)) in
+    let fit = turn_fit (λ _. true) store (record { placed = kept.placed; apart = kept.apart }) (step order store x) (step_turn (λ _. true) store shape order x (all_may store x)) in
     record { placed = fit.placed; apart = fit.apart }
 
 pub unbegun_extents : (job : ℕ) → AreExtentsKept (unbegun job)

@@ -87,22 +87,38 @@ module _ (store : Shape) (sh : IsShapeKept store) (id : ObjectId) (copy : Copy) 
         | false ↦ λ _. refl
       ] refl
 
--- ---- what may seal a copy, or brings what another job granted
+-- ---- which copies a step may seal
 
-abbrev pub is_seal : Command ℕ → Bool
-is_seal (command.Seal id) = true
-is_seal _ = false
+abbrev pub Seals : (ObjectId → Bool) → Command ℕ → Type 0
+Seals s (command.Seal id) = s id ≡ true
+Seals s _ = Unit {0}
 
-abbrev pub fills : Judged → Bool
-fills (judged.Call session c) = is_seal c
-fills (judged.Answer number verdict) = true
-fills (judged.Chunk id number index from verdict) = true
-fills (judged.Received id n giver depth) = true
-fills _ = false
+-- the copy whose bytes were read back rightly
+abbrev pub ReadsBack : (ObjectId → Bool) → Shape → ℕ → WorkVerdict → Type 0
+ReadsBack s store number work.Fine = (w : WorkInFlight) → work_of store number ≡ Some w → w.writes ≡ false → s w.id ≡ true
+ReadsBack s store number _ = Unit {0}
+
+abbrev pub is_taken : ChunkVerdict → Bool
+is_taken chunk.Part = true
+is_taken chunk.Whole = true
+is_taken _ = false
+
+-- the fetch of which a chunk leaves nothing missing
+abbrev pub Completes : (ObjectId → Bool) → Shape → ObjectId → ℕ → ℕ → ChunkVerdict → Type 0
+Completes s store id number index verdict =
+    (p : Copy × Fetch) (source : ℕ) (missing : List ℕ) → fetch_of store id number ≡ Some p → p.1.phase ≡ pulling source missing → filter (λ i. not (i == index)) missing ≡ [] → is_taken verdict ≡ true → s id ≡ true
+
+-- s has the copies that the step may seal, and all where it brings what another job granted
+abbrev pub MaySeal : (ObjectId → Bool) → Shape → Judged → Type 0
+MaySeal s store (judged.Call session c) = Seals s c
+MaySeal s store (judged.Answer number verdict) = ReadsBack s store number verdict
+MaySeal s store (judged.Chunk id number index from verdict) = Completes s store id number index verdict
+MaySeal s store (judged.Received id n giver depth) = (id : ObjectId) → s id ≡ true
+MaySeal s store _ = Unit {0}
 
 -- ---- the frames of a change
 
-module _ (s : Bool) (store : Shape) where
+module _ (s : ObjectId → Bool) (store : Shape) where
   abbrev Goes : Change → Type 0
   Goes c = IsTurn s store c
 
@@ -142,7 +158,7 @@ module _ (s : Bool) (store : Shape) where
 
 -- ---- commands and messages that place no seal
 
-module _ (s : Bool) (store : Shape) (sh : IsShapeKept store) where
+module _ (s : ObjectId → Bool) (store : Shape) (sh : IsShapeKept store) where
   no_copy : (id : ObjectId) → is_some (at store.copies id) ≡ false → at store.copies id ≡ None
   no_copy id e = some_or_none (at store.copies id) e
 
@@ -225,8 +241,8 @@ module _ (s : Bool) (store : Shape) (sh : IsShapeKept store) where
         | Some copy ↦ λ e. checked_turn s store _ _ (λ _. get_copy_turn order session id copy copy.state e refl)
       ] refl)
 
-  seal_turn : s ≡ true → (id : ObjectId) → IsTurn s store (seal store id)
-  seal_turn t id =
+  seal_turn : (id : ObjectId) → s id ≡ true → IsTurn s store (seal store id)
+  seal_turn id t =
       needing_turn s store _ _ _ (λ copy v. checked_turn s store _ _ (λ _.
       let e = visible_at store id copy v in
       let d : Copy = record copy { state = Sealed } in
@@ -238,10 +254,10 @@ module _ (s : Bool) (store : Shape) (sh : IsShapeKept store) where
   owned_turn : (id : ObjectId) (c : Change) → IsTurn s store c → IsTurn s store (owned store id c)
   owned_turn id c k = checked_turn s store _ _ (λ _. k)
 
-  commanded_turn : (order : List ObjectId) (session : ℕ) (c : Command ℕ) → (is_seal c ≡ true → s ≡ true) → IsTurn s store (commanded order store session c)
+  commanded_turn : (order : List ObjectId) (session : ℕ) (c : Command ℕ) → Seals s c → IsTurn s store (commanded order store session c)
   commanded_turn order session (command.Create id kind n) t = owned_turn id _ (create_turn order id kind n)
   commanded_turn order session (command.Write id offset n) t = owned_turn id _ (calm_turn s store _ (write_calm store id offset n))
-  commanded_turn order session (command.Seal id) t = owned_turn id _ (seal_turn (t refl) id)
+  commanded_turn order session (command.Seal id) t = owned_turn id _ (seal_turn id t)
   commanded_turn order session (command.Get id) t = owned_turn id _ (get_turn order session id)
   commanded_turn order session (command.Read id offset n) t = owned_turn id _ (calm_turn s store _ (read_calm store session id offset n))
   commanded_turn order session (command.Release id) t = owned_turn id _ (calm_turn s store _ (release_calm store session id))
@@ -294,26 +310,26 @@ module _ (s : Bool) (store : Shape) (sh : IsShapeKept store) where
   written_turn number w copy work.Fine e h = record { is = (backed_turn number w copy e h).is }
   written_turn number w copy work.Damaged e h = record { is = (backed_turn number w copy e h).is }
 
-  read_turn : s ≡ true → (number : ℕ) (w : WorkInFlight) (copy : Copy) (verdict : WorkVerdict) → at store.copies w.id ≡ Some copy
+  read_turn : (number : ℕ) (w : WorkInFlight) (copy : Copy) (verdict : WorkVerdict) → ReadsBack s store number verdict → work_of store number ≡ Some w → w.writes ≡ false → at store.copies w.id ≡ Some copy
       → IsTurn s store (done (settled (set_copy (without_work store number) w.id (read_back copy verdict)) w.id))
-  read_turn t number w copy work.Fine e =
+  read_turn number w copy work.Fine t is reads e =
       let rest = without_work store number in
       let d : Copy = record copy { state = Sealed } in
       settled_turn rest w.id d (quiet_rest number) (put_turn s store rest rest.works w.id d (quiet_rest number) (λ q h. h)
       (known_weight rest.works w.id copy d ((quiet_rest number).writes w.id) e refl refl)
-      (same copy e refl refl (λ f. true_false (sym f ∙ t))))
-  read_turn t number w copy work.Failed e =
+      (same copy e refl refl (λ f. true_false (sym f ∙ t w is reads))))
+  read_turn number w copy work.Failed t is reads e =
       record { is = calm (quiet_settled store (set_copy (without_work store number) w.id (read_back copy work.Failed)) w.id (quiet_put store (without_work store number) w.id copy (read_back copy work.Failed) (quiet_rest number) e (record { length = refl; backed = refl; stands = inr (refl, refl) }))) }
-  read_turn t number w copy work.Damaged e =
+  read_turn number w copy work.Damaged t is reads e =
       record { is = calm (quiet_settled store (set_copy (without_work store number) w.id (read_back copy work.Damaged)) w.id (quiet_put store (without_work store number) w.id copy (read_back copy work.Damaged) (quiet_rest number) e (record { length = refl; backed = refl; stands = inr (refl, refl) }))) }
 
-  answer_turn : s ≡ true → (number : ℕ) (verdict : WorkVerdict) → IsTurn s store (answer store number verdict)
-  answer_turn t number verdict =
+  answer_turn : (number : ℕ) (verdict : WorkVerdict) → ReadsBack s store number verdict → IsTurn s store (answer store number verdict)
+  answer_turn number verdict t =
       needing_turn s store _ _ _ (λ w is. needing_turn s store _ _ _ (λ copy e.
       let rest = without_work store number in
       elim w.writes as (λ b. w.writes ≡ b → IsTurn s store (cond b (written rest w copy verdict) (erasing rest (done (settled (set_copy rest w.id (read_back copy verdict)) w.id))))) [
         | true ↦ λ writes. written_turn number w copy verdict e (found_any (λ work. work.number == number) (λ work. same_id w.id work.id && work.writes) store.works w is (ap (λ b. b && w.writes) (same_self w.id) ∙ writes))
-        | false ↦ λ _. record { is = (read_turn t number w copy verdict e).is }
+        | false ↦ λ reads. record { is = (read_turn number w copy verdict t is reads e).is }
       ] refl))
 
 -- ---- messages
@@ -333,16 +349,16 @@ fetch_found store id number p e = by_copy (at store.copies id) e
     by_copy None e = none_some p e
     by_copy (Some copy) e = by_fetch copy copy.fetch refl e
 
-module _ (s : Bool) (store : Shape) (sh : IsShapeKept store) where
-  with_fetch_turn : (id : ObjectId) (number : ℕ) (f : Copy → Fetch → Change) → ((copy : Copy) (fetch : Fetch) → at store.copies id ≡ Some copy → copy.fetch ≡ Some fetch → IsTurn s store (f copy fetch)) → IsTurn s store (with_fetch store id number f)
+module _ (s : ObjectId → Bool) (store : Shape) (sh : IsShapeKept store) where
+  with_fetch_turn : (id : ObjectId) (number : ℕ) (f : Copy → Fetch → Change) → ((copy : Copy) (fetch : Fetch) → fetch_of store id number ≡ Some (copy, fetch) → at store.copies id ≡ Some copy → copy.fetch ≡ Some fetch → IsTurn s store (f copy fetch)) → IsTurn s store (with_fetch store id number f)
   with_fetch_turn id number f k =
       elim (fetch_of store id number) as (λ o. fetch_of store id number ≡ o → IsTurn s store (option_map_or (λ p. f p.0 p.1) o (done store))) [
         | None ↦ λ _. at_rest s store (done store) (quiet_stays store)
-        | Some p ↦ λ e. let found = fetch_found store id number p e in k p.0 p.1 found.0 found.1
+        | Some p ↦ λ e. let found = fetch_found store id number p e in k p.0 p.1 e found.0 found.1
       ] refl
 
   located_turn : (id : ObjectId) (number : ℕ) (source : Option Source) → IsTurn s store (located store id number source)
-  located_turn id number source = with_fetch_turn id number _ (λ copy fetch e f. by_phase copy fetch fetch.phase e f refl)
+  located_turn id number source = with_fetch_turn id number _ (λ copy fetch is e f. by_phase copy fetch fetch.phase e f refl)
     where
       placeless : (copy : Copy) (fetch : Fetch) (source : Option Source) → copy.offset ≡ None → (located_copy copy fetch source).offset ≡ None
       placeless copy fetch None e = e
@@ -368,44 +384,44 @@ module _ (s : Bool) (store : Shape) (sh : IsShapeKept store) where
       quiet_set store id copy (record copy { offset = None; fetch = Some (record fetch { phase = failed refusal }) }) e
       (record { length = refl; backed = refl; stands = inr (refl, fetching_unsealed store sh id copy e (fetch_fetching store sh id copy e fetch f)) })
 
-  chunk_taken_turn : s ≡ true → (id : ObjectId) (copy : Copy) (fetch : Fetch) (source : ℕ) (missing : List ℕ) (verdict : ChunkVerdict) → at store.copies id ≡ Some copy → copy.fetch ≡ Some fetch → IsTurn s store (chunk_taken store id copy fetch source missing verdict)
-  chunk_taken_turn t id copy fetch source missing verdict e f = by_verdict missing verdict
+  chunk_taken_turn : (id : ObjectId) (copy : Copy) (fetch : Fetch) (source : ℕ) (missing : List ℕ) (verdict : ChunkVerdict) → (missing ≡ [] → is_taken verdict ≡ true → s id ≡ true) → at store.copies id ≡ Some copy → copy.fetch ≡ Some fetch → IsTurn s store (chunk_taken store id copy fetch source missing verdict)
+  chunk_taken_turn id copy fetch source missing verdict t e f = by_verdict missing verdict t
     where
       gap : (missing : List ℕ) → IsTurn s store (done (set_phase store id copy fetch (pulling source missing)))
       gap missing = record { is = calm (marked store id copy (record copy { fetch = Some (record fetch { phase = pulling source missing }) }) e refl refl refl refl) }
-      whole : IsTurn s store (done (set_copy store id (record copy { state = Sealed; fetch = None })))
-      whole =
+      whole : s id ≡ true → IsTurn s store (done (set_copy store id (record copy { state = Sealed; fetch = None })))
+      whole t =
           let d : Copy = record copy { state = Sealed; fetch = None } in
           record { is = puts id d (put_turn s store store store.works id d (quiet_stays store) (λ q w. w)
           (subst (λ o. weight store.works id d ≤ weight_of store.works id o) (sym e) (weight_same store.works store.works id copy d refl refl (λ w. w)))
           (same copy e refl refl (λ h. true_false (sym h ∙ t)))) }
-      by_verdict : (missing : List ℕ) (verdict : ChunkVerdict) → IsTurn s store (chunk_taken store id copy fetch source missing verdict)
-      by_verdict missing chunk.Ignored = at_rest s store (done store) (quiet_stays store)
-      by_verdict (i ∷ missing) chunk.Part = gap (i ∷ missing)
-      by_verdict (i ∷ missing) chunk.Whole = gap (i ∷ missing)
-      by_verdict (i ∷ missing) chunk.Damaged = gap (i ∷ missing)
-      by_verdict [] chunk.Part = sending_turn s store _ _ whole
-      by_verdict [] chunk.Whole = sending_turn s store _ _ whole
-      by_verdict [] chunk.Damaged = at_rest s store (done (fetch_failed store id copy fetch Damaged)) (failed_quiet id copy fetch Damaged e f)
+      by_verdict : (missing : List ℕ) (verdict : ChunkVerdict) → (missing ≡ [] → is_taken verdict ≡ true → s id ≡ true) → IsTurn s store (chunk_taken store id copy fetch source missing verdict)
+      by_verdict missing chunk.Ignored t = at_rest s store (done store) (quiet_stays store)
+      by_verdict (i ∷ missing) chunk.Part t = gap (i ∷ missing)
+      by_verdict (i ∷ missing) chunk.Whole t = gap (i ∷ missing)
+      by_verdict (i ∷ missing) chunk.Damaged t = gap (i ∷ missing)
+      by_verdict [] chunk.Part t = sending_turn s store _ _ (whole (t refl refl))
+      by_verdict [] chunk.Whole t = sending_turn s store _ _ (whole (t refl refl))
+      by_verdict [] chunk.Damaged t = at_rest s store (done (fetch_failed store id copy fetch Damaged)) (failed_quiet id copy fetch Damaged e f)
 
-  chunk_turn : s ≡ true → (id : ObjectId) (number index from : ℕ) (verdict : ChunkVerdict) → IsTurn s store (chunk_arrived store id number index from verdict)
-  chunk_turn t id number index from verdict = with_fetch_turn id number _ (λ copy fetch e f. by_phase copy fetch fetch.phase e f)
+  chunk_turn : (id : ObjectId) (number index from : ℕ) (verdict : ChunkVerdict) → Completes s store id number index verdict → IsTurn s store (chunk_arrived store id number index from verdict)
+  chunk_turn id number index from verdict t = with_fetch_turn id number _ (λ copy fetch is e f. by_phase copy fetch fetch.phase is e f refl)
     where
-      by_phase : (copy : Copy) (fetch : Fetch) (phase : Phase) → at store.copies id ≡ Some copy → copy.fetch ≡ Some fetch → IsTurn s store (elim phase [
+      by_phase : (copy : Copy) (fetch : Fetch) (phase : Phase) → fetch_of store id number ≡ Some (copy, fetch) → at store.copies id ≡ Some copy → copy.fetch ≡ Some fetch → fetch.phase ≡ phase → IsTurn s store (elim phase [
         | pulling source missing ↦ cond (from == source && is_missing missing index) (chunk_taken store id copy fetch source (filter (λ i. not (i == index)) missing) verdict) (done store)
         | _ ↦ done store
       ])
-      by_phase copy fetch locating e f = at_rest s store (done store) (quiet_stays store)
-      by_phase copy fetch (sized _) e f = at_rest s store (done store) (quiet_stays store)
-      by_phase copy fetch (failed _) e f = at_rest s store (done store) (quiet_stays store)
-      by_phase copy fetch (pulling source missing) e f =
+      by_phase copy fetch locating is e f p = at_rest s store (done store) (quiet_stays store)
+      by_phase copy fetch (sized _) is e f p = at_rest s store (done store) (quiet_stays store)
+      by_phase copy fetch (failed _) is e f p = at_rest s store (done store) (quiet_stays store)
+      by_phase copy fetch (pulling source missing) is e f p =
           elim (from == source && is_missing missing index) as (λ b. IsTurn s store (cond b (chunk_taken store id copy fetch source (filter (λ i. not (i == index)) missing) verdict) (done store))) [
-            | true ↦ chunk_taken_turn t id copy fetch source (filter (λ i. not (i == index)) missing) verdict e f
+            | true ↦ chunk_taken_turn id copy fetch source (filter (λ i. not (i == index)) missing) verdict (t (copy, fetch) source missing is p) e f
             | false ↦ at_rest s store (done store) (quiet_stays store)
           ]
 
   not_here_turn : (id : ObjectId) (number from : ℕ) → IsTurn s store (not_here_arrived store id number from)
-  not_here_turn id number from = with_fetch_turn id number _ (λ copy fetch e f. by_phase copy fetch fetch.phase e f)
+  not_here_turn id number from = with_fetch_turn id number _ (λ copy fetch is e f. by_phase copy fetch fetch.phase e f)
     where
       by_phase : (copy : Copy) (fetch : Fetch) (phase : Phase) → at store.copies id ≡ Some copy → copy.fetch ≡ Some fetch → IsTurn s store (elim phase [
         | pulling source missing ↦ cond (from == source) (sending (remove_source id source ∷ []) (done (fetch_failed store id copy fetch Absent))) (done store)
@@ -472,15 +488,37 @@ module _ (s : Bool) (store : Shape) (sh : IsShapeKept store) where
   if_live_turn : (c : Change) → IsTurn s store c → IsTurn s store (if_live store c)
   if_live_turn c k = checked_turn s store _ _ (λ _. k)
 
-  pub step_turn : (order : List ObjectId) (x : Judged) → (fills x ≡ true → s ≡ true) → IsTurn s store (step order store x)
+  pub step_turn : (order : List ObjectId) (x : Judged) → MaySeal s store x → IsTurn s store (step order store x)
   step_turn order (judged.Begin quota) t = begin_turn quota
   step_turn order (judged.Requota quota) t = if_live_turn _ (requota_turn quota)
   step_turn order (judged.Call session c) t = checked_turn s store _ _ (λ _. erasing_turn s store store (commanded order store session c) (commanded_turn s store sh order session c t))
-  step_turn order (judged.Answer number verdict) t = answer_turn s store sh (t refl) number verdict
+  step_turn order (judged.Answer number verdict) t = answer_turn s store sh number verdict t
   step_turn order (judged.Located id number source) t = if_live_turn _ (located_turn id number source)
-  step_turn order (judged.Chunk id number index from verdict) t = if_live_turn _ (chunk_turn (t refl) id number index from verdict)
+  step_turn order (judged.Chunk id number index from verdict) t = if_live_turn _ (chunk_turn id number index from verdict t)
   step_turn order (judged.Pull id number matches) t = if_live_turn _ (pull_turn order id matches)
   step_turn order (judged.NotHere id number from) t = if_live_turn _ (not_here_turn id number from)
-  step_turn order (judged.Received id n giver depth) t = record { is = receives (t refl) refl refl refl }
+  step_turn order (judged.Received id n giver depth) t = record { is = receives t refl refl refl }
   step_turn order (judged.Withdrawn id giver depth) t = calm_turn s store _ (withdrawn_calm store id giver.0 depth)
   step_turn order judged.End t = if_live_turn _ (erasing_turn s store store (end_job_here store) end_turn)
+
+-- where all copies may be sealed
+pub all_may : (store : Shape) (x : Judged) → MaySeal (λ _. true) store x
+all_may store (judged.Begin quota) = tt
+all_may store (judged.Requota quota) = tt
+all_may store (judged.Call session c) = by_command c
+  where
+    by_command : (c : Command ℕ) → Seals (λ _. true) c
+    by_command (command.Seal id) = refl
+    by_command _ = tt
+all_may store (judged.Answer number verdict) = by_verdict verdict
+  where
+    by_verdict : (verdict : WorkVerdict) → ReadsBack (λ _. true) store number verdict
+    by_verdict work.Fine = λ w is reads. refl
+    by_verdict _ = tt
+all_may store (judged.Located id number source) = tt
+all_may store (judged.Chunk id number index from verdict) = λ p source missing is phase none taken. refl
+all_may store (judged.Pull id number matches) = tt
+all_may store (judged.NotHere id number from) = tt
+all_may store (judged.Received id n giver depth) = λ q. refl
+all_may store (judged.Withdrawn id giver depth) = tt
+all_may store judged.End = tt

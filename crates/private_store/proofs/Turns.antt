@@ -118,17 +118,17 @@ not_written works' works id h e = elim (has_write works' id) as (λ b. (b ≡ tr
 abbrev pub resident : Option Copy → Bool
 resident o = option_map_or (λ copy. is_some copy.offset) o false
 
--- where the copy stands: nowhere; at a place that was found for it; or where one stood, and then it was
--- sealed only in a step that may seal
-pub data Stands (s : Bool) (store : Shape) (copies : ById Copy) (id : ObjectId) (d : Copy) : Type 0 where
+-- where the copy stands: nowhere; at a place that was found for it; or where one stood, and then it is
+-- sealed by the step only if s says that it may be
+pub data Stands (s : ObjectId → Bool) (store : Shape) (copies : ById Copy) (id : ObjectId) (d : Copy) : Type 0 where
   nowhere : d.offset ≡ None → is_sealed d.state ≡ false → Stands s store copies id d
   fresh : (offset : ℕ) → d.offset ≡ Some offset → is_sealed d.state ≡ false → resident (at store.copies id) ≡ false
       → is_placed store.quota.window (extent_at offset d.length) ≡ true
       → ((q : ObjectId) (c : Copy) → same_id q id ≡ false → at copies q ≡ Some c → are_apart (Some (extent_at offset d.length)) (extent_of c) ≡ true)
       → Stands s store copies id d
-  same : (c : Copy) → at store.copies id ≡ Some c → d.length ≡ c.length → d.offset ≡ c.offset → (s ≡ false → d.state ≡ c.state) → Stands s store copies id d
+  same : (c : Copy) → at store.copies id ≡ Some c → d.length ≡ c.length → d.offset ≡ c.offset → (s id ≡ false → d.state ≡ c.state) → Stands s store copies id d
 
-pub record Puts (s : Bool) (store : Shape) (copies : ById Copy) (works : List WorkInFlight) (new_quota : Quota) (received : ById Seen) (id : ObjectId) (d : Copy) : Type 0 where
+pub record Puts (s : ObjectId → Bool) (store : Shape) (copies : ById Copy) (works : List WorkInFlight) (new_quota : Quota) (received : ById Seen) (id : ObjectId) (d : Copy) : Type 0 where
   pub others : (q : ObjectId) → same_id q id ≡ false → Tame (at store.copies q) (at copies q)
   pub here : at copies id ≡ Some d
   pub writes : (q : ObjectId) → has_write works q ≡ true → has_write store.works q ≡ true
@@ -139,18 +139,18 @@ pub record Puts (s : Bool) (store : Shape) (copies : ById Copy) (works : List Wo
 
 -- ---- a step
 
-pub data Turn (s : Bool) (store : Shape) (copies : ById Copy) (works : List WorkInFlight) (new_quota : Quota) (received : ById Seen) : Type 0 where
+pub data Turn (s : ObjectId → Bool) (store : Shape) (copies : ById Copy) (works : List WorkInFlight) (new_quota : Quota) (received : ById Seen) : Type 0 where
   calm : Quiet store (record store { copies = copies; works = works; quota = new_quota; received = received }) → Turn s store copies works new_quota received
   spills : Spills store copies works new_quota received → Turn s store copies works new_quota received
   puts : (id : ObjectId) (d : Copy) → Puts s store copies works new_quota received id d → Turn s store copies works new_quota received
   requotas : copies ≡ store.copies → works ≡ store.works → received ≡ store.received → fits_quota store new_quota ≡ true → Turn s store copies works new_quota received
   empties : copies ≡ [] → received ≡ store.received → Turn s store copies works new_quota received
-  receives : s ≡ true → copies ≡ store.copies → works ≡ store.works → new_quota ≡ store.quota → Turn s store copies works new_quota received
+  receives : ((id : ObjectId) → s id ≡ true) → copies ≡ store.copies → works ≡ store.works → new_quota ≡ store.quota → Turn s store copies works new_quota received
 
-pub record IsTurn (s : Bool) (store : Shape) (c : Change) : Type 0 where
+pub record IsTurn (s : ObjectId → Bool) (store : Shape) (c : Change) : Type 0 where
   pub is : Turn s store c.shape.copies c.shape.works c.shape.quota c.shape.received
 
-pub put_turn : (s : Bool) (store mid : Shape) (works : List WorkInFlight) (id : ObjectId) (d : Copy) → Quiet store mid → ((q : ObjectId) → has_write works q ≡ true → has_write mid.works q ≡ true)
+pub put_turn : (s : ObjectId → Bool) (store mid : Shape) (works : List WorkInFlight) (id : ObjectId) (d : Copy) → Quiet store mid → ((q : ObjectId) → has_write works q ≡ true → has_write mid.works q ≡ true)
     → weight works id d ≤ weight_of store.works id (at store.copies id) → Stands s store (with_entry mid.copies id d) id d
     → Puts s store (with_entry mid.copies id d) works mid.quota mid.received id d
 put_turn s store mid works id d quiet writes w stands = record {
@@ -164,7 +164,7 @@ put_turn s store mid works id d quiet writes w stands = record {
 }
 
 -- a copy stands where room was made for it
-pub placed_stands : (s : Bool) (store mid : Shape) (n offset : ℕ) (id : ObjectId) (d : Copy) → Cleared store mid n offset → d.length ≡ n → d.offset ≡ Some offset → is_sealed d.state ≡ false → resident (at store.copies id) ≡ false → Stands s store (with_entry mid.copies id d) id d
+pub placed_stands : (s : ObjectId → Bool) (store mid : Shape) (n offset : ℕ) (id : ObjectId) (d : Copy) → Cleared store mid n offset → d.length ≡ n → d.offset ≡ Some offset → is_sealed d.state ≡ false → resident (at store.copies id) ≡ false → Stands s store (with_entry mid.copies id d) id d
 placed_stands s store mid n offset id d room length place unsealed absent =
     fresh offset place unsealed absent
     (subst (λ m. is_placed store.quota.window (extent_at offset m) ≡ true) (sym length) room.placed)
