@@ -8,6 +8,9 @@ pub mod CalmSteps
 pub mod Turns
 pub mod StepTurns
 pub mod ExtentsKept
+pub mod Filling
+pub mod RowContents
+pub mod ContentsKept
 pub mod Stamped
 pub mod Runs
 pub mod ExampleWords
