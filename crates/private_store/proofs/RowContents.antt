@@ -67,8 +67,8 @@ module _ (s : ObjectId → Bool) (store : Shape) where
       by_turn (receives t is w q) = same_turns c.shape.copies is id d e
 
   -- where s leaves a copy out, the step brings nothing that another job granted
-  pub seen_turns : (c : Change) → IsTurn s store c → (other : ObjectId) → s other ≡ false → (id : ObjectId) → SeenRow (at store.received id) (at c.shape.received id)
-  seen_turns c k other left id = by_turn k.is
+  pub seen_turns : (c : Change) → IsTurn s store c → ((id : ObjectId) → (other : ObjectId) × (s other ≡ false)) → (id : ObjectId) → SeenRow (at store.received id) (at c.shape.received id)
+  seen_turns c k left id = by_turn k.is
     where
       stays : c.shape.received ≡ store.received → SeenRow (at store.received id) (at c.shape.received id)
       stays is = subst (λ t. SeenRow (at store.received id) (at t id)) (sym is) (seen_stays (at store.received id))
@@ -78,7 +78,7 @@ module _ (s : ObjectId → Bool) (store : Shape) where
       by_turn (puts q x p) = p.seen id
       by_turn (requotas is w r fit) = stays r
       by_turn (empties is r) = stays r
-      by_turn (receives t is w q) = true_false (sym left ∙ t other)
+      by_turn (receives t is w q) = true_false (sym (left id).1 ∙ t (left id).0)
 
 -- ---- lists of bytes
 
