@@ -106,7 +106,7 @@ module _ (store : Shape) (contents : Contents) (sh : IsShapeKept store) (h : Are
       by_state Fetching s = true_false s
       by_state Away s = true_false s
 
-  steady_bytes : (id : ObjectId) (c d : Copy) → at store.copies id ≡ Some c → d.length ≡ c.length → is_some c.offset ≡ true → filled (at contents.bytes id) d ≡ bytes_at contents.bytes id
+  pub steady_bytes : (id : ObjectId) (c d : Copy) → at store.copies id ≡ Some c → d.length ≡ c.length → is_some c.offset ≡ true → filled (at contents.bytes id) d ≡ bytes_at contents.bytes id
   steady_bytes id c d e length r = default_same (at contents.bytes id) d.length ((h.each id c e).bytes r ∙ sym length)
 
   -- a row for which nothing is brought

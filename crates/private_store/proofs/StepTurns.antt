@@ -241,14 +241,16 @@ module _ (s : ObjectId → Bool) (store : Shape) (sh : IsShapeKept store) where
         | Some copy ↦ λ e. checked_turn s store _ _ (λ _. get_copy_turn order session id copy copy.state e refl)
       ] refl)
 
-  seal_turn : (id : ObjectId) → s id ≡ true → IsTurn s store (seal store id)
-  seal_turn id t =
-      needing_turn s store _ _ _ (λ copy v. checked_turn s store _ _ (λ _.
-      let e = visible_at store id copy v in
+  -- the copy that stands there is sealed
+  pub sealing_turn : (id : ObjectId) (copy : Copy) → s id ≡ true → at store.copies id ≡ Some copy → IsTurn s store (done (set_copy store id (record copy { state = Sealed })))
+  sealing_turn id copy t e =
       let d : Copy = record copy { state = Sealed } in
-      sending_turn s store _ _ (record { is = puts id d (put_turn s store store store.works id d (quiet_stays store) (λ q w. w)
+      record { is = puts id d (put_turn s store store store.works id d (quiet_stays store) (λ q w. w)
       (known_weight store.works id copy d (λ w. w) e refl refl)
-      (same copy e refl refl (λ f. true_false (sym f ∙ t)))) })))
+      (same copy e refl refl (λ f. true_false (sym f ∙ t)))) }
+
+  seal_turn : (id : ObjectId) → s id ≡ true → IsTurn s store (seal store id)
+  seal_turn id t = needing_turn s store _ _ _ (λ copy v. checked_turn s store _ _ (λ _. sending_turn s store _ _ (sealing_turn id copy t (visible_at store id copy v))))
 
   -- a job's own object
   owned_turn : (id : ObjectId) (c : Change) → IsTurn s store c → IsTurn s store (owned store id c)
