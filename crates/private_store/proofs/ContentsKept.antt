@@ -1,6 +1,6 @@
 -- Each step keeps the contents of a job's store: each resident copy has its bytes, and each sealed copy the
 -- digest of its own.
-use Rattle.std.proofs.Common.{◌≡◌, ℕ, ◌+◌, ◌-◌, ◌*◌, ◌/◌, ◌≤◌, ◌<◌, min, nat_lt, nat_le, nat_eq, Bool, true, false, not, cond, ◌==◌, ◌&&◌, ◌||◌, inl, inr, List, [], ◌∷◌, length, filter, Option, Some, None, is_some, unwrap_or, option_map, refl, sym, ap, subst, ◌∙◌, T, arith}
+use Rattle.std.proofs.Common.{◌≡◌, ℕ, ◌+◌, ◌-◌, ◌*◌, ◌/◌, ◌≤◌, ◌<◌, min, nat_lt, nat_le, nat_eq, Bool, true, false, not, cond, ◌==◌, ◌&&◌, ◌||◌, inl, inr, List, [], ◌∷◌, ◌++◌, length, filter, Option, Some, None, is_some, unwrap_or, option_map, refl, sym, ap, subst, ◌∙◌, T, arith}
 use Rattle.std.specs.Option.{option_map_or, option_and_then}
 use Rattle.std.specs.List.{list_any, list_all}
 use Rattle.std.specs.FinMap.{is_sorted}
@@ -9,6 +9,7 @@ use Rattle.std.proofs.lemmas.Bool.{ltb-true, ltb-false}
 use Rattle.std.proofs.lemmas.Bool.Decides.{Decides-eqb}
 use Rattle.std.proofs.lemmas.Slice.Eq.{bytes_eq-Decides}
 use Rattle.obj_id.specs.declared.ids.ObjectId.{ObjectId}
+use Rattle.obj_id.specs.declared.ids.JobNo.{JobNo}
 use Rattle.obj_id.specs.declared.refusals.Refusal.{Refusal}
 use Rattle.obj_id.specs.declared.messages.Digest.{Digest}
 use Rattle.obj_id.specs.declared.messages.Location.{Location}
@@ -38,7 +39,7 @@ use Rattle.private_store.specs.Shape.{Sending, Copy, Shape, Change, Seen, Fetch,
 use Rattle.private_store.specs.Copies.{is_sealed, is_created}
 use Rattle.private_store.specs.Change.{refused, done, checked, erasing, sending}
 use Rattle.private_store.specs.Commands.{write, seal, chunk_count}
-use Rattle.private_store.specs.Events.{work_of, fetch_of, is_missing}
+use Rattle.private_store.specs.Events.{hands_of, work_of, fetch_of, is_missing}
 use Rattle.private_store.specs.Step.{step, owned}
 use Rattle.private_store.specs.Contents.{has_digest, is_read_back, work_verdict, read_verdict, write_verdict, chunk_verdict, pulled_verdict, gap_verdict, with_chunk, chunk_length, source_in, entry_elsewhere, is_locating, digest_located, peer_arrival, Contents, View, bytes_at, digest_at, digest_of, no_digest, overwritten, judge, brief, contents_after, bytes_brought, digest_brought, bytes_received, brought}
 use Rattle.private_store.specs.Private.{Store, view_of, private_step, no_store}
@@ -540,3 +541,53 @@ module _ (node : ℕ) (view : View) (sh : IsShapeKept view.shape) (h : AreConten
             | true ↦ by_entry p is (entry_elsewhere node entries)
             | false ↦ plain (judged.Located id number (source_in node entries)) tt
           ]
+
+  received_fills : (id : ObjectId) (bytes : List ℕ) (giver : JobNo) (depth : ℕ) → let x = input.Received id bytes giver depth in Fills node view x (judge node view x) (after (judge node view x))
+  received_fills id bytes giver depth = record {
+    is = refilled_kept (after (judged.Received id (length bytes) giver depth)).shape view.contents.bytes view.contents.digests (with_entry view.contents.received id bytes) in_order
+        (λ q d e. plain_filled view.shape view.contents sh h nothing q d refl (steady d e refl refl (λ _. refl)))
+        seen;
+  }
+    where
+      seen : (q : ObjectId) (was : Seen) → at (after (judged.Received id (length bytes) giver depth)).shape.received q ≡ Some was → length (bytes_at (with_entry view.contents.received id bytes) q) ≡ was.length
+      seen q was e =
+          let new : Seen = record { length = length bytes; hands = hands_of view.shape id ++ record { giver = giver.0; depth = depth } ∷ [] } in
+          ap (λ o. length (unwrap_or o [])) (at-put view.contents.received id bytes q)
+          ∙ elim (same_id q id) as (λ b. cond b (Some new) (at view.shape.received q) ≡ Some was → length (unwrap_or (cond b (Some bytes) (at view.contents.received q)) []) ≡ was.length) [
+            | true ↦ λ e. ap (λ x. x.length) (some_value new was e)
+            | false ↦ λ e. h.received q was e
+          ] (sym (at-put view.shape.received id new q) ∙ e)
+
+  -- ---- all
+
+  called_fills : (session : ℕ) (c : Command (List ℕ)) → let x = input.Call session c in Fills node view x (judge node view x) (after (judge node view x))
+  called_fills session (command.Write id offset bytes) = write_fills session id offset bytes
+  called_fills session (command.Seal id) = seal_fills session id
+  called_fills session c = record { is = plain (judged.Call session (brief c)) tt }
+
+  peer_fills : (from : ℕ) (m : PeerMessage) → let x = input.Arrive (arrival.FromPeer from m) in Fills node view x (judge node view x) (after (judge node view x))
+  peer_fills from (peer.Pull id number n digest indexes) = record { is = plain (peer_arrival view from (peer.Pull id number n digest indexes)) tt }
+  peer_fills from (peer.Chunk id number index bytes) = chunk_fills from id number index bytes (chunk_verdict view id number index bytes from) refl
+  peer_fills from (peer.NotHere id number) = record { is = plain (judged.NotHere id number from) tt }
+
+  fills : (x : Input) → Fills node view x (judge node view x) (after (judge node view x))
+  fills (input.Begin quota) = record { is = plain (judged.Begin quota) tt }
+  fills (input.Requota quota) = record { is = plain (judged.Requota quota) tt }
+  fills (input.Call session c) = called_fills session c
+  fills (input.Answer number a) = answer_fills number a
+  fills (input.Arrive (arrival.Located id number entries)) = located_fills id number entries
+  fills (input.Arrive (arrival.FromPeer from m)) = peer_fills from m
+  fills (input.Received id bytes giver depth) = received_fills id bytes giver depth
+  fills (input.Withdrawn id giver depth) = record { is = plain (judged.Withdrawn id giver depth) tt }
+  fills input.End = record { is = plain judged.End tt }
+
+-- the contents stay the copies' own
+pub contents_keep : (node : ℕ) (store : Store) (x : Input) → IsShapeKept store.shape → AreContentsKept store.shape store.contents → AreContentsKept (private_step node store x).shape (private_step node store x).contents
+contents_keep node store x shape kept = (fills node (view_of store) shape kept x).is
+
+pub no_contents_kept : (job : ℕ) → AreContentsKept (no_store job).shape (no_store job).contents
+no_contents_kept job = record {
+  each = λ id copy e. none_some copy e;
+  resident = λ id e. true_false e;
+  received = λ id seen e. none_some seen e;
+}
