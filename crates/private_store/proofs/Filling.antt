@@ -35,7 +35,7 @@ less_apart Equal h = absurd h
 less_apart Greater h = absurd h
 
 -- what is below all keys isn't among them
-below_none : {X : Type 0} (q : ObjectId) (es : ById X) → T (below_all id_cmp q es) → at es q ≡ None
+pub below_none : {X : Type 0} (q : ObjectId) (es : ById X) → T (below_all id_cmp q es) → at es q ≡ None
 below_none q [] h = refl
 below_none q (e ∷ es) h =
     ap (λ b. cond b (Some e.1) (at es q)) (less_apart (id_cmp q e.0) (both_left _ _ h)) ∙ below_none q es (both_right (is_lt (id_cmp q e.0)) _ h)

@@ -11,6 +11,7 @@ pub mod ExtentsKept
 pub mod Filling
 pub mod RowContents
 pub mod ContentsKept
+pub mod DeviceKept
 pub mod Stamped
 pub mod Runs
 pub mod ExampleWords
