@@ -1,28 +1,23 @@
 -- The changes that place, fill and seal nothing: each copy keeps its bytes or loses them.
-use Rattle.std.proofs.Common.{◌≡◌, ℕ, Bool, true, false, not, cond, ◌==◌, ◌&&◌, List, [], ◌∷◌, filter, fold, Option, Some, None, is_some, unwrap_or, inl, inr, refl, sym, ap, subst, ◌∙◌, T}
+use Rattle.std.proofs.Common.{◌≡◌, ℕ, Bool, true, false, not, cond, ◌==◌, List, [], ◌∷◌, filter, Option, Some, None, unwrap_or, inl, refl, sym, ap, subst}
 use Rattle.std.specs.Option.{option_map_or, option_and_then}
 use Rattle.std.specs.List.{list_any}
 use Rattle.obj_id.specs.declared.ids.ObjectId.{ObjectId}
 use Rattle.obj_id.specs.declared.ids.TaskNo.{TaskNo}
 use Rattle.obj_id.specs.declared.refusals.Refusal.{Refusal}
 use Rattle.private_store.specs.Tables.{at, ids_of, with_entry, without_entry}
-use Rattle.private_store.specs.Shape.{Copy, Shape, Change, Sending, Fetch, Seen, HandTaken}
+use Rattle.private_store.specs.Shape.{Copy, Shape, Change, Sending, Seen, HandTaken}
 use Rattle.private_store.specs.Copies.{visible, in_scope}
-use Rattle.private_store.specs.Room.{set_copy, drop_copy}
-use Rattle.private_store.specs.Change.{refused, done, checked, needing, sending, settled, doomed, doom}
+use Rattle.private_store.specs.Room.{set_copy}
+use Rattle.private_store.specs.Change.{done, checked, needing, sending, settled, doomed, doom}
 use Rattle.private_store.specs.Commands.{of_task, task_ended, scoped, give_up_one, leave_one, has_borrower, without_borrower, with_holds, grant_own, grant_foreign, at_each, then_change, write, read, release, unpin, borrow, give_up, delete, end_task, grant, withdraw, peek, leave}
-use Rattle.private_store.specs.Events.{withdrawn, is_hand, is_live, hand_ended, without_hand}
+use Rattle.private_store.specs.Events.{withdrawn, is_hand, hand_ended, without_hand}
+use Rattle.private_store.proofs.Tests.{none_some}
 use Rattle.private_store.proofs.Sound.{checked_has, needing_has}
-use Rattle.private_store.proofs.Rows.{IsTame, Tame, Quiet, SeenRow, seen_stays, put_rows, drop_rows, quiet_stays, quiet_then, quiet_put, quiet_drop, quiet_set, quiet_settled, quiet_doomed, tame_stays}
+use Rattle.private_store.proofs.Rows.{Quiet, SeenRow, put_rows, drop_rows, quiet_stays, quiet_then, quiet_set, quiet_settled, quiet_doomed}
 
 pub record IsCalm (store : Shape) (c : Change) : Type 0 where
   pub is : Quiet store c.shape
-
-some_value : {A : Type 0} (x y : A) → Some x ≡ Some y → x ≡ y
-some_value x y e = ap (λ o. unwrap_or o x) e
-
-none_some : {A : Type 0} {B : Type 0} (x : A) → None ≡ Some x → B
-none_some x e = absurd (subst T (ap is_some (sym e)) tt)
 
 pub visible_at : (store : Shape) (id : ObjectId) (copy : Copy) → visible store id ≡ Some copy → at store.copies id ≡ Some copy
 visible_at store id copy e = seen (at store.copies id) e
@@ -126,7 +121,9 @@ module _ (store : Shape) where
   hands_left id giver depth seen e =
       let stood = quiet_stays store in
       record {
-        row = stood.row; writes = stood.writes; quota = refl;
+        row = stood.row;
+        writes = stood.writes;
+        quota = refl;
         seen = elim (without_hand seen giver depth) as (λ o. without_hand seen giver depth ≡ o → (q : ObjectId) → SeenRow (at store.received q) (at (option_map_or (λ left. with_entry store.received id left) o (without_entry store.received id)) q)) [
           | None ↦ λ _. drop_rows (λ q o. SeenRow (at store.received q) o) store.received id (λ q. tt) stood.seen
           | Some left ↦ λ is. put_rows (λ q o. SeenRow (at store.received q) o) store.received id left

@@ -1,8 +1,8 @@
 -- What making room does to a job's store: what it evicts keeps no extent, what stays is apart from the
 -- place that was found, and where it only asks for writes their bytes are within the device quota.
-use Rattle.std.proofs.Common.{◌≡◌, ℕ, ◌+◌, ◌%◌, ◌≤◌, nat_le, nat_lt, Bool, true, false, not, cond, ◌==◌, ◌&&◌, ◌||◌, ◌⊎◌, inl, inr, List, [], ◌∷◌, take, fold, filter, filter_map, length, Option, Some, None, Ok, Err, Result, is_some, is_ok, option_map, unwrap_or, refl, sym, ap, subst, ◌∙◌, T}
+use Rattle.std.proofs.Common.{◌≡◌, ℕ, ◌+◌, ◌%◌, ◌≤◌, nat_le, nat_lt, Bool, true, false, not, cond, ◌==◌, ◌⊎◌, inl, inr, List, [], ◌∷◌, take, fold, filter, filter_map, length, Option, Some, None, Ok, Err, Result, is_some, is_ok, option_map, refl, sym, ap, ◌∙◌}
 use Rattle.std.specs.Option.{option_map_or}
-use Rattle.std.specs.List.{list_any, list_all, cons_option}
+use Rattle.std.specs.List.{list_all, cons_option}
 use Rattle.std.specs.Ordering.{eq_by_cmp}
 use Rattle.std.specs.FinMap.Entries.{find-where_key}
 use Rattle.std.proofs.lemmas.Bool.{ltb-false}
@@ -15,34 +15,15 @@ use Rattle.obj_id.specs.declared.refusals.Refusal.TheVariants.{DeviceFailed, Pen
 use Rattle.obj_id.specs.Ids.{id_cmp, same_id}
 use Rattle.private_store.specs.Tables.{ById, at, with_entry, without_entry, is_among}
 use Rattle.private_store.specs.Limits.{has_numbers}
-use Rattle.private_store.specs.Extents.{rounded, is_free, is_apart, first_from}
+use Rattle.private_store.specs.Extents.{rounded, is_free, is_apart}
 use Rattle.private_store.specs.Shape.{Copy, Shape, WorkInFlight, Seen}
 use Rattle.private_store.specs.Copies.{is_primary, extent_of, device_used}
-use Rattle.private_store.specs.Room.{Room, Plan, fits, wait, full, busy, evict, spill, set_copy, drop_copy, evicted, asked, no_room, room_by, spill_room, spill_plan, evict_room, make_room, plan, victims, spilled, offset_without, bytes_of_copies, works_left}
+use Rattle.private_store.specs.Room.{Room, fits, wait, full, busy, evict, spill, set_copy, drop_copy, evicted, asked, no_room, room_by, spill_room, spill_plan, evict_room, make_room, victims, spilled, offset_without, bytes_of_copies, works_left}
 use Rattle.private_store.specs.Kept.{is_placed, are_apart}
+use Rattle.private_store.proofs.Tests.{true_false, some_value, none_some, both_left, both_right, both_are, neither}
 use Rattle.private_store.proofs.FirstFit.{from-free, from-units}
 use Rattle.private_store.proofs.Stamps.{id_cmp-IsAntisymmetric}
-use Rattle.private_store.proofs.Rows.{true_false, same_is, same_self, at-put, at-drop, Quiet, quiet_stays, quiet_fold, quiet_evicted}
-
-some_value : {A : Type 0} (x y : A) → Some x ≡ Some y → x ≡ y
-some_value x y e = ap (λ o. unwrap_or o x) e
-
-none_some : {A : Type 0} {B : Type 0} (x : A) → None ≡ Some x → B
-none_some x e = absurd (subst T (ap is_some (sym e)) tt)
-
-both_left : (a b : Bool) → (a && b) ≡ true → a ≡ true
-both_left true b e = refl
-both_left false b e = e
-
-both_right : (a b : Bool) → (a && b) ≡ true → b ≡ true
-both_right true b e = e
-both_right false b e = true_false e
-
-both_are : (a b : Bool) → a ≡ true → b ≡ true → (a && b) ≡ true
-both_are a b e f = ap (λ x. x && b) e ∙ f
-
-neither : (a b : Bool) → a ≡ false → b ≡ false → (a || b) ≡ false
-neither a b e f = ap (λ x. x || b) e ∙ f
+use Rattle.private_store.proofs.Rows.{same_is, same_self, at-put, at-drop, Quiet, quiet_stays, quiet_fold, quiet_evicted}
 
 -- ---- what is left after evictions
 

@@ -1,13 +1,14 @@
 -- Each step keeps the contents of a job's store: each resident copy has its bytes, and each sealed copy the
 -- digest of its own.
-use Rattle.std.proofs.Common.{◌≡◌, ℕ, ◌+◌, ◌-◌, ◌*◌, ◌/◌, ◌≤◌, ◌<◌, min, nat_lt, nat_le, nat_eq, Bool, true, false, not, cond, ◌==◌, ◌&&◌, ◌||◌, inl, inr, List, [], ◌∷◌, ◌++◌, length, filter, Option, Some, None, is_some, unwrap_or, option_map, refl, sym, ap, subst, ◌∙◌, T, arith}
+use Rattle.std.proofs.Common.{◌≡◌, ℕ, ◌+◌, ◌-◌, ◌*◌, ◌/◌, ◌≤◌, ◌<◌, min, nat_lt, Bool, true, false, not, cond, ◌==◌, ◌&&◌, ◌||◌, List, [], ◌∷◌, ◌++◌, length, filter, Option, Some, None, is_some, unwrap_or, option_map, refl, sym, ap, subst, ◌∙◌, T, arith}
 use Rattle.std.specs.Option.{option_map_or, option_and_then}
 use Rattle.std.specs.List.{list_any, list_all}
 use Rattle.std.specs.FinMap.{is_sorted}
-use Rattle.std.specs.Str.{bytes_eq}
 use Rattle.std.proofs.lemmas.Bool.{ltb-true, ltb-false}
 use Rattle.std.proofs.lemmas.Bool.Decides.{Decides-eqb}
 use Rattle.std.proofs.lemmas.Slice.Eq.{bytes_eq-Decides}
+use Rattle.std.specs.FinMap.Entries.{is_sorted-put}
+use Rattle.sha2.specs.Sha256.{sha256}
 use Rattle.obj_id.specs.declared.ids.ObjectId.{ObjectId}
 use Rattle.obj_id.specs.declared.ids.JobNo.{JobNo}
 use Rattle.obj_id.specs.declared.refusals.Refusal.{Refusal}
@@ -15,7 +16,6 @@ use Rattle.obj_id.specs.declared.messages.Digest.{Digest}
 use Rattle.obj_id.specs.declared.messages.Location.{Location}
 use Rattle.obj_id.specs.declared.messages.PeerMessage.{PeerMessage}
 use Rattle.obj_id.specs.declared.messages.PeerMessage.TheVariants as peer
-use Rattle.obj_id.specs.declared.messages.Arrival.{Arrival}
 use Rattle.obj_id.specs.declared.messages.Arrival.TheVariants as arrival
 use Rattle.obj_id.specs.declared.commands.Command.{Command}
 use Rattle.obj_id.specs.declared.commands.Command.TheVariants as command
@@ -23,7 +23,7 @@ use Rattle.obj_id.specs.declared.commands.CopyState.{CopyState}
 use Rattle.obj_id.specs.declared.commands.CopyState.TheVariants.{Created, Sealed, Restoring, Fetching, Away}
 use Rattle.obj_id.specs.declared.works.DeviceAnswer.{DeviceAnswer}
 use Rattle.obj_id.specs.declared.works.DeviceAnswer.TheVariants as device
-use Rattle.obj_id.specs.declared.refusals.Refusal.TheVariants.{NotAdmitted, NotGranted, Absent, AlreadySealed, BadSize, OutOfBounds}
+use Rattle.obj_id.specs.declared.refusals.Refusal.TheVariants.{Absent}
 use Rattle.obj_id.specs.Ids.{id_cmp, same_id}
 use Rattle.private_store.specs.declared.inputs.Input.{Input}
 use Rattle.private_store.specs.declared.inputs.Input.TheVariants as input
@@ -33,168 +33,38 @@ use Rattle.private_store.specs.declared.inputs.ChunkVerdict.{ChunkVerdict}
 use Rattle.private_store.specs.declared.inputs.ChunkVerdict.TheVariants as chunk
 use Rattle.private_store.specs.declared.inputs.WorkVerdict.{WorkVerdict}
 use Rattle.private_store.specs.declared.inputs.WorkVerdict.TheVariants as work
-use Rattle.private_store.specs.Tables.{ById, at, with_entry}
+use Rattle.private_store.specs.Tables.{at, with_entry}
 use Rattle.private_store.specs.Limits.{chunk_size}
-use Rattle.private_store.specs.Shape.{Sending, Copy, Shape, Change, Seen, Fetch, Phase, locating, sized, pulling, failed, WorkInFlight}
+use Rattle.private_store.specs.Shape.{Sending, Copy, Change, Seen, Fetch, Phase, locating, sized, pulling, failed, WorkInFlight}
 use Rattle.private_store.specs.Copies.{is_sealed, is_created}
-use Rattle.private_store.specs.Change.{refused, done, checked, erasing, sending}
+use Rattle.private_store.specs.Change.{refused, done, sending}
 use Rattle.private_store.specs.Commands.{write, seal, chunk_count}
 use Rattle.private_store.specs.Events.{hands_of, work_of, fetch_of, is_missing}
 use Rattle.private_store.specs.Step.{step, owned}
-use Rattle.private_store.specs.Contents.{has_digest, is_read_back, work_verdict, read_verdict, write_verdict, chunk_verdict, pulled_verdict, gap_verdict, with_chunk, chunk_length, source_in, entry_elsewhere, is_locating, digest_located, peer_arrival, Contents, View, bytes_at, digest_at, digest_of, no_digest, overwritten, judge, brief, contents_after, bytes_brought, digest_brought, bytes_received, brought}
+use Rattle.private_store.specs.Contents.{has_digest, is_read_back, work_verdict, read_verdict, write_verdict, chunk_verdict, pulled_verdict, gap_verdict, with_chunk, chunk_length, source_in, entry_elsewhere, is_locating, peer_arrival, View, bytes_at, digest_at, digest_of, overwritten, judge, brief, contents_after, brought}
 use Rattle.private_store.specs.Private.{Store, view_of, private_step, no_store}
 use Rattle.private_store.specs.Kept.{IsShapeKept, AreContentsKept, has_extent, has_read, is_restoring, are_gaps, is_fetching, is_pulling}
 use Rattle.private_store.specs.Room.{set_copy}
-use Rattle.std.specs.FinMap.Entries.{is_sorted-put}
-use Rattle.sha2.specs.Sha256.{sha256}
+use Rattle.private_store.proofs.Tests.{true_false, some_value, none_some, both_left, both_right, passed}
 use Rattle.private_store.proofs.Stamps.{id_cmp-IsTotalOrder}
-use Rattle.private_store.proofs.Checks.{Fails, checked_past}
-use Rattle.private_store.proofs.Sound.{checked_has, needing_has, step_sound}
-use Rattle.private_store.proofs.Rows.{true_false, same_is, same_self, at-put, at-put_here, SeenRow, seen_stays, put_rows, Quiet, quiet_stays}
+use Rattle.private_store.proofs.Checks.{checked_past}
+use Rattle.private_store.proofs.Sound.{needing_has, step_sound}
+use Rattle.private_store.proofs.Rows.{same_is, same_self, at-put, quiet_stays}
 use Rattle.private_store.proofs.CalmSteps.{visible_at}
 use Rattle.private_store.proofs.Turns.{found_any, resident, calm, IsTurn}
-use Rattle.private_store.proofs.StepTurns.{is_taken, ReadsBack, sealing_turn, step_turn, MaySeal, Seals, fetch_found, fetch_fetching, fetching_unsealed}
-use Rattle.private_store.proofs.Filling.{filled, IsFilled, refilled, refilled_kept}
-use Rattle.private_store.proofs.RowContents.{steady_bytes, RowTurn, steady, bare, begun, row_turns, seen_turns, length-overwritten, default_same, sealed_resides, plain_filled, plain_seen}
-
-none_some : {A : Type 0} {B : Type 0} (x : A) → None ≡ Some x → B
-none_some x e = absurd (subst T (ap is_some (sym e)) tt)
-
-some_value : {A : Type 0} (x y : A) → Some x ≡ Some y → x ≡ y
-some_value x y e = ap (λ o. unwrap_or o x) e
+use Rattle.private_store.proofs.StepTurns.{is_taken, ReadsBack, sealing_turn, step_turn, MaySeal, fetch_found, fetch_fetching, fetching_unsealed}
+use Rattle.private_store.proofs.Filling.{IsFilled, refilled, refilled_kept}
+use Rattle.private_store.proofs.Bringing.{nothing, brings_none, brings_bytes, brings_digest, unsealed_filled, sealed_filled, digest_filled}
+use Rattle.private_store.proofs.RowContents.{steady_bytes, RowTurn, steady, bare, begun, length-overwritten, plain_filled}
 
 -- the contents after the change are kept
 record Fills (node : ℕ) (view : View) (x : Input) (y : Judged) (c : Change) : Type 0 where
   is : AreContentsKept c.shape (contents_after node view x y c.reply c.shape)
 
-abbrev nothing : ObjectId → Bool
-nothing id = false
-
--- ---- changes by what they bring
-
-module _ (view : View) (sh : IsShapeKept view.shape) (h : AreContentsKept view.shape view.contents) where
-  abbrev B : ById (List ℕ)
-  B = view.contents.bytes
-
-  abbrev D : ById Digest
-  D = view.contents.digests
-
-  abbrev R : ById (List ℕ)
-  R = view.contents.received
-
-  seen_filled : (c : Change) → ((id : ObjectId) → SeenRow (at view.shape.received id) (at c.shape.received id)) → (id : ObjectId) (seen : Seen) → at c.shape.received id ≡ Some seen → length (bytes_at R id) ≡ seen.length
-  seen_filled c rows id seen e = plain_seen view.shape view.contents sh h (at c.shape.received id) id seen (rows id) e
-
-  -- nothing
-  brings_none : (c : Change) → IsTurn nothing view.shape c → (sorted : T (is_sorted id_cmp c.shape.copies)) → AreContentsKept c.shape (refilled c.shape B D R sorted)
-  brings_none c k sorted =
-      refilled_kept c.shape B D R sorted
-      (λ id d e. plain_filled view.shape view.contents sh h nothing id d refl (row_turns nothing view.shape c k id d e))
-      (seen_filled c (seen_turns nothing view.shape c k (λ id. (id, refl))))
-
-  -- bytes or a digest for one copy
-  brings_one : (s : ObjectId → Bool) (id : ObjectId) (B' : ById (List ℕ)) (D' : ById Digest)
-      → ((q : ObjectId) → same_id q id ≡ false → (s q ≡ false) × (at B' q ≡ at B q) × (at D' q ≡ at D q))
-      → ((id : ObjectId) → (other : ObjectId) × (s other ≡ false)) → (c : Change) → IsTurn s view.shape c → (sorted : T (is_sorted id_cmp c.shape.copies))
-      → ((d : Copy) → RowTurn s view.shape id d → IsFilled (at B' id) (at D' id) d)
-      → AreContentsKept c.shape (refilled c.shape B' D' R sorted)
-  brings_one s id B' D' rest left c k sorted here =
-      refilled_kept c.shape B' D' R sorted rows (seen_filled c (seen_turns s view.shape c k left))
-    where
-      rows : (q : ObjectId) (d : Copy) → at c.shape.copies q ≡ Some d → IsFilled (at B' q) (at D' q) d
-      rows q d e =
-          elim (same_id q id) as (λ b. same_id q id ≡ b → IsFilled (at B' q) (at D' q) d) [
-            | true ↦ λ t.
-                let is : q ≡ id = same_is q id t in
-                subst (λ x. IsFilled (at B' x) (at D' x) d) (sym is) (here d (row_turns s view.shape c k id d (ap (at c.shape.copies) (sym is) ∙ e)))
-            | false ↦ λ f.
-                let same = rest q f in
-                let plain = plain_filled view.shape view.contents sh h s q d same.0 (row_turns s view.shape c k q d e) in
-                subst (λ o. IsFilled o (at D' q) d) (sym same.1) (subst (λ o. IsFilled (at B q) o d) (sym same.2) plain)
-          ] refl
-
-  put_elsewhere : {X : Type 0} (table : ById X) (id : ObjectId) (x : X) (q : ObjectId) → same_id q id ≡ false → at (with_entry table id x) q ≡ at table q
-  put_elsewhere table id x q f = at-put table id x q ∙ ap (λ b. cond b (Some x) (at table q)) f
-
-  -- bytes of a copy, which the step may seal if s says so
-  brings_bytes : (s : ObjectId → Bool) (id : ObjectId) (bytes : List ℕ) → ((q : ObjectId) → same_id q id ≡ false → s q ≡ false) → ((id : ObjectId) → (other : ObjectId) × (s other ≡ false))
-      → (c : Change) → IsTurn s view.shape c → (sorted : T (is_sorted id_cmp c.shape.copies))
-      → ((d : Copy) → RowTurn s view.shape id d → IsFilled (Some bytes) (at D id) d)
-      → AreContentsKept c.shape (refilled c.shape (with_entry B id bytes) D R sorted)
-  brings_bytes s id bytes out left c k sorted here =
-      brings_one s id (with_entry B id bytes) D (λ q f. (out q f, put_elsewhere B id bytes q f, refl)) left c k sorted
-      (λ d turn. subst (λ o. IsFilled o (at D id) d) (sym (at-put_here B id bytes)) (here d turn))
-
-  brings_digest : (s : ObjectId → Bool) (id : ObjectId) (digest : Digest) → ((q : ObjectId) → same_id q id ≡ false → s q ≡ false) → ((id : ObjectId) → (other : ObjectId) × (s other ≡ false))
-      → (c : Change) → IsTurn s view.shape c → (sorted : T (is_sorted id_cmp c.shape.copies))
-      → ((d : Copy) → RowTurn s view.shape id d → IsFilled (at B id) (Some digest) d)
-      → AreContentsKept c.shape (refilled c.shape B (with_entry D id digest) R sorted)
-  brings_digest s id digest out left c k sorted here =
-      brings_one s id B (with_entry D id digest) (λ q f. (out q f, refl, put_elsewhere D id digest q f)) left c k sorted
-      (λ d turn. subst (λ o. IsFilled (at B id) o d) (sym (at-put_here D id digest)) (here d turn))
-
-  -- bytes of the right length for a copy that stays unsealed
-  unsealed_filled : (id : ObjectId) (bytes : List ℕ) (c d : Copy) → at view.shape.copies id ≡ Some c → is_some c.offset ≡ true → is_sealed c.state ≡ false → length bytes ≡ c.length → RowTurn nothing view.shape id d → IsFilled (Some bytes) (at D id) d
-  unsealed_filled id bytes c d e stands unsealed long (steady b is len offset state) =
-      let row : b ≡ c = some_value b c (sym is ∙ e) in
-      let sealed : is_sealed d.state ≡ false = ap is_sealed (state refl) ∙ ap (λ x. is_sealed x.state) row ∙ unsealed in
-      record {
-        long = λ _. long ∙ sym (ap (λ x. x.length) row) ∙ sym len;
-        stands = λ t. true_false (sym sealed ∙ t);
-        right = λ t. true_false (sym sealed ∙ t);
-      }
-  unsealed_filled id bytes c d e stands unsealed long (bare none sealed) = record {
-    long = λ r. true_false (sym (ap is_some none) ∙ r);
-    stands = λ t. true_false (sym sealed ∙ t);
-    right = λ t. true_false (sym sealed ∙ t);
-  }
-  unsealed_filled id bytes c d e stands unsealed long (begun sealed absent) = true_false (sym absent ∙ ap resident e ∙ stands)
-
-  -- bytes with the copy's length and digest, where it may be sealed
-  sealed_filled : (s : ObjectId → Bool) (id : ObjectId) (bytes : List ℕ) (c d : Copy) → at view.shape.copies id ≡ Some c → is_some c.offset ≡ true → length bytes ≡ c.length → digest_at D id ≡ digest_of bytes → RowTurn s view.shape id d → IsFilled (Some bytes) (at D id) d
-  sealed_filled s id bytes c d e stands long right (steady b is len offset state) =
-      let row : b ≡ c = some_value b c (sym is ∙ e) in
-      record {
-        long = λ _. long ∙ sym (ap (λ x. x.length) row) ∙ sym len;
-        stands = λ t. ap is_some offset ∙ ap (λ x. is_some x.offset) row ∙ stands;
-        right = λ t. right;
-      }
-  sealed_filled s id bytes c d e stands long right (bare none sealed) = record {
-    long = λ r. true_false (sym (ap is_some none) ∙ r);
-    stands = λ t. true_false (sym sealed ∙ t);
-    right = λ t. true_false (sym sealed ∙ t);
-  }
-  sealed_filled s id bytes c d e stands long right (begun sealed absent) = true_false (sym absent ∙ ap resident e ∙ stands)
-
-  -- a digest for a copy that stays unsealed
-  digest_filled : (id : ObjectId) (digest : Digest) (c d : Copy) → at view.shape.copies id ≡ Some c → is_sealed c.state ≡ false → RowTurn nothing view.shape id d → IsFilled (at B id) (Some digest) d
-  digest_filled id digest c d e unsealed turn =
-      let k = plain_filled view.shape view.contents sh h nothing id d refl turn in
-      let sealed : is_sealed d.state ≡ false = by_turn turn in
-      record { long = k.long; stands = k.stands; right = λ t. true_false (sym sealed ∙ t) }
-    where
-      by_turn : RowTurn nothing view.shape id d → is_sealed d.state ≡ false
-      by_turn (steady b is len offset state) = ap is_sealed (state refl) ∙ ap (λ x. is_sealed x.state) (some_value b c (sym is ∙ e)) ∙ unsealed
-      by_turn (bare none sealed) = sealed
-      by_turn (begun sealed absent) = sealed
-
 -- ---- digests and verdicts
-
-both_left : (a b : Bool) → (a && b) ≡ true → a ≡ true
-both_left true b e = refl
-both_left false b e = e
-
-both_right : (a b : Bool) → (a && b) ≡ true → b ≡ true
-both_right true b e = e
-both_right false b e = true_false e
 
 digest_right : (bytes : List ℕ) (digest : Digest) → has_digest bytes digest ≡ true → digest ≡ digest_of bytes
 digest_right bytes digest t = let e : sha256 bytes ≡ digest.0 = (bytes_eq-Decides (sha256 bytes) digest.0).0 t in λ i. record { 0 = sym e i }
-
-verdict_number : WorkVerdict → ℕ
-verdict_number work.Fine = 0
-verdict_number work.Failed = 1
-verdict_number work.Damaged = 2
 
 fine : (b : Bool) → cond b work.Fine work.Damaged ≡ work.Fine → b ≡ true
 fine true e = refl
@@ -226,11 +96,13 @@ missing_passes P (x ∷ xs) index t all =
 -- an id that isn't this one
 other_than : (id : ObjectId) → (other : ObjectId) × (same_id other id ≡ false)
 other_than id =
-    let other : ObjectId = record id { index = id.index + 1 } in
-    (other, elim (same_id other id) as (λ b. same_id other id ≡ b → b ≡ false) [
-      | true ↦ λ t. absurd (past id.index (ap (λ x. x.index) (same_is other id t)))
-      | false ↦ λ _. refl
-    ] refl)
+    let other : ObjectId = record id { index = id.index + 1 } in (
+      other,
+      elim (same_id other id) as (λ b. same_id other id ≡ b → b ≡ false) [
+        | true ↦ λ t. absurd (past id.index (ap (λ x. x.index) (same_is other id t)))
+        | false ↦ λ _. refl
+      ] refl,
+    )
   where
     past : (n : ℕ) → n + 1 ≡ n → ⊥
     past n e = omega arith
@@ -276,10 +148,6 @@ module _ (node : ℕ) (view : View) (sh : IsShapeKept view.shape) (h : AreConten
   created_unsealed Fetching c = refl
   created_unsealed Away c = refl
 
-  passed : (b : Bool) → not b ≡ false → b ≡ true
-  passed true e = refl
-  passed false e = sym e
-
   write_fills : (session : ℕ) (id : ObjectId) (offset : ℕ) (bytes : List ℕ) → let x = input.Call session (command.Write id offset bytes) in Fills node view x (judge node view x) (after (judge node view x))
   write_fills session id offset bytes =
       let x : Input = input.Call session (command.Write id offset bytes) in
@@ -287,7 +155,7 @@ module _ (node : ℕ) (view : View) (sh : IsShapeKept view.shape) (h : AreConten
       let P : Change → Type 0 = Fills node view x y in
       let refuses : (r : Refusal) → P (refused view.shape r) = λ r. record { is = stays } in
       let inner : P (write view.shape id offset (length bytes)) =
-          checked_past P view.shape _ _ refuses (λ _. needing_has P view.shape _ _ _ (refuses Absent) (λ copy v. checked_past P view.shape _ _ refuses (λ fails. record { is = written copy (visible_at view.shape id copy v) fails.0 fails.1.0 }))) in
+      checked_past P view.shape _ _ refuses (λ _. needing_has P view.shape _ _ _ (refuses Absent) (λ copy v. checked_past P view.shape _ _ refuses (λ fails. record { is = written copy (visible_at view.shape id copy v) fails.0 fails.1.0 }))) in
       let owned_by : P (owned view.shape id (write view.shape id offset (length bytes))) = checked_past P view.shape _ _ refuses (λ _. inner) in
       checked_past P view.shape _ _ refuses (λ _. record { is = owned_by.is })
     where
@@ -313,7 +181,7 @@ module _ (node : ℕ) (view : View) (sh : IsShapeKept view.shape) (h : AreConten
       let P : Change → Type 0 = Fills node view x y in
       let refuses : (r : Refusal) → P (refused view.shape r) = λ r. record { is = stays } in
       let inner : P (seal view.shape id) =
-          needing_has P view.shape _ _ _ (refuses Absent) (λ copy v. checked_past P view.shape _ _ refuses (λ fails. unfold_sent x y _ _ (record { is = sealed copy (visible_at view.shape id copy v) fails.0 }))) in
+      needing_has P view.shape _ _ _ (refuses Absent) (λ copy v. checked_past P view.shape _ _ refuses (λ fails. unfold_sent x y _ _ (record { is = sealed copy (visible_at view.shape id copy v) fails.0 }))) in
       let owned_by : P (owned view.shape id (seal view.shape id)) = checked_past P view.shape _ _ refuses (λ _. inner) in
       checked_past P view.shape _ _ refuses (λ _. record { is = owned_by.is })
     where
@@ -397,6 +265,7 @@ module _ (node : ℕ) (view : View) (sh : IsShapeKept view.shape) (h : AreConten
           let may : ReadsBack s view.shape number work.Fine = λ v other _. ap (λ x. same_id x.id w.id) (some_value v w (sym other ∙ is)) ∙ same_self w.id in
           brings_bytes view sh h s w.id bytes (λ q f. f) (λ _. other_than w.id) (after y) (turn s y may) (still_sorted y)
           (λ d t. sealed_filled view sh h s w.id bytes own.0 d own.1 (restoring_stands number w own.0 is reads own.1) own.2 own.3 t)
+
       by_work : (o : Option WorkInFlight) → work_of view.shape number ≡ o → ReadTaken number (option_and_then (λ w. cond w.writes None (Some (w.id, bytes))) o)
       by_work None none = plain (judged.Answer number work.Fine) (λ w is reads. none_some w (sym none ∙ is))
       by_work (Some w) is = by_writes w is w.writes refl
@@ -432,21 +301,29 @@ module _ (node : ℕ) (view : View) (sh : IsShapeKept view.shape) (h : AreConten
     where
       ignored : {C : Type 0} → chunk.Ignored ≡ v → C
       ignored i = true_false (ap is_taken i ∙ t)
+
       by_test : (copy : Copy) (fetch : Fetch) (source : ℕ) (missing : List ℕ) → fetch_of view.shape id number ≡ Some (copy, fetch) → fetch.phase ≡ pulling source missing
           → (b : Bool) → (from == source && is_missing missing index && length bytes == chunk_length copy.length index) ≡ b
           → cond b (gap_verdict view id index bytes (filter (λ i. not (i == index)) missing)) chunk.Ignored ≡ v → Taken id number index bytes v
       by_test copy fetch source missing is p true test e = record {
-        copy = copy; fetch = fetch; source = source; missing = missing; found = is; phase = p;
+        copy = copy;
+        fetch = fetch;
+        source = source;
+        missing = missing;
+        found = is;
+        phase = p;
         gap = both_right (from == source) _ (both_left (from == source && is_missing missing index) _ test);
         long = (Decides-eqb (length bytes) (chunk_length copy.length index)).0 (both_right (from == source && is_missing missing index) _ test);
         verdict = e;
       }
       by_test copy fetch source missing is p false test e = ignored e
+
       by_phase : (copy : Copy) (fetch : Fetch) (phase : Phase) → fetch_of view.shape id number ≡ Some (copy, fetch) → fetch.phase ≡ phase → pulled_verdict view id index bytes from copy phase ≡ v → Taken id number index bytes v
       by_phase copy fetch locating is p e = ignored e
       by_phase copy fetch (sized _) is p e = ignored e
       by_phase copy fetch (failed _) is p e = ignored e
       by_phase copy fetch (pulling source missing) is p e = by_test copy fetch source missing is p (from == source && is_missing missing index && length bytes == chunk_length copy.length index) refl e
+
       by_fetch : (o : Option (Copy × Fetch)) → fetch_of view.shape id number ≡ o → option_map_or (λ p. pulled_verdict view id index bytes from p.0 p.1.phase) o chunk.Ignored ≡ v → Taken id number index bytes v
       by_fetch None is e = ignored e
       by_fetch (Some p) is e = by_phase p.0 p.1 p.1.phase is refl e
@@ -486,9 +363,11 @@ module _ (node : ℕ) (view : View) (sh : IsShapeKept view.shape) (h : AreConten
       let found = fetch_found view.shape id number (k.copy, k.fetch) k.found in
       let stands = pulling_stands id k.copy k.fetch k.source k.missing found.0 found.1 k.phase in
       let within = chunk_within id k.copy k.fetch k.source k.missing index (length bytes) found.0 found.1 k.phase k.gap k.long in
-      record { is = brings_bytes view sh h nothing id (with_chunk view id index bytes) (λ q f. refl) (λ id. (id, refl)) (after y)
-      (turn nothing y (λ p source missing is phase none t. not_last k p source missing is phase none)) (still_sorted y)
-      (λ d t. unsealed_filled view sh h id (with_chunk view id index bytes) k.copy d found.0 stands (fetching_unsealed view.shape sh id k.copy found.0 (fetch_fetching view.shape sh id k.copy found.0 k.fetch found.1)) (chunk_long id index bytes k.copy found.0 stands within) t) }
+      record {
+        is = brings_bytes view sh h nothing id (with_chunk view id index bytes) (λ q f. refl) (λ id. (id, refl)) (after y)
+            (turn nothing y (λ p source missing is phase none t. not_last k p source missing is phase none)) (still_sorted y)
+            (λ d t. unsealed_filled view sh h id (with_chunk view id index bytes) k.copy d found.0 stands (fetching_unsealed view.shape sh id k.copy found.0 (fetch_fetching view.shape sh id k.copy found.0 k.fetch found.1)) (chunk_long id index bytes k.copy found.0 stands within) t);
+      }
     where
       not_last : (k : Taken id number index bytes chunk.Part) (p : Copy × Fetch) (source : ℕ) (missing : List ℕ) → fetch_of view.shape id number ≡ Some p → p.1.phase ≡ pulling source missing → filter (λ i. not (i == index)) missing ≡ [] → false ≡ true
       not_last k p source missing is phase none =
@@ -503,10 +382,12 @@ module _ (node : ℕ) (view : View) (sh : IsShapeKept view.shape) (h : AreConten
       let found = fetch_found view.shape id number (k.copy, k.fetch) k.found in
       let stands = pulling_stands id k.copy k.fetch k.source k.missing found.0 found.1 k.phase in
       let within = chunk_within id k.copy k.fetch k.source k.missing index (length bytes) found.0 found.1 k.phase k.gap k.long in
-      record { is = brings_bytes view sh h s id (with_chunk view id index bytes) (λ q f. f) (λ _. other_than id) (after y)
-      (turn s y (λ p source missing is phase none t. same_self id)) (still_sorted y)
-      (λ d t. sealed_filled view sh h s id (with_chunk view id index bytes) k.copy d found.0 stands (chunk_long id index bytes k.copy found.0 stands within)
-      (digest_right (with_chunk view id index bytes) (digest_at view.contents.digests id) (whole_right (filter (λ i. not (i == index)) k.missing) k.verdict)) t) }
+      record {
+        is = brings_bytes view sh h s id (with_chunk view id index bytes) (λ q f. f) (λ _. other_than id) (after y)
+            (turn s y (λ p source missing is phase none t. same_self id)) (still_sorted y)
+            (λ d t. sealed_filled view sh h s id (with_chunk view id index bytes) k.copy d found.0 stands (chunk_long id index bytes k.copy found.0 stands within)
+            (digest_right (with_chunk view id index bytes) (digest_at view.contents.digests id) (whole_right (filter (λ i. not (i == index)) k.missing) k.verdict)) t);
+      }
     where
       whole_right : (missing : List ℕ) → gap_verdict view id index bytes missing ≡ chunk.Whole → has_digest (with_chunk view id index bytes) (digest_at view.contents.digests id) ≡ true
       whole_right [] e = by_test (has_digest (with_chunk view id index bytes) (digest_at view.contents.digests id)) e
@@ -534,6 +415,7 @@ module _ (node : ℕ) (view : View) (sh : IsShapeKept view.shape) (h : AreConten
           let found = fetch_found view.shape id number p is in
           brings_digest view sh h nothing id entry.digest (λ q f. refl) (λ id. (id, refl)) (after y) (turn nothing y tt) (still_sorted y)
           (λ d t. digest_filled view sh h id entry.digest p.0 d found.0 (fetching_unsealed view.shape sh id p.0 found.0 (fetch_fetching view.shape sh id p.0 found.0 p.1 found.1)) t)
+
       by_fetch : (o : Option (Copy × Fetch)) → fetch_of view.shape id number ≡ o → LocatedTaken id number entries (option_and_then (λ p. cond (is_locating p.1.phase) (option_map (λ entry. (id, entry.digest)) (entry_elsewhere node entries)) None) o)
       by_fetch None is = plain (judged.Located id number (source_in node entries)) tt
       by_fetch (Some p) is =

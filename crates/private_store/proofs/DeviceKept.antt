@@ -1,25 +1,24 @@
 -- Each step keeps the device bytes that count, of copies that are backed or being written, within the quota.
-use Rattle.std.proofs.Common.{◌≡◌, ℕ, zero, suc, ◌+◌, ◌≤◌, nat_le, Bool, true, false, not, cond, ◌&&◌, ◌||◌, inl, inr, List, [], ◌∷◌, ◌++◌, map, filter, take, fold, sum, Option, Some, None, is_some, unwrap_or, refl, sym, ap, subst, ◌∙◌, T, arith}
+use Rattle.std.proofs.Common.{◌≡◌, ℕ, zero, suc, ◌+◌, ◌≤◌, Bool, true, false, not, cond, ◌&&◌, ◌||◌, List, [], ◌∷◌, ◌++◌, map, filter, take, fold, sum, Option, Some, None, is_some, refl, sym, ap, subst, ◌∙◌, T, arith}
 use Rattle.std.specs.Option.{option_map_or}
-use Rattle.std.specs.List.{list_any}
 use Rattle.std.specs.FinMap.{is_sorted}
 use Rattle.std.specs.FinMap.Entries.{below_all, is_sorted-where_key}
 use Rattle.std.proofs.lemmas.Bool.{leb-true}
 use Rattle.std.proofs.lemmas.List.Folds.{list_any-append}
 use Rattle.std.proofs.lemmas.List.Sums.{sum_by-cons}
 use Rattle.obj_id.specs.declared.ids.ObjectId.{ObjectId}
-use Rattle.obj_id.specs.declared.works.Quota.{Quota}
 use Rattle.obj_id.specs.Ids.{id_cmp, same_id}
 use Rattle.private_store.specs.declared.inputs.Judged.{Judged}
 use Rattle.private_store.specs.Tables.{ById, at, without_entry}
 use Rattle.private_store.specs.Extents.{rounded}
 use Rattle.private_store.specs.Shape.{Copy, Shape, Change, WorkInFlight, unbegun}
 use Rattle.private_store.specs.Copies.{device_used, is_within}
-use Rattle.private_store.specs.Room.{asked, bytes_of_copies}
+use Rattle.private_store.specs.Room.{asked}
 use Rattle.private_store.specs.Step.{step}
 use Rattle.private_store.specs.Kept.{IsShapeKept, IsDeviceKept, has_write}
+use Rattle.private_store.proofs.Tests.{both_right, and_left, and_right, or_false}
 use Rattle.private_store.proofs.Sound.{step_sound}
-use Rattle.private_store.proofs.Rows.{true_false, same_is, same_self, at-drop, Tame}
+use Rattle.private_store.proofs.Rows.{same_is, same_self, at-drop, Tame}
 use Rattle.private_store.proofs.Clearing.{not_same_back}
 use Rattle.private_store.proofs.Turns.{weight, weight_of, weight_same, Turn, calm, spills, puts, requotas, empties, receives, IsTurn}
 use Rattle.private_store.proofs.StepTurns.{step_turn, all_may}
@@ -48,28 +47,21 @@ used_is works (e ∷ es) =
 abbrev bytes_of : ById Copy → ObjectId → ℕ
 bytes_of table id = option_map_or (λ copy. rounded copy.length) (at table id) 0
 
-first_part : (a b : Bool) → T (a && b) → T a
-first_part true b h = tt
-first_part false b h = h
-
-second_part : (a b : Bool) → T (a && b) → T b
-second_part true b h = h
-second_part false b h = absurd h
-
 -- one row, and the others
 total_split : (works : List WorkInFlight) (k : ObjectId) (es : ById Copy) → T (is_sorted id_cmp es) → total works es ≡ weight_of works k (at es k) + total works (without_entry es k)
 total_split works k [] h = refl
 total_split works k (e ∷ es) h =
-    let rest = total_split works k es (second_part (below_all id_cmp e.0 es) _ h) in
+    let rest = total_split works k es (and_right (below_all id_cmp e.0 es) _ h) in
     elim (same_id k e.0) as (λ b. same_id k e.0 ≡ b → weight works e.0 e.1 + total works es ≡ weight_of works k (cond b (Some e.1) (at es k)) + total works (cond (not b) (e ∷ without_entry es k) (without_entry es k))) [
       | true ↦ λ t.
-          let none : at es k ≡ None = ap (at es) (same_is k e.0 t) ∙ below_none e.0 es (first_part _ _ h) in
+          let none : at es k ≡ None = ap (at es) (same_is k e.0 t) ∙ below_none e.0 es (and_left _ _ h) in
           here (weight works e.0 e.1) (weight works k e.1) _ _ _ (ap (λ x. weight works x e.1) (sym (same_is k e.0 t))) (ap (weight_of works k) none) rest
       | false ↦ λ f. later _ _ _ _ rest
     ] refl
   where
     here : (v w m l n : ℕ) → v ≡ w → l ≡ 0 → m ≡ l + n → v + m ≡ w + n
     here v w m l n e z r = omega arith
+
     later : (v m l n : ℕ) → m ≡ l + n → v + m ≡ l + (v + n)
     later v m l n r = omega arith
 
@@ -79,17 +71,18 @@ total_less : (works works' : List WorkInFlight) (new old : ById Copy) → T (is_
 total_less works works' [] old g h less = omega arith
 total_less works works' (e ∷ es) old g h less =
     let head : weight works' e.0 e.1 ≤ weight_of works e.0 (at old e.0) = subst (λ o. weight_of works' e.0 o ≤ weight_of works e.0 (at old e.0)) (ap (λ b. cond b (Some e.1) (at es e.0)) (same_self e.0)) (less e.0) in
-    let rest = total_less works works' es (without_entry old e.0) (second_part (below_all id_cmp e.0 es) _ g) (is_sorted-where_key id_cmp (λ x. not (same_id e.0 x)) old h) others in
+    let rest = total_less works works' es (without_entry old e.0) (and_right (below_all id_cmp e.0 es) _ g) (is_sorted-where_key id_cmp (λ x. not (same_id e.0 x)) old h) others in
     joined _ _ _ _ _ head rest (total_split works e.0 old h)
   where
     joined : (v m w n t : ℕ) → v ≤ w → m ≤ n → t ≡ w + n → v + m ≤ t
     joined v m w n t p q r = omega arith
+
     others : (q : ObjectId) → weight_of works' q (at es q) ≤ weight_of works q (at (without_entry old e.0) q)
     others q =
         subst (λ o. weight_of works' q (at es q) ≤ weight_of works q o) (sym (at-drop old e.0 q))
         (elim (same_id e.0 q) as (λ b. same_id e.0 q ≡ b → weight_of works' q (at es q) ≤ weight_of works q (cond (not b) (at old q) None)) [
           | true ↦ λ t.
-              let none : at es q ≡ None = ap (at es) (sym (same_is e.0 q t)) ∙ below_none e.0 es (first_part _ _ g) in
+              let none : at es q ≡ None = ap (at es) (sym (same_is e.0 q t)) ∙ below_none e.0 es (and_left _ _ g) in
               subst (λ o. weight_of works' q o ≤ 0) (sym none) (omega arith)
           | false ↦ λ f. subst (λ o. weight_of works' q o ≤ weight_of works q (at old q)) (ap (λ b. cond b (Some e.1) (at es q)) (not_same_back e.0 q f)) (less q)
         ] refl)
@@ -103,10 +96,6 @@ written_else : (works : List WorkInFlight) (w : WorkInFlight) (q : ObjectId) →
 written_else works w q f e =
     sym (list_any-append (λ work. same_id q work.id && work.writes) works (w ∷ [])
     ∙ ap (λ b. has_write works q || (b && w.writes || false)) f ∙ or_false (has_write works q)) ∙ e
-  where
-    or_false : (b : Bool) → (b || false) ≡ b
-    or_false true = refl
-    or_false false = refl
 
 tame_weight : (works works' : List WorkInFlight) (q : ObjectId) (o p : Option Copy) → (has_write works' q ≡ true → has_write works q ≡ true) → Tame o p → weight_of works' q p ≤ weight_of works q o
 tame_weight works works' q o None w h = omega arith
@@ -121,6 +110,7 @@ one_more works w table h =
   where
     joined : (t' v' m' t v m b : ℕ) → t' ≡ v' + m' → t ≡ v + m → v' ≤ b → m' ≤ m → t' ≤ t + b
     joined t' v' m' t v m b e f g k = omega arith
+
     at_most : (o : Option Copy) → weight_of (with_write works w) w.id o ≤ option_map_or (λ copy. rounded copy.length) o 0
     at_most None = omega arith
     at_most (Some copy) = counted (is_some copy.backed || has_write (with_write works w) w.id) (rounded copy.length)
@@ -128,9 +118,11 @@ one_more works w table h =
         counted : (b : Bool) (n : ℕ) → cond b n 0 ≤ n
         counted true n = omega arith
         counted false n = omega arith
+
     same_row : (q : ObjectId) (o : Option Copy) → same_id q w.id ≡ false → weight_of (with_write works w) q o ≤ weight_of works q o
     same_row q None f = omega arith
     same_row q (Some copy) f = weight_same works (with_write works w) q copy copy refl refl (written_else works w q f)
+
     others : (q : ObjectId) → weight_of (with_write works w) q (at (without_entry table w.id) q) ≤ weight_of works q (at (without_entry table w.id) q)
     others q =
         subst (λ o. weight_of (with_write works w) q o ≤ weight_of works q o) (sym (at-drop table w.id q))
@@ -165,17 +157,19 @@ module _ (s : ObjectId → Bool) (store : Shape) (in_order : T (is_sorted id_cmp
     where
       same_tables : c.shape.copies ≡ store.copies → c.shape.works ≡ store.works → total c.shape.works c.shape.copies ≡ total store.works store.copies
       same_tables e w = λ i. total (w i) (e i)
+
       within : total c.shape.works c.shape.copies ≤ total store.works store.copies → c.shape.quota ≡ store.quota → total c.shape.works c.shape.copies ≤ c.shape.quota.device
       within less q = subst (λ x. total c.shape.works c.shape.copies ≤ x.device) (sym q) (both _ _ _ less kept)
         where
           both : (a b c : ℕ) → a ≤ b → b ≤ c → a ≤ c
           both a b c p q = omega arith
+
       by_turn : Turn s store c.shape.copies c.shape.works c.shape.quota c.shape.received → total c.shape.works c.shape.copies ≤ c.shape.quota.device
       by_turn (calm q) = within (total_less store.works c.shape.works c.shape.copies store.copies sorted in_order (λ id. tame_weight store.works c.shape.works id (at store.copies id) (at c.shape.copies id) (q.writes id) (q.row id))) q.quota
       by_turn (spills p) =
           let less : total c.shape.works c.shape.copies ≤ total store.works store.copies + sum (map (bytes_of store.copies) (take p.taken p.ids)) =
-              subst (λ t. total c.shape.works t ≤ total store.works store.copies + sum (map (bytes_of store.copies) (take p.taken p.ids))) (sym p.copies)
-              (subst (λ w. total w store.copies ≤ total store.works store.copies + sum (map (bytes_of store.copies) (take p.taken p.ids))) (sym p.works) (all_asked store (take p.taken p.ids) in_order)) in
+          subst (λ t. total c.shape.works t ≤ total store.works store.copies + sum (map (bytes_of store.copies) (take p.taken p.ids))) (sym p.copies)
+          (subst (λ w. total w store.copies ≤ total store.works store.copies + sum (map (bytes_of store.copies) (take p.taken p.ids))) (sym p.works) (all_asked store (take p.taken p.ids) in_order)) in
           subst (λ x. total c.shape.works c.shape.copies ≤ x.device) (sym p.quota)
           (chained _ _ _ _ _ _ less (fewer (bytes_of store.copies) p.taken p.ids) p.device (used_is store.works store.copies))
         where
@@ -189,11 +183,7 @@ module _ (s : ObjectId → Bool) (store : Shape) (in_order : T (is_sorted id_cmp
                 | true ↦ λ t. subst (λ x. weight_of c.shape.works x (at c.shape.copies x) ≤ weight_of store.works x (at store.copies x)) (sym (same_is q id t)) (subst (λ o. weight_of c.shape.works id o ≤ weight_of store.works id (at store.copies id)) (sym p.here) p.weight)
                 | false ↦ λ f. tame_weight store.works c.shape.works q (at store.copies q) (at c.shape.copies q) (p.writes q) (p.others q f)
               ] refl
-      by_turn (requotas e w r fit) = subst (λ n. n ≤ c.shape.quota.device) (used_is store.works store.copies ∙ sym (same_tables e w)) (leb-true (device_used store) c.shape.quota.device (last (is_within store c.shape.quota.window) _ fit))
-        where
-          last : (a b : Bool) → (a && b) ≡ true → b ≡ true
-          last true b e = e
-          last false b e = true_false e
+      by_turn (requotas e w r fit) = subst (λ n. n ≤ c.shape.quota.device) (used_is store.works store.copies ∙ sym (same_tables e w)) (leb-true (device_used store) c.shape.quota.device (both_right (is_within store c.shape.quota.window) _ fit))
       by_turn (empties e r) = subst (λ t. total c.shape.works t ≤ c.shape.quota.device) (sym e) (omega arith)
       by_turn (receives t e w q) = within (subst (λ n. n ≤ total store.works store.copies) (sym (same_tables e w)) (omega arith)) q
 

@@ -1,33 +1,24 @@
 -- Each step keeps the extents of a job's store apart from each other and within its window.
-use Rattle.std.proofs.Common.{◌≡◌, ℕ, ◌%◌, nat_le, Bool, true, false, cond, ◌==◌, ◌&&◌, ◌||◌, ◌⊎◌, inl, inr, List, [], filter_map, Option, Some, None, is_some, option_map, refl, sym, ap, subst, ◌∙◌, T}
+use Rattle.std.proofs.Common.{◌≡◌, ℕ, ◌%◌, nat_le, Bool, true, false, ◌==◌, ◌⊎◌, inl, inr, List, [], Option, Some, None, option_map, refl, sym, ap, subst, ◌∙◌}
 use Rattle.std.specs.Option.{option_map_or}
-use Rattle.std.specs.List.{list_all}
 use Rattle.obj_id.specs.declared.ids.ObjectId.{ObjectId}
 use Rattle.obj_id.specs.declared.works.Extent.{Extent}
 use Rattle.obj_id.specs.declared.works.Quota.{Quota}
 use Rattle.obj_id.specs.Ids.{same_id}
 use Rattle.private_store.specs.declared.inputs.Judged.{Judged}
 use Rattle.private_store.specs.Tables.{ById, at}
-use Rattle.private_store.specs.Extents.{rounded, end_of, is_apart}
+use Rattle.private_store.specs.Extents.{rounded, end_of}
 use Rattle.private_store.specs.Shape.{Copy, Shape, Change, unbegun}
-use Rattle.private_store.specs.Copies.{extent_of, fits_quota, is_within, device_used}
+use Rattle.private_store.specs.Copies.{extent_of, is_within}
 use Rattle.private_store.specs.Step.{step}
 use Rattle.private_store.specs.Kept.{IsShapeKept, AreExtentsKept, is_placed, are_apart}
-use Rattle.private_store.proofs.Rows.{true_false, same_is, same_self, IsTame, Tame}
+use Rattle.private_store.proofs.Tests.{true_false, none_some, both_left, both_are, or_swaps}
+use Rattle.private_store.proofs.Rows.{same_is, same_self, IsTame, Tame}
 use Rattle.private_store.proofs.Clearing.{all_extents, extent_at}
-use Rattle.private_store.proofs.Turns.{Stands, nowhere, fresh, same, Puts, Turn, calm, spills, puts, requotas, empties, receives, IsTurn}
+use Rattle.private_store.proofs.Turns.{Stands, nowhere, fresh, same, Turn, calm, spills, puts, requotas, empties, receives, IsTurn}
 use Rattle.private_store.proofs.StepTurns.{step_turn, all_may}
 
-none_some : {A : Type 0} {B : Type 0} (x : A) → None ≡ Some x → B
-none_some x e = absurd (subst T (ap is_some (sym e)) tt)
-
 -- ---- two extents
-
-or_swaps : (a b : Bool) → (a || b) ≡ true → (b || a) ≡ true
-or_swaps true true e = refl
-or_swaps true false e = refl
-or_swaps false true e = refl
-or_swaps false false e = e
 
 apart_back : (x y : Option Extent) → are_apart x y ≡ true → are_apart y x ≡ true
 apart_back None None h = refl
@@ -117,13 +108,6 @@ fit_along old new copies copies' e q h = subst (λ t. Fit new.window t) (sym e) 
 empty_fit : (window : ℕ) → Fit window []
 empty_fit window = record { placed = λ id copy e. none_some copy e; apart = λ a b x y e g f. none_some x e }
 
-both_left : (a b : Bool) → (a && b) ≡ true → a ≡ true
-both_left true b e = refl
-both_left false b e = e
-
-both_are : (a b : Bool) → a ≡ true → b ≡ true → (a && b) ≡ true
-both_are a b e f = ap (λ x. x && b) e ∙ f
-
 -- another window that no extent reaches past
 rewindow : (store : Shape) (window : ℕ) → is_within store window ≡ true → Fit store.quota.window store.copies → Fit window store.copies
 rewindow store window within fit = record {
@@ -140,6 +124,7 @@ module _ (s : ObjectId → Bool) (store : Shape) (fit : Fit store.quota.window s
     where
       loses : (q : ObjectId) (c : Copy) → same_id q id ≡ false → at copies q ≡ Some c → Loses store.copies q c
       loses q c f e = tame_loses store.copies q (at copies q) c e (others q f)
+
       settled : Loses store.copies id d → Fit store.quota.window copies
       settled h = losing_fit store.quota.window store.copies fit copies (λ q c e.
           elim (same_id q id) as (λ b. same_id q id ≡ b → Loses store.copies q c) [
@@ -151,6 +136,7 @@ module _ (s : ObjectId → Bool) (store : Shape) (fit : Fit store.quota.window s
           moved q c t e =
               let is : extent_of c ≡ extent_of d = ap (λ o. option_map_or extent_of o None) (sym e ∙ ap (at copies) (same_is q id t) ∙ here) in
               elim h [ inl gone ↦ inl (is ∙ gone) | inr kept ↦ inr (kept.0, ap (at store.copies) (same_is q id t) ∙ kept.1, is ∙ kept.2) ]
+
       by_stand : Stands s store copies id d → Fit store.quota.window copies
       by_stand (nowhere none unsealed) = settled (inl (extent_none d none))
       by_stand (same c e length offset state) = settled (inr (c, e, extent_same c d length offset))

@@ -1,5 +1,5 @@
 -- The contents after a step, look-up by look-up, and what of each row makes them the copies' own.
-use Rattle.std.proofs.Common.{◌≡◌, ℕ, Bool, true, false, cond, ◌&&◌, ◌||◌, if◌then◌else◌, List, [], ◌∷◌, map, filter, length, replicate, Option, Some, None, is_some, unwrap_or, refl, sym, ap, subst, ◌∙◌, T}
+use Rattle.std.proofs.Common.{◌≡◌, ℕ, Bool, true, false, cond, List, [], ◌∷◌, map, filter, length, replicate, Option, Some, None, is_some, unwrap_or, refl, sym, ap, ◌∙◌, T}
 use Rattle.std.specs.Option.{option_map_or}
 use Rattle.std.specs.Ordering.{is_eq, is_lt}
 use Rattle.std.specs.declared.cmp.Ordering.{Ordering}
@@ -14,20 +14,13 @@ use Rattle.obj_id.specs.Ids.{id_cmp, same_id}
 use Rattle.private_store.specs.Tables.{ById, at}
 use Rattle.private_store.specs.Shape.{Copy, Shape, Seen}
 use Rattle.private_store.specs.Copies.{is_sealed, was_sealed}
-use Rattle.private_store.specs.Contents.{Contents, bytes_at, digest_at, digest_of, no_digest, kept, keeps_digest, is_sized}
+use Rattle.private_store.specs.Contents.{Contents, bytes_at, digest_of, no_digest, kept, keeps_digest, is_sized}
 use Rattle.private_store.specs.Kept.{IsContentKept, AreContentsKept}
-use Rattle.private_store.proofs.Rows.{true_false, same_is}
+use Rattle.private_store.proofs.Tests.{and_left, and_right}
+use Rattle.private_store.proofs.Rows.{same_is}
 use Rattle.private_store.proofs.Turns.{resident}
 
 -- ---- look-ups in what is kept
-
-both_left : (a b : Bool) → T (a && b) → T a
-both_left true b h = tt
-both_left false b h = h
-
-both_right : (a b : Bool) → T (a && b) → T b
-both_right true b h = h
-both_right false b h = absurd h
 
 less_apart : (r : Ordering) → T (is_lt r) → is_eq r ≡ false
 less_apart Less h = refl
@@ -38,7 +31,7 @@ less_apart Greater h = absurd h
 pub below_none : {X : Type 0} (q : ObjectId) (es : ById X) → T (below_all id_cmp q es) → at es q ≡ None
 below_none q [] h = refl
 below_none q (e ∷ es) h =
-    ap (λ b. cond b (Some e.1) (at es q)) (less_apart (id_cmp q e.0) (both_left _ _ h)) ∙ below_none q es (both_right (is_lt (id_cmp q e.0)) _ h)
+    ap (λ b. cond b (Some e.1) (at es q)) (less_apart (id_cmp q e.0) (and_left _ _ h)) ∙ below_none q es (and_right (is_lt (id_cmp q e.0)) _ h)
 
 module _ {X : Type 0} {Y : Type 0} (test : X → Bool) (default : X → Y) (table : ById Y) where
   abbrev pub kept_row : ObjectId → Option X → Option Y
@@ -48,13 +41,13 @@ module _ {X : Type 0} {Y : Type 0} (test : X → Bool) (default : X → Y) (tabl
   pub at-kept : (es : ById X) → T (is_sorted id_cmp es) → (q : ObjectId) → at (kept test default table es) q ≡ kept_row q (at es q)
   at-kept [] h q = refl
   at-kept (e ∷ es) h q =
-      let rest = at-kept es (both_right (below_all id_cmp e.0 es) _ h) q in
+      let rest = at-kept es (and_right (below_all id_cmp e.0 es) _ h) q in
       let f = filter (λ e. test e.1) es in
       let g : ObjectId × X → ObjectId × Y = λ e. (e.0, unwrap_or (at table e.0) (default e.1)) in
       elim (same_id q e.0) as (λ b. same_id q e.0 ≡ b → at (map g (cond (test e.1) (e ∷ f) f)) q ≡ kept_row q (cond b (Some e.1) (at es q))) [
         | true ↦ λ t. elim (test e.1) as (λ c. at (map g (cond c (e ∷ f) f)) q ≡ cond c (Some (unwrap_or (at table q) (default e.1))) None) [
           | true ↦ ap (λ b. cond b (Some (unwrap_or (at table e.0) (default e.1))) (at (map g f) q)) t ∙ ap (λ x. Some (unwrap_or (at table x) (default e.1))) (sym (same_is q e.0 t))
-          | false ↦ rest ∙ ap (kept_row q) (ap (at es) (same_is q e.0 t) ∙ below_none e.0 es (both_left _ _ h))
+          | false ↦ rest ∙ ap (kept_row q) (ap (at es) (same_is q e.0 t) ∙ below_none e.0 es (and_left _ _ h))
         ]
         | false ↦ λ t. elim (test e.1) as (λ c. at (map g (cond c (e ∷ f) f)) q ≡ kept_row q (at es q)) [
           | true ↦ ap (λ b. cond b (Some (unwrap_or (at table e.0) (default e.1))) (at (map g f) q)) t ∙ rest

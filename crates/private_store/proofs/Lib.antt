@@ -2,6 +2,7 @@ pub mod Checks
 pub mod Stamps
 pub mod FirstFit
 pub mod Sound
+pub mod Tests
 pub mod Rows
 pub mod Clearing
 pub mod CalmSteps
@@ -10,6 +11,7 @@ pub mod StepTurns
 pub mod ExtentsKept
 pub mod Filling
 pub mod RowContents
+pub mod Bringing
 pub mod ContentsKept
 pub mod DeviceKept
 pub mod Stamped

@@ -1,28 +1,20 @@
 -- What each turn does to the contents of one copy: where nothing is brought for it, it keeps its bytes and
 -- its digest, has zeros, or is neither resident nor sealed.
-use Rattle.std.proofs.Common.{◌≡◌, ℕ, ◌+◌, ◌-◌, ◌≤◌, Bool, true, false, cond, inl, inr, List, [], ◌∷◌, ◌++◌, length, replicate, take, drop, min, Option, Some, None, is_some, unwrap_or, refl, sym, ap, subst, ◌∙◌, T, arith}
-use Rattle.std.specs.Option.{option_map_or}
-use Rattle.std.specs.FinMap.{is_sorted}
+use Rattle.std.proofs.Common.{◌≡◌, ℕ, ◌+◌, ◌-◌, ◌≤◌, Bool, true, false, inl, inr, List, [], length, replicate, min, Option, Some, None, is_some, unwrap_or, refl, sym, ap, subst, ◌∙◌, arith}
 use Rattle.std.proofs.lemmas.List.{length-append, length-take, length-drop, length-replicate}
 use Rattle.obj_id.specs.declared.ids.ObjectId.{ObjectId}
 use Rattle.obj_id.specs.declared.commands.CopyState.{CopyState}
 use Rattle.obj_id.specs.declared.commands.CopyState.TheVariants.{Created, Sealed, Restoring, Fetching, Away}
-use Rattle.obj_id.specs.declared.messages.Digest.{Digest}
-use Rattle.obj_id.specs.Ids.{id_cmp, same_id}
-use Rattle.private_store.specs.Tables.{ById, at, with_entry}
-use Rattle.private_store.specs.Shape.{Copy, Shape, Change, Seen, Fetch}
+use Rattle.obj_id.specs.Ids.{same_id}
+use Rattle.private_store.specs.Tables.{ById, at}
+use Rattle.private_store.specs.Shape.{Copy, Shape, Change, Seen}
 use Rattle.private_store.specs.Copies.{is_sealed}
-use Rattle.private_store.specs.Contents.{Contents, bytes_at, digest_at, digest_of, no_digest, overwritten}
+use Rattle.private_store.specs.Contents.{Contents, bytes_at, digest_of, overwritten}
 use Rattle.private_store.specs.Kept.{IsShapeKept, AreContentsKept, has_extent}
-use Rattle.private_store.proofs.Rows.{true_false, same_is, same_self, IsTame, Tame, SeenRow, seen_stays, put_rows}
+use Rattle.private_store.proofs.Tests.{true_false, some_value, none_some}
+use Rattle.private_store.proofs.Rows.{same_is, Tame, SeenRow, seen_stays}
 use Rattle.private_store.proofs.Turns.{resident, Stands, nowhere, fresh, same, Turn, calm, spills, puts, requotas, empties, receives, IsTurn}
-use Rattle.private_store.proofs.Filling.{filled, IsFilled, refilled, refilled_kept}
-
-none_some : {A : Type 0} {B : Type 0} (x : A) → None ≡ Some x → B
-none_some x e = absurd (subst T (ap is_some (sym e)) tt)
-
-some_value : {A : Type 0} (x y : A) → Some x ≡ Some y → x ≡ y
-some_value x y e = ap (λ o. unwrap_or o x) e
+use Rattle.private_store.proofs.Filling.{filled, IsFilled}
 
 -- ---- what a turn does to one row
 
@@ -72,6 +64,7 @@ module _ (s : ObjectId → Bool) (store : Shape) where
     where
       stays : c.shape.received ≡ store.received → SeenRow (at store.received id) (at c.shape.received id)
       stays is = subst (λ t. SeenRow (at store.received id) (at t id)) (sym is) (seen_stays (at store.received id))
+
       by_turn : Turn s store c.shape.copies c.shape.works c.shape.quota c.shape.received → SeenRow (at store.received id) (at c.shape.received id)
       by_turn (calm q) = q.seen id
       by_turn (spills p) = stays p.received

@@ -1,9 +1,8 @@
 -- The rows of a job's tables before and after a change: what stays of them where nothing new is placed,
 -- filled or sealed.
-use Rattle.std.proofs.Common.{◌≡◌, ℕ, Bool, true, false, not, cond, ◌&&◌, ◌||◌, ◌⊎◌, inl, inr, List, [], ◌∷◌, fold, filter, Option, Some, None, is_some, refl, sym, ap, subst, ◌∙◌, T}
+use Rattle.std.proofs.Common.{◌≡◌, true, false, not, cond, ◌&&◌, ◌⊎◌, inl, inr, List, [], ◌∷◌, fold, Option, Some, None, refl, sym, ap, subst, ◌∙◌}
 use Rattle.std.specs.Ordering.{is_eq}
 use Rattle.std.specs.Cmp.{tied_itself, Equal-is}
-use Rattle.std.specs.List.{list_any}
 use Rattle.std.specs.Option.{option_map_or}
 use Rattle.std.specs.FinMap.Entries.{find-put, find-where_key}
 use Rattle.obj_id.specs.declared.ids.ObjectId.{ObjectId}
@@ -12,14 +11,11 @@ use Rattle.obj_id.specs.Ids.{id_cmp, same_id}
 use Rattle.obj_id.specs.declared.commands.CopyState.TheVariants.{Away}
 use Rattle.private_store.specs.Tables.{ById, at, with_entry, without_entry}
 use Rattle.private_store.specs.Shape.{Copy, Shape, WorkInFlight, Seen}
-use Rattle.private_store.specs.Copies.{is_sealed, is_primary, is_idle, extent_of}
+use Rattle.private_store.specs.Copies.{is_sealed, is_primary, is_idle}
 use Rattle.private_store.specs.Room.{set_copy, drop_copy, evicted}
 use Rattle.private_store.specs.Change.{settled, doomed}
 use Rattle.private_store.specs.Kept.{has_write}
 use Rattle.private_store.proofs.Stamps.{id_cmp-IsAntisymmetric, id_cmp-IsTotalOrder}
-
-pub true_false : {B : Type 0} → false ≡ true → B
-true_false e = absurd (subst T (sym e) tt)
 
 -- ---- ids and tables
 

@@ -1,13 +1,12 @@
 -- Each step is one of the turns.
-use Rattle.std.proofs.Common.{◌≡◌, ℕ, ◌+◌, ◌≤◌, Bool, true, false, not, cond, ◌==◌, ◌&&◌, ◌||◌, ◌⊎◌, inl, inr, List, [], ◌∷◌, ◌++◌, filter, find, Option, Some, None, Ok, Err, is_some, is_none, is_ok, unwrap_or, refl, sym, ap, subst, ◌∙◌, T}
+use Rattle.std.proofs.Common.{◌≡◌, ℕ, ◌+◌, ◌≤◌, Bool, true, false, not, cond, ◌==◌, ◌&&◌, ◌||◌, ◌⊎◌, inl, inr, List, [], ◌∷◌, filter, Option, Some, None, Ok, Err, is_some, is_none, refl, sym, ap, subst, ◌∙◌}
 use Rattle.std.specs.Option.{option_map_or, option_and_then}
-use Rattle.std.specs.List.{list_any}
 use Rattle.obj_id.specs.declared.ids.ObjectId.{ObjectId}
 use Rattle.obj_id.specs.declared.commands.Kind.{Kind}
 use Rattle.obj_id.specs.declared.commands.CopyState.{CopyState}
 use Rattle.obj_id.specs.declared.commands.CopyState.TheVariants.{Created, Sealed, Restoring, Fetching, Away}
 use Rattle.obj_id.specs.declared.refusals.Refusal.{Refusal}
-use Rattle.obj_id.specs.declared.refusals.Refusal.TheVariants.{Absent, NotSealed, Pending, Stale, BadSize, DeviceFailed, Damaged}
+use Rattle.obj_id.specs.declared.refusals.Refusal.TheVariants.{Absent, NotSealed, Pending, Stale, BadSize, Damaged}
 use Rattle.obj_id.specs.declared.works.Quota.{Quota}
 use Rattle.obj_id.specs.declared.commands.Command.{Command}
 use Rattle.obj_id.specs.declared.commands.Command.TheVariants as command
@@ -19,32 +18,23 @@ use Rattle.private_store.specs.declared.inputs.ChunkVerdict.{ChunkVerdict}
 use Rattle.private_store.specs.declared.inputs.ChunkVerdict.TheVariants as chunk
 use Rattle.private_store.specs.declared.inputs.WorkVerdict.{WorkVerdict}
 use Rattle.private_store.specs.declared.inputs.WorkVerdict.TheVariants as work
-use Rattle.private_store.specs.Tables.{ById, at, with_entry}
+use Rattle.private_store.specs.Tables.{at, with_entry}
 use Rattle.private_store.specs.Limits.{is_quota}
-use Rattle.private_store.specs.Shape.{Copy, Shape, Change, Sending, WorkInFlight, Seen, Fetch, Phase, locating, sized, pulling, failed, not_begun, live, ended, chunks, not_here, remove_source}
-use Rattle.private_store.specs.Copies.{visible, is_created, is_sealed, fits_quota, is_idle}
+use Rattle.private_store.specs.Shape.{Copy, Shape, Change, Sending, WorkInFlight, Fetch, Phase, locating, sized, pulling, failed, not_begun, live, ended, chunks, not_here, remove_source}
+use Rattle.private_store.specs.Copies.{visible, is_sealed, fits_quota, is_idle}
 use Rattle.private_store.specs.Room.{Room, make_room, set_copy, drop_copy, asked}
-use Rattle.private_store.specs.Change.{replied, refused, done, checked, needing, sending, in_room, settled, erasing}
-use Rattle.private_store.specs.Commands.{create, created, new_copy, seal, get, get_sealed, get_away, get_fetching, get_copy, begin_fetch, restore, restoring, begin_pull, set_phase, counted, chunk_count, fetched_copy, list, usage}
-use Rattle.private_store.specs.Events.{is_live, begin, requota, end_job_here, written, read_back, without_work, work_of, answer, with_fetch, fetch_of, located, located_copy, fetch_failed, chunk_taken, chunk_arrived, is_missing, not_here_arrived, quiet, pull_answer, pull_arrived, received}
+use Rattle.private_store.specs.Change.{refused, done, checked, needing, sending, in_room, settled, erasing}
+use Rattle.private_store.specs.Commands.{create, new_copy, seal, get, get_sealed, get_away, get_fetching, get_copy, begin_fetch, restore, set_phase, counted, chunk_count, fetched_copy, list, usage}
+use Rattle.private_store.specs.Events.{begin, requota, end_job_here, written, read_back, without_work, work_of, answer, with_fetch, fetch_of, located, located_copy, fetch_failed, chunk_taken, chunk_arrived, is_missing, not_here_arrived, quiet, pull_answer, pull_arrived}
 use Rattle.private_store.specs.Step.{step, owned, commanded, if_live}
-use Rattle.private_store.specs.Kept.{IsShapeKept, IsCopyKept, has_write, has_read, has_extent, is_fetching, is_pulling}
+use Rattle.private_store.specs.Kept.{IsShapeKept, has_write, has_extent, is_fetching, is_pulling}
+use Rattle.private_store.proofs.Tests.{true_false, some_value, none_some, some_or_none, passed}
 use Rattle.private_store.proofs.Checks.{Fails, checked_past}
-use Rattle.private_store.proofs.Sound.{checked_has, needing_has}
-use Rattle.private_store.proofs.Rows.{true_false, same_self, IsTame, Quiet, quiet_stays, quiet_put, quiet_set, quiet_drop, quiet_settled}
+use Rattle.private_store.proofs.Sound.{needing_has}
+use Rattle.private_store.proofs.Rows.{same_self, Quiet, quiet_stays, quiet_put, quiet_set, quiet_drop, quiet_settled}
 use Rattle.private_store.proofs.Clearing.{Cleared, SpillsIn, RoomDone, room_done}
 use Rattle.private_store.proofs.CalmSteps.{IsCalm, visible_at, marked, write_calm, read_calm, release_calm, delete_calm, borrow_calm, unpin_calm, give_up_calm, grant_calm, withdraw_calm, peek_calm, withdrawn_calm, end_task_calm, leave_calm}
-use Rattle.private_store.proofs.Turns.{weight, weight_of, weight_less, weight_same, weightless, reads_write, filtered_any, found_any, unwritten, not_written, resident, Stands, nowhere, fresh, same, Puts, Turn, calm, spills, puts, requotas, empties, receives, IsTurn, put_turn, placed_stands, quiet_put_dropped}
-
-some_value : {A : Type 0} (x y : A) → Some x ≡ Some y → x ≡ y
-some_value x y e = ap (λ o. unwrap_or o x) e
-
-none_some : {A : Type 0} {B : Type 0} (x : A) → None ≡ Some x → B
-none_some x e = absurd (subst T (ap is_some (sym e)) tt)
-
-some_or_none : {A : Type 0} (o : Option A) → is_some o ≡ false → o ≡ None
-some_or_none None e = refl
-some_or_none (Some x) e = true_false (sym e)
+use Rattle.private_store.proofs.Turns.{weight, weight_of, weight_less, weight_same, weightless, reads_write, filtered_any, found_any, unwritten, not_written, resident, nowhere, same, Puts, calm, spills, puts, requotas, empties, receives, IsTurn, put_turn, placed_stands, quiet_put_dropped}
 
 -- ---- what a kept shape says of one copy
 
@@ -172,9 +162,11 @@ module _ (s : ObjectId → Bool) (store : Shape) (sh : IsShapeKept store) where
       let mid = (make_room order store n).shape in
       let d = new_copy kind n offset in
       let none = no_copy id fails.1.1.0 in
-      record { is = puts id d (put_turn s store mid mid.works id d room.quiet (λ q e. e)
-      (new_weight mid.works id d _ (room.quiet.writes id) none refl)
-      (placed_stands s store mid n offset id d room refl refl refl (ap resident none))) }))
+      record {
+        is = puts id d (put_turn s store mid mid.works id d room.quiet (λ q e. e)
+            (new_weight mid.works id d _ (room.quiet.writes id) none refl)
+            (placed_stands s store mid n offset id d room refl refl refl (ap resident none)));
+      }))
 
   known_weight : (works : List WorkInFlight) (id : ObjectId) (copy d : Copy) → (has_write works id ≡ true → has_write store.works id ≡ true) → at store.copies id ≡ Some copy → d.length ≡ copy.length → d.backed ≡ copy.backed → weight works id d ≤ weight_of store.works id (at store.copies id)
   known_weight works id copy d writes e length backed =
@@ -188,9 +180,11 @@ module _ (s : ObjectId → Bool) (store : Shape) (sh : IsShapeKept store) where
       let d : Copy = record copy { state = Restoring; offset = Some offset } in
       let after = asked false (set_copy mid id d) id in
       let reads : (q : ObjectId) → has_write after.works q ≡ true → has_write mid.works q ≡ true = λ q w. reads_write mid.works _ q refl w in
-      record { is = puts id d (put_turn s store mid after.works id d room.quiet reads
-      (known_weight after.works id copy d (λ w. room.quiet.writes id (reads id w)) e refl refl)
-      (placed_stands s store mid copy.length offset id d room refl refl refl (ap resident e ∙ ap is_some (away_nowhere store sh id copy e away)))) })))
+      record {
+        is = puts id d (put_turn s store mid after.works id d room.quiet reads
+            (known_weight after.works id copy d (λ w. room.quiet.writes id (reads id w)) e refl refl)
+            (placed_stands s store mid copy.length offset id d room refl refl refl (ap resident e ∙ ap is_some (away_nowhere store sh id copy e away))));
+      })))
 
   get_away_turn : (order : List ObjectId) (id : ObjectId) (copy : Copy) → at store.copies id ≡ Some copy → copy.state ≡ Away → IsTurn s store (get_away order store id copy)
   get_away_turn order id copy e away =
@@ -207,9 +201,11 @@ module _ (s : ObjectId → Bool) (store : Shape) (sh : IsShapeKept store) where
       let d : Copy = record copy { offset = Some offset; fetch = Some (record fetch { phase = pulling source (counted 0 (chunk_count copy.length)) }) } in
       let unsealed = fetching_unsealed store sh id copy e (fetch_fetching store sh id copy e fetch f) in
       let nowhere_yet = unpulled_nowhere store sh id copy e fetch f (ap is_pulling p) in
-      sending_turn s store _ _ (record { is = puts id d (put_turn s store mid mid.works id d room.quiet (λ q w. w)
-      (known_weight mid.works id copy d (room.quiet.writes id) e refl refl)
-      (placed_stands s store mid copy.length offset id d room refl refl unsealed (ap resident e ∙ ap is_some nowhere_yet))) })))
+      sending_turn s store _ _ (record {
+        is = puts id d (put_turn s store mid mid.works id d room.quiet (λ q w. w)
+            (known_weight mid.works id copy d (room.quiet.writes id) e refl refl)
+            (placed_stands s store mid copy.length offset id d room refl refl unsealed (ap resident e ∙ ap is_some nowhere_yet)));
+      })))
   get_fetching_turn order id copy fetch (pulling source missing) e f p = sending_turn s store _ _ (refused_turn s store Pending)
   get_fetching_turn order id copy fetch (failed refusal) e f p = record { is = calm (quiet_drop store store id (quiet_stays store)) }
 
@@ -217,8 +213,10 @@ module _ (s : ObjectId → Bool) (store : Shape) (sh : IsShapeKept store) where
   unfolding sending
   begin_fetch_turn id none =
       let d = fetched_copy (store.fetches_begun + 1) in
-      checked_turn s store _ _ (λ _. record { is = puts id d (put_turn s store store store.works id d (quiet_stays store) (λ q w. w)
-      (new_weight store.works id d _ (λ w. w) none refl) (nowhere refl refl)) })
+      checked_turn s store _ _ (λ _. record {
+        is = puts id d (put_turn s store store store.works id d (quiet_stays store) (λ q w. w)
+            (new_weight store.works id d _ (λ w. w) none refl) (nowhere refl refl));
+      })
 
   get_copy_turn : (order : List ObjectId) (session : ℕ) (id : ObjectId) (copy : Copy) (state : CopyState) → at store.copies id ≡ Some copy → copy.state ≡ state
       → IsTurn s store (elim state [
@@ -245,9 +243,11 @@ module _ (s : ObjectId → Bool) (store : Shape) (sh : IsShapeKept store) where
   pub sealing_turn : (id : ObjectId) (copy : Copy) → s id ≡ true → at store.copies id ≡ Some copy → IsTurn s store (done (set_copy store id (record copy { state = Sealed })))
   sealing_turn id copy t e =
       let d : Copy = record copy { state = Sealed } in
-      record { is = puts id d (put_turn s store store store.works id d (quiet_stays store) (λ q w. w)
-      (known_weight store.works id copy d (λ w. w) e refl refl)
-      (same copy e refl refl (λ f. true_false (sym f ∙ t)))) }
+      record {
+        is = puts id d (put_turn s store store store.works id d (quiet_stays store) (λ q w. w)
+            (known_weight store.works id copy d (λ w. w) e refl refl)
+            (same copy e refl refl (λ f. true_false (sym f ∙ t))));
+      }
 
   seal_turn : (id : ObjectId) → s id ≡ true → IsTurn s store (seal store id)
   seal_turn id t = needing_turn s store _ _ _ (λ copy v. checked_turn s store _ _ (λ _. sending_turn s store _ _ (sealing_turn id copy t (visible_at store id copy v))))
@@ -344,9 +344,11 @@ fetch_found store id number p e = by_copy (at store.copies id) e
         let is : ◌≡◌ {A = Copy × Fetch} (copy, fetch) p = some_value (copy, fetch) p e in
         (ap (λ x. Some x.0) is, subst (λ x. x.0.fetch ≡ Some x.1) is f)
     by_number copy fetch false f e = none_some p e
+
     by_fetch : (copy : Copy) (o : Option Fetch) → copy.fetch ≡ o → ◌≡◌ {A = Option (Copy × Fetch)} (option_and_then (λ fetch. cond (fetch.number == number) (Some (copy, fetch)) None) o) (Some p) → (Some copy ≡ Some p.0) × (p.0.fetch ≡ Some p.1)
     by_fetch copy None f e = none_some p e
     by_fetch copy (Some fetch) f e = by_number copy fetch (fetch.number == number) f e
+
     by_copy : (o : Option Copy) → ◌≡◌ {A = Option (Copy × Fetch)} (option_and_then (λ copy. option_and_then (λ fetch. cond (fetch.number == number) (Some (copy, fetch)) None) copy.fetch) o) (Some p) → (o ≡ Some p.0) × (p.0.fetch ≡ Some p.1)
     by_copy None e = none_some p e
     by_copy (Some copy) e = by_fetch copy copy.fetch refl e
@@ -365,18 +367,23 @@ module _ (s : ObjectId → Bool) (store : Shape) (sh : IsShapeKept store) where
       placeless : (copy : Copy) (fetch : Fetch) (source : Option Source) → copy.offset ≡ None → (located_copy copy fetch source).offset ≡ None
       placeless copy fetch None e = e
       placeless copy fetch (Some _) e = e
+
       unsealed : (copy : Copy) (fetch : Fetch) (source : Option Source) → is_sealed copy.state ≡ false → is_sealed (located_copy copy fetch source).state ≡ false
       unsealed copy fetch None e = e
       unsealed copy fetch (Some _) e = e
+
       unbacked : (copy : Copy) (fetch : Fetch) (source : Option Source) → copy.backed ≡ None → (located_copy copy fetch source).backed ≡ None
       unbacked copy fetch None e = e
       unbacked copy fetch (Some _) e = e
+
       by_phase : (copy : Copy) (fetch : Fetch) (phase : Phase) → at store.copies id ≡ Some copy → copy.fetch ≡ Some fetch → fetch.phase ≡ phase → IsTurn s store (elim phase [ locating ↦ done (set_copy store id (located_copy copy fetch source)) | _ ↦ done store ])
       by_phase copy fetch locating e f p =
           let d = located_copy copy fetch source in
-          record { is = puts id d (put_turn s store store store.works id d (quiet_stays store) (λ q w. w)
-          (weightless store.works id d _ (unbacked copy fetch source (fetching_unbacked store sh id copy e fetch f)) (fetching_unwritten store sh id copy e fetch f))
-          (nowhere (placeless copy fetch source (unpulled_nowhere store sh id copy e fetch f (ap is_pulling p))) (unsealed copy fetch source (fetching_unsealed store sh id copy e (fetch_fetching store sh id copy e fetch f))))) }
+          record {
+            is = puts id d (put_turn s store store store.works id d (quiet_stays store) (λ q w. w)
+                (weightless store.works id d _ (unbacked copy fetch source (fetching_unbacked store sh id copy e fetch f)) (fetching_unwritten store sh id copy e fetch f))
+                (nowhere (placeless copy fetch source (unpulled_nowhere store sh id copy e fetch f (ap is_pulling p))) (unsealed copy fetch source (fetching_unsealed store sh id copy e (fetch_fetching store sh id copy e fetch f)))));
+          }
       by_phase copy fetch (sized _) e f p = at_rest s store (done store) (quiet_stays store)
       by_phase copy fetch (pulling _ _) e f p = at_rest s store (done store) (quiet_stays store)
       by_phase copy fetch (failed _) e f p = at_rest s store (done store) (quiet_stays store)
@@ -391,12 +398,16 @@ module _ (s : ObjectId → Bool) (store : Shape) (sh : IsShapeKept store) where
     where
       gap : (missing : List ℕ) → IsTurn s store (done (set_phase store id copy fetch (pulling source missing)))
       gap missing = record { is = calm (marked store id copy (record copy { fetch = Some (record fetch { phase = pulling source missing }) }) e refl refl refl refl) }
+
       whole : s id ≡ true → IsTurn s store (done (set_copy store id (record copy { state = Sealed; fetch = None })))
       whole t =
           let d : Copy = record copy { state = Sealed; fetch = None } in
-          record { is = puts id d (put_turn s store store store.works id d (quiet_stays store) (λ q w. w)
-          (subst (λ o. weight store.works id d ≤ weight_of store.works id o) (sym e) (weight_same store.works store.works id copy d refl refl (λ w. w)))
-          (same copy e refl refl (λ h. true_false (sym h ∙ t)))) }
+          record {
+            is = puts id d (put_turn s store store store.works id d (quiet_stays store) (λ q w. w)
+                (subst (λ o. weight store.works id d ≤ weight_of store.works id o) (sym e) (weight_same store.works store.works id copy d refl refl (λ w. w)))
+                (same copy e refl refl (λ h. true_false (sym h ∙ t))));
+          }
+
       by_verdict : (missing : List ℕ) (verdict : ChunkVerdict) → (missing ≡ [] → is_taken verdict ≡ true → s id ≡ true) → IsTurn s store (chunk_taken store id copy fetch source missing verdict)
       by_verdict missing chunk.Ignored t = at_rest s store (done store) (quiet_stays store)
       by_verdict (i ∷ missing) chunk.Part t = gap (i ∷ missing)
@@ -479,10 +490,6 @@ module _ (s : ObjectId → Bool) (store : Shape) (sh : IsShapeKept store) where
 
   requota_turn : (quota : Quota) → IsTurn s store (requota store quota)
   requota_turn quota = checked_turn s store _ _ (λ fails. record { is = requotas refl refl refl (passed (fits_quota store quota) fails.1.0) })
-    where
-      passed : (b : Bool) → not b ≡ false → b ≡ true
-      passed true e = refl
-      passed false e = sym e
 
   end_turn : IsTurn s store (end_job_here store)
   end_turn = sending_turn s store _ _ (record { is = empties refl refl })

@@ -1,28 +1,21 @@
 -- What a step may do to the extents and device bytes of a job's store: nothing; ask for writes; put one
 -- copy; change the quota; or empty the store.
-use Rattle.std.proofs.Common.{◌≡◌, ℕ, ◌≤◌, Bool, true, false, not, cond, ◌&&◌, ◌||◌, ◌⊎◌, inl, inr, List, [], ◌∷◌, ◌++◌, filter, find, Option, Some, None, Ok, Err, is_some, unwrap_or, refl, sym, ap, subst, ◌∙◌, T, arith}
-use Rattle.std.specs.Option.{option_map_or, option_and_then}
+use Rattle.std.proofs.Common.{◌≡◌, ℕ, ◌≤◌, Bool, true, false, not, cond, ◌&&◌, ◌||◌, inl, inr, List, [], ◌∷◌, ◌++◌, filter, find, Option, Some, None, is_some, unwrap_or, refl, sym, ap, subst, ◌∙◌, arith}
+use Rattle.std.specs.Option.{option_map_or}
 use Rattle.std.specs.List.{list_any, list_all}
 use Rattle.std.proofs.lemmas.List.Folds.{list_any-append}
 use Rattle.obj_id.specs.declared.ids.ObjectId.{ObjectId}
-use Rattle.obj_id.specs.declared.refusals.Refusal.{Refusal}
 use Rattle.obj_id.specs.declared.works.Quota.{Quota}
 use Rattle.obj_id.specs.Ids.{same_id}
 use Rattle.private_store.specs.Tables.{ById, at, with_entry}
 use Rattle.private_store.specs.Extents.{rounded}
-use Rattle.private_store.specs.Shape.{Copy, Shape, Change, Sending, WorkInFlight, Seen, Fetch}
-use Rattle.private_store.specs.Copies.{is_sealed, extent_of, fits_quota, is_idle}
-use Rattle.private_store.specs.Room.{Room, set_copy, drop_copy}
-use Rattle.private_store.specs.Change.{refused, checked, needing, sending, in_room, settled}
+use Rattle.private_store.specs.Shape.{Copy, Shape, Change, WorkInFlight, Seen}
+use Rattle.private_store.specs.Copies.{is_sealed, extent_of, fits_quota}
+use Rattle.private_store.specs.Room.{set_copy, drop_copy}
 use Rattle.private_store.specs.Kept.{has_write, is_placed, are_apart}
-use Rattle.private_store.proofs.Checks.{Fails, checked_past}
-use Rattle.private_store.proofs.Sound.{checked_has, needing_has}
-use Rattle.private_store.proofs.Rows.{true_false, same_is, same_self, at-put, at-put_here, at-drop, Tame, tame_stays, SeenRow, Quiet, quiet_stays, quiet_drop, put_rows, drop_rows}
-use Rattle.private_store.proofs.Clearing.{not_same_back, extent_at, Cleared, SpillsIn, Spills, RoomDone}
-use Rattle.private_store.proofs.CalmSteps.{IsCalm}
-
-none_some : {A : Type 0} {B : Type 0} (x : A) → None ≡ Some x → B
-none_some x e = absurd (subst T (ap is_some (sym e)) tt)
+use Rattle.private_store.proofs.Tests.{true_false, none_some, both_left, both_right, or_cases, or_left, or_right, or_false}
+use Rattle.private_store.proofs.Rows.{same_is, at-put, at-put_here, at-drop, Tame, SeenRow, Quiet}
+use Rattle.private_store.proofs.Clearing.{not_same_back, extent_at, Cleared, Spills}
 
 -- ---- the device bytes of one copy
 
@@ -36,17 +29,6 @@ weight_of works id (Some copy) = weight works id copy
 counted_le : (b c : Bool) (m n : ℕ) → (b ≡ true → c ≡ true) → m ≡ n → cond b m 0 ≤ cond c n 0
 counted_le false c m n h e = omega arith
 counted_le true c m n h e = subst (λ x. m ≤ cond x n 0) (sym (h refl)) (omega (arith, e))
-
-or_cases : (a b : Bool) → (a || b) ≡ true → (a ≡ true) ⊎ (b ≡ true)
-or_cases true b e = inl refl
-or_cases false b e = inr e
-
-or_left : (a b : Bool) → a ≡ true → (a || b) ≡ true
-or_left a b e = ap (λ x. x || b) e
-
-or_right : (a b : Bool) → b ≡ true → (a || b) ≡ true
-or_right true b e = refl
-or_right false b e = e
 
 pub weight_less : (works works' : List WorkInFlight) (id : ObjectId) (c d : Copy) → d.length ≡ c.length → (is_some d.backed ≡ true → (is_some c.backed || has_write works id) ≡ true) → (has_write works' id ≡ true → has_write works id ≡ true) → weight works' id d ≤ weight works id c
 weight_less works works' id c d length backed writes =
@@ -67,10 +49,6 @@ weightless works id d m b w =
 never : (b : Bool) → (b && false) ≡ false
 never true = refl
 never false = refl
-
-or_false : (b : Bool) → (b || false) ≡ b
-or_false true = refl
-or_false false = refl
 
 -- a read that is asked for writes nothing
 pub reads_write : (works : List WorkInFlight) (w : WorkInFlight) (id : ObjectId) → w.writes ≡ false → has_write (works ++ w ∷ []) id ≡ true → has_write works id ≡ true
@@ -99,16 +77,9 @@ pub unwritten : (copies : ById Copy) (works : List WorkInFlight) (id : ObjectId)
 unwritten copies [] id h none = refl
 unwritten copies (w ∷ ws) id h none =
     elim (same_id id w.id) as (λ b. same_id id w.id ≡ b → ((b && w.writes) || has_write ws id) ≡ false) [
-      | true ↦ λ t. true_false (sym (ap is_some (sym (ap (at copies) (same_is id w.id t)) ∙ none)) ∙ here (is_some (at copies w.id)) (list_all (λ work. is_some (at copies work.id)) ws) h)
-      | false ↦ λ t. unwritten copies ws id (rest (is_some (at copies w.id)) (list_all (λ work. is_some (at copies work.id)) ws) h) none
+      | true ↦ λ t. true_false (sym (ap is_some (sym (ap (at copies) (same_is id w.id t)) ∙ none)) ∙ both_left (is_some (at copies w.id)) (list_all (λ work. is_some (at copies work.id)) ws) h)
+      | false ↦ λ t. unwritten copies ws id (both_right (is_some (at copies w.id)) (list_all (λ work. is_some (at copies work.id)) ws) h) none
     ] refl
-  where
-    here : (a b : Bool) → (a && b) ≡ true → a ≡ true
-    here true b e = refl
-    here false b e = e
-    rest : (a b : Bool) → (a && b) ≡ true → b ≡ true
-    rest true b e = e
-    rest false b e = true_false e
 
 pub not_written : (works' works : List WorkInFlight) (id : ObjectId) → (has_write works' id ≡ true → has_write works id ≡ true) → has_write works id ≡ false → has_write works' id ≡ false
 not_written works' works id h e = elim (has_write works' id) as (λ b. (b ≡ true → has_write works id ≡ true) → b ≡ false) [ true ↦ λ h. sym (h refl) ∙ e | false ↦ λ _. refl ] h
@@ -186,6 +157,7 @@ quiet_put_dropped store mid id d h = record {
           | true ↦ λ _. refl
           | false ↦ λ t. at-put mid.copies id d q ∙ ap (λ b. cond b (Some d) (at mid.copies q)) (not_same_back id q t)
         ] refl
+
     once : (q : ObjectId) (b : Bool) → Tame (at store.copies q) (cond (not b) (at mid.copies q) None)
     once q true = tt
     once q false = h.row q
