@@ -34,13 +34,13 @@ module _ (store : Shape) where
   stays : (c : Change) → c.shape ≡ store → IsCalm store c
   stays c e = record { is = subst (Quiet store) (sym e) (quiet_stays store) }
 
-  pub checked_calm : (checks : List (Bool × Refusal)) (rest : Change) → IsCalm store rest → IsCalm store (checked store checks rest)
+  checked_calm : (checks : List (Bool × Refusal)) (rest : Change) → IsCalm store rest → IsCalm store (checked store checks rest)
   checked_calm checks rest k = checked_has (IsCalm store) store checks rest (λ r. record { is = quiet_stays store }) k
 
   needing_calm : {X : Type 0} (o : Option X) (r : Refusal) (f : X → Change) → ((x : X) → o ≡ Some x → IsCalm store (f x)) → IsCalm store (needing store o r f)
   needing_calm o r f k = needing_has (IsCalm store) store o r f (record { is = quiet_stays store }) k
 
-  pub sending_calm : (sent : List Sending) (c : Change) → IsCalm store c → IsCalm store (sending sent c)
+  sending_calm : (sent : List Sending) (c : Change) → IsCalm store c → IsCalm store (sending sent c)
   unfolding sending
   sending_calm sent c k = record { is = k.is }
 
@@ -60,7 +60,7 @@ module _ (store : Shape) where
   pub release_calm : (session : ℕ) (id : ObjectId) → IsCalm store (release store session id)
   release_calm session id = needing_calm _ _ _ (λ copy e. checked_calm _ _ (settled_calm _ id copy _ e refl refl refl refl refl))
 
-  pub doom_calm : (id : ObjectId) → IsCalm store (doom store id)
+  doom_calm : (id : ObjectId) → IsCalm store (doom store id)
   doom_calm id = sending_calm _ _ (record { is = quiet_doomed store id })
 
   pub delete_calm : (id : ObjectId) → IsCalm store (delete store id)

@@ -95,7 +95,7 @@ all_extents P (f ∷ fs) q c x e ext h =
       | false ↦ λ e. all_extents P fs q c x e ext (all_rest P (extent_of f.1) (filter_map (λ e. extent_of e.1) fs) h)
     ] e
 
-pub has_offset : (c : Copy) (x : Extent) → extent_of c ≡ Some x → is_some c.offset ≡ true
+has_offset : (c : Copy) (x : Extent) → extent_of c ≡ Some x → is_some c.offset ≡ true
 has_offset c x e =
     elim c.offset as (λ o. option_map (λ p. record { offset = p; length = rounded c.length }) o ≡ Some x → is_some o ≡ true) [ None ↦ λ e. none_some x e | Some p ↦ λ e. refl ] e
 
@@ -149,9 +149,6 @@ pub record RoomDone (store : Shape) (n : ℕ) (room : Room) : Type 0 where
 
 err_ok : {A : Type 0} {E : Type 0} {B : Type 0} (r : E) (x : A) → ◌≡◌ {A = Result A E} (Err r) (Ok x) → B
 err_ok r x e = true_false (ap is_ok e)
-
-ok_err : {A : Type 0} {E : Type 0} {B : Type 0} (r : E) (x : A) → ◌≡◌ {A = Result A E} (Ok x) (Err r) → B
-ok_err r x e = true_false (ap is_ok (sym e))
 
 refusing : (store mid : Shape) (n : ℕ) (r : Refusal) → Quiet store mid ⊎ SpillsIn store mid → RoomDone store n (no_room mid r)
 refusing store mid n r h = record { found = λ offset e. err_ok r offset e; refused = λ _ _. h }

@@ -125,9 +125,6 @@ module _ (node : ℕ) (view : View) (sh : IsShapeKept view.shape) (h : AreConten
 
   -- ---- Write and Seal
 
-  at_rest : (x : Input) (y : Judged) (r : Refusal) → AreContentsKept view.shape (contents_after node view x y (refused view.shape r).reply view.shape) → Fills node view x y (refused view.shape r)
-  at_rest x y r k = record { is = k }
-
   stays : AreContentsKept view.shape (refilled view.shape view.contents.bytes view.contents.digests view.contents.received in_order)
   stays = brings_none view sh h (done view.shape) (record { is = calm (quiet_stays view.shape) }) in_order
 

@@ -76,7 +76,7 @@ module _ (s : ObjectId → Bool) (store : Shape) where
 -- ---- lists of bytes
 
 -- zeros in the place of bytes that there are none of
-pub default_same : (o : Option (List ℕ)) (n : ℕ) → length (unwrap_or o []) ≡ n → unwrap_or o (replicate n 0) ≡ unwrap_or o []
+default_same : (o : Option (List ℕ)) (n : ℕ) → length (unwrap_or o []) ≡ n → unwrap_or o (replicate n 0) ≡ unwrap_or o []
 default_same (Some x) n e = refl
 default_same None n e = ap (λ m. replicate m 0) (sym e)
 
@@ -89,7 +89,7 @@ length-overwritten bytes offset new h = simp (length-append, length-take, length
 -- ---- what is kept of one row
 
 module _ (store : Shape) (contents : Contents) (sh : IsShapeKept store) (h : AreContentsKept store contents) where
-  pub sealed_resides : (id : ObjectId) (c : Copy) → at store.copies id ≡ Some c → is_sealed c.state ≡ true → is_some c.offset ≡ true
+  sealed_resides : (id : ObjectId) (c : Copy) → at store.copies id ≡ Some c → is_sealed c.state ≡ true → is_some c.offset ≡ true
   sealed_resides id c e s = (sh.each id c e).resident ∙ by_state c.state s
     where
       by_state : (state : CopyState) → is_sealed state ≡ true → has_extent state c.fetch ≡ true

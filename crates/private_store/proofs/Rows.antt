@@ -61,10 +61,10 @@ Tame o None = Unit {0}
 Tame None (Some d) = ⊥
 Tame (Some c) (Some d) = IsTame c d
 
-pub tame_copy : (c : Copy) → IsTame c c
+tame_copy : (c : Copy) → IsTame c c
 tame_copy c = record { length = refl; backed = refl; stands = inl (refl, refl) }
 
-pub tame_stays : (o : Option Copy) → Tame o o
+tame_stays : (o : Option Copy) → Tame o o
 tame_stays None = tt
 tame_stays (Some c) = tame_copy c
 

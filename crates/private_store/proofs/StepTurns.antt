@@ -109,10 +109,7 @@ MaySeal s store _ = Unit {0}
 -- ---- the frames of a change
 
 module _ (s : ObjectId → Bool) (store : Shape) where
-  abbrev Goes : Change → Type 0
-  Goes c = IsTurn s store c
-
-  pub calm_turn : (c : Change) → IsCalm store c → IsTurn s store c
+  calm_turn : (c : Change) → IsCalm store c → IsTurn s store c
   calm_turn c k = record { is = calm k.is }
 
   at_rest : (c : Change) → Quiet store c.shape → IsTurn s store c
