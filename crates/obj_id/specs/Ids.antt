@@ -1,5 +1,6 @@
--- The order of ids, and when two are the same.
-use Rattle.std.specs.Prelude.{Bool, ◌&&◌, nat_eq}
+-- The order of ids, when two are the same, and their bytes.
+use Rattle.std.specs.Prelude.{◌≡◌, ℕ, ◌^◌, ◌<◌, ◌≤◌, Bool, ◌&&◌, nat_eq, List, ◌++◌, length, slice_index}
+use Rattle.std.specs.Int.{to_be_bytes, w32}
 use Rattle.std.specs.declared.cmp.Ordering.{Ordering}
 use Rattle.std.specs.Ordering.{is_eq, ordering_then, nat_cmp}
 use Rattle.std.specs.Cmp.Lexicographic.{slice_cmp, pointwise}
@@ -23,3 +24,21 @@ same_id a b = is_eq (id_cmp a b)
 -- the `==` of ids
 abbrev pub id_eq : ObjectId → ObjectId → Bool
 id_eq a b = pointwise nat_eq a.task.0 b.task.0 && (nat_eq a.job.0 b.job.0 && nat_eq a.index b.index)
+
+-- what a program's task is: 20 bytes
+pub record IsTask (task : TaskNo) : Type 0 where
+  pub task_length : length task.0 ≡ 20
+  pub task_bytes : (i : ℕ) → slice_index task.0 i < 256
+
+-- what a program's id is: a task of 20 bytes, and a job and an index of 32 bits that are at least 1
+pub record IsId (id : ObjectId) : Type 0 where
+  pub task_length : length id.task.0 ≡ 20
+  pub task_bytes : (i : ℕ) → slice_index id.task.0 i < 256
+  pub job_positive : 1 ≤ id.job.0
+  pub job_fits : id.job.0 < 2 ^ 32
+  pub index_positive : 1 ≤ id.index
+  pub index_fits : id.index < 2 ^ 32
+
+-- the 28 bytes: the task, then job and index with the highest byte first
+abbrev pub id_bytes : ObjectId → List ℕ
+id_bytes id = id.task.0 ++ to_be_bytes w32 id.job.0 ++ to_be_bytes w32 id.index

@@ -1,2 +1,4 @@
 pub mod Parts
 pub mod Ids
+pub mod Refusals
+pub mod Texts

@@ -1,6 +1,7 @@
 //! Tasks, jobs and objects, by name.
-ghost use Rattle.std.specs.Prelude.{◌≡◌, ◌++◌, ◌≤◌, length, IfOk};
+ghost use Rattle.std.specs.Prelude.{◌≡◌, ◌++◌, ◌≤◌, IfOk, IfErr};
 
+use crate::Refusal;
 use std::marker::Model;
 
 /// The task that made an object: 20 bytes, all of them allowed.
@@ -34,6 +35,54 @@ impl Model for ObjectId {
 }
 
 impl ObjectId {
+    ghost use Rattle.obj_id.specs.Ids.{IsId, id_bytes};
+
+    /// The object's name by its parts. `BadId` where the job or the index is 0.
+    pub fn new(task: TaskNo, job: JobNo, index: u32) -> Result<ObjectId, Refusal>
+        ensures id { IfOk result IsId }
+        ensures made { 1 ≤ job.0 → 1 ≤ index
+            → result ≡ Ok (record { task = task; job = job; index = index }) }
+        ensures no_job { job.0 ≡ 0 → result ≡ Err Refusal.BadId }
+        ensures no_index { index ≡ 0 → result ≡ Err Refusal.BadId }
+    {
+        if job.0 == 0 || index == 0 {
+            return Err(Refusal::BadId);
+        }
+        Ok(ObjectId { task, job, index })
+    }
+
+    /// The id whose 28 bytes these are: 20 of the task, then job and index with the highest byte
+    /// first. `BadId` where there is none: at another length, and where the job or the index is 0.
+    pub fn from_bytes(bytes: &[u8]) -> Result<ObjectId, Refusal>
+        ensures id { IfOk result IsId }
+        ensures spelled { IfOk result (λ id. id_bytes id ≡ bytes.now) }
+        ensures read { (id : ObjectId) → IsId id → id_bytes id ≡ bytes.now → result ≡ Ok id }
+        ensures refused { IfErr result (λ refusal. refusal ≡ Refusal.BadId) }
+    {
+        let Ok(bytes) = <[u8; 28]>::try_from(bytes) else {
+            return Err(Refusal::BadId);
+        };
+        let mut task = [0; 20];
+        task.copy_from_slice(&bytes[..20]);
+        let mut job = [0; 4];
+        job.copy_from_slice(&bytes[20..24]);
+        let mut index = [0; 4];
+        index.copy_from_slice(&bytes[24..28]);
+        let job = JobNo(u32::from_be_bytes(job));
+        ObjectId::new(TaskNo(task), job, u32::from_be_bytes(index))
+    }
+
+    /// The 28 bytes of the id.
+    pub fn to_bytes(&self) -> [u8; 28]
+        ensures id { IsId self.now }
+        ensures bytes { result ≡ id_bytes self.now }
+    {
+        let task = self.task.0;
+        let job = self.job.0;
+        let index = self.index;
+        joined(task, job.to_be_bytes(), index.to_be_bytes())
+    }
+
     /// The task that made the object.
     pub fn task(&self) -> TaskNo
         ensures { result ≡ self.now.task }
@@ -56,4 +105,15 @@ impl ObjectId {
     {
         self.index
     }
+}
+
+/// The bytes of the three parts, one after the other.
+fn joined(task: [u8; 20], job: [u8; 4], index: [u8; 4]) -> [u8; 28]
+    ensures { result ≡ task ++ job ++ index }
+{
+    let mut bytes = [0; 28];
+    bytes[..20].copy_from_slice(&task);
+    bytes[20..24].copy_from_slice(&job);
+    bytes[24..28].copy_from_slice(&index);
+    bytes
 }

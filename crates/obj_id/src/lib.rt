@@ -6,15 +6,17 @@
 mod commands;
 mod ids;
 mod items;
+mod laws;
 mod messages;
+pub mod numbers;
 mod refusals;
+mod texts;
 mod works;
 
-pub use commands::{
-    Command, CopyState, GrantedItem, Kind, OwnItem, Reply, Usage,
-};
+pub use commands::{Command, CopyState, GrantedItem, Kind, OwnItem, Reply, Usage};
 pub use ids::{JobNo, ObjectId, TaskNo};
 pub use items::Items;
+pub use laws::{a_text_names_one, ids_are_ordered_as_their_bytes};
 pub use messages::{Arrival, Digest, DirectoryMessage, Location, Message, PeerMessage, Place};
 pub use refusals::Refusal;
 pub use works::{DeviceAnswer, DeviceKey, Extent, JobKey, Quota, Work, WorkKind};

@@ -1,7 +1,6 @@
 //! What nodes and the directory of owners send one another for a job.
-use bytes::Bytes;
-
 use crate::{Items, ObjectId};
+use bytes::Bytes;
 
 /// The SHA-256 digest of an object's bytes.
 #[derive(Clone, Copy, Debug, PartialEq, Eq)]

@@ -1,4 +1,8 @@
 //! Why the store refuses a call.
+ghost use Rattle.std.specs.Prelude.{◌≡◌, IfSome};
+ghost use Rattle.obj_id.specs.Refusals.{name_of, number_of};
+ghost use Rattle.obj_id.specs.declared.refusals.Refusal.{Refusal};
+
 use std::alloc::{AllocError, AllocFailed};
 
 /// The 24 refusals, in the order of their numbers.
@@ -52,6 +56,92 @@ pub enum Refusal {
     NotResident,
     /// 24: no such work, job or entry; never to a session.
     Stale,
+}
+
+/// All refusals, in the order of their numbers.
+const ALL: [Refusal; 24] = [
+    Refusal::NotAdmitted,
+    Refusal::BadId,
+    Refusal::Exists,
+    Refusal::Absent,
+    Refusal::NotSealed,
+    Refusal::AlreadySealed,
+    Refusal::BadSize,
+    Refusal::OutOfBounds,
+    Refusal::Full,
+    Refusal::Pending,
+    Refusal::NotHeld,
+    Refusal::Granted,
+    Refusal::NotGranted,
+    Refusal::DeviceFailed,
+    Refusal::Damaged,
+    Refusal::Busy,
+    Refusal::TooMany,
+    Refusal::Gone,
+    Refusal::NoMemory,
+    Refusal::Malformed,
+    Refusal::NoRoom,
+    Refusal::NotOwner,
+    Refusal::NotResident,
+    Refusal::Stale,
+];
+
+impl Refusal {
+    /// The number, from 1 to 24.
+    pub fn number(self) -> u8
+        ensures { result ≡ number_of self }
+    {
+        self as u8 + 1
+    }
+
+    /// The name, as texts print it.
+    pub fn name(self) -> &'static str
+        ensures { result.now ≡ name_of self }
+    {
+        match self {
+            Refusal::NotAdmitted => "NotAdmitted",
+            Refusal::BadId => "BadId",
+            Refusal::Exists => "Exists",
+            Refusal::Absent => "Absent",
+            Refusal::NotSealed => "NotSealed",
+            Refusal::AlreadySealed => "AlreadySealed",
+            Refusal::BadSize => "BadSize",
+            Refusal::OutOfBounds => "OutOfBounds",
+            Refusal::Full => "Full",
+            Refusal::Pending => "Pending",
+            Refusal::NotHeld => "NotHeld",
+            Refusal::Granted => "Granted",
+            Refusal::NotGranted => "NotGranted",
+            Refusal::DeviceFailed => "DeviceFailed",
+            Refusal::Damaged => "Damaged",
+            Refusal::Busy => "Busy",
+            Refusal::TooMany => "TooMany",
+            Refusal::Gone => "Gone",
+            Refusal::NoMemory => "NoMemory",
+            Refusal::Malformed => "Malformed",
+            Refusal::NoRoom => "NoRoom",
+            Refusal::NotOwner => "NotOwner",
+            Refusal::NotResident => "NotResident",
+            Refusal::Stale => "Stale",
+        }
+    }
+
+    /// The refusal of a number, or `None` where there is none.
+    pub fn from_number(number: u8) -> Option<Refusal>
+        ensures numbered { IfSome result (λ refusal. number_of refusal ≡ number) }
+        ensures found { (refusal : Refusal) → number_of refusal ≡ number → result ≡ Some refusal }
+    {
+        let index = number.checked_sub(1)?;
+        ALL.get(usize::from(index)).copied()
+    }
+
+    /// The refusal of a name, or `None` where there is none.
+    pub fn from_name(name: &str) -> Option<Refusal>
+        ensures named { IfSome result (λ refusal. name_of refusal ≡ name.now) }
+        ensures found { (refusal : Refusal) → name_of refusal ≡ name.now → result ≡ Some refusal }
+    {
+        ALL.iter().find(|refusal| refusal.name() == name).copied()
+    }
 }
 
 impl From<AllocError> for Refusal {

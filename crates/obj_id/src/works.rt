@@ -1,7 +1,6 @@
 //! Quotas, extents and device works.
-use bytes::Bytes;
-
 use crate::JobNo;
+use bytes::Bytes;
 
 /// What a job may use at a node, in bytes.
 #[derive(Clone, Copy, Debug, PartialEq, Eq)]

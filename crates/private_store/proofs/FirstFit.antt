@@ -1,7 +1,8 @@
--- D3: first fit gives the least multiple of 16 that is free, or none where none is.
-use Rattle.std.proofs.Common.{◌≡◌, ℕ, zero, suc, ◌+◌, ◌*◌, ◌%◌, ◌<◌, ◌≤◌, true, false, List, Some, None, is_some, unwrap_or, refl, sym, ap, subst, ◌∙◌, T, arith}
+-- First fit gives the least multiple of 16 that is free, or none where none is.
+use Rattle.std.proofs.Common.{◌≡◌, ℕ, zero, suc, ◌+◌, ◌*◌, ◌/◌, ◌%◌, ◌<◌, ◌≤◌, Bool, true, false, ◌&&◌, List, Some, None, is_some, unwrap_or, refl, sym, ap, subst, ◌∙◌, T, arith}
 use Rattle.obj_id.specs.declared.works.Extent.{Extent}
-use Rattle.private_store.specs.Extents.{is_free, first_from}
+use Rattle.private_store.specs.Extents.{rounded, is_free, first_from, first}
+use Rattle.std.proofs.lemmas.Bool.{leb-true}
 
 some_value : {A : Type 0} (x y : A) → Some x ≡ Some y → x ≡ y
 some_value x y e = ap (λ o. unwrap_or o x) e
@@ -54,3 +55,18 @@ module _ (extents : List Extent) (window n : ℕ) where
           let e : offset + 16 * suc j ≡ (offset + 16) + 16 * j = omega arith in
           let found = ih j (omega (arith, lt)) (subst (λ x. is_free extents window n x ≡ true) e free) in
           (found.0, found.1, omega (arith, found.2))
+
+pub first-free : (extents : List Extent) (window n p : ℕ) → first extents window n ≡ Some p → is_free extents window n p ≡ true
+first-free extents window n p e = from-free extents window n 0 (window / 16 + 1) p e
+
+and_left : (a b : Bool) → a && b ≡ true → a ≡ true
+and_left true b h = refl
+and_left false b h = h
+
+pub first-least : (extents : List Extent) (window n k : ℕ) → is_free extents window n (16 * k) ≡ true → (p : ℕ) × (first extents window n ≡ Some p) × (p ≤ 16 * k)
+first-least extents window n k free =
+    let ends : 16 * k + rounded n ≤ window = leb-true (16 * k + rounded n) window (and_left _ _ free) in
+    let within : k < window / 16 + 1 = omega (arith, ends) in
+    let from_zero : 0 + 16 * k ≡ 16 * k = omega arith in
+    let found = from-least extents window n 0 (window / 16 + 1) k within (subst (λ o. is_free extents window n o ≡ true) (sym from_zero) free) in
+    (found.0, found.1, omega (arith, found.2))

@@ -24,3 +24,5 @@ pub mod ExamplesOfGrants
 pub mod ExamplesOfFetches
 pub mod ExamplesOfQuotas
 pub mod ExamplesOfFrames
+pub mod RefusingLemmas
+pub mod ReplayLemmas

@@ -25,7 +25,7 @@ use Rattle.private_store.specs.Copies.{visible}
 use Rattle.private_store.specs.Room.{Room, Plan, fits, wait, full, busy, evict, spill, set_copy, drop_copy, evicted, asked, spill_room, make_room, plan}
 use Rattle.private_store.specs.Change.{refused, done, checked, needing, sending, in_room, settled, doomed, doom}
 use Rattle.private_store.specs.Commands.{of_task, task_ended, scoped, give_up_one, leave_one, has_borrower, without_borrower, with_holds, grant_own, grant_foreign, restore, get_away, get_fetching, get_copy, get_sealed, begin_fetch, at_each, then_change, create, write, seal, get, read, release, unpin, borrow, give_up, delete, end_task, grant, withdraw, peek, list, usage, leave}
-use Rattle.private_store.specs.Events.{with_fetch, fetch_of, located, located_copy, fetch_failed, chunk_taken, chunk_arrived, is_missing, not_here_arrived, pull_answer, pull_arrived, quiet, written, answer, read_back, without_work, begin, requota, end_job_here, received, withdrawn, is_hand, hand_ended}
+use Rattle.private_store.specs.Events.{with_fetch, fetch_of, located, located_copy, fetch_failed, chunk_taken, chunk_arrived, is_missing, not_here_arrived, pull_answer, pull_arrived, quiet, written, answer, read_back, without_work, begin, end_job_here, received, withdrawn, is_hand, hand_ended}
 use Rattle.private_store.specs.declared.inputs.Source.{Source}
 use Rattle.obj_id.specs.declared.works.Quota.{Quota}
 use Rattle.private_store.specs.declared.inputs.Judged.{Judged}
@@ -518,10 +518,10 @@ module _ (store : Shape) (h : InOrder store) where
 
   withdrawn_plain : (id : ObjectId) (giver depth : ℕ) → Plain store (withdrawn store id giver depth)
   withdrawn_plain id giver depth = same store h (withdrawn store id giver depth) refl (
-    elim (at store.received id) as (λ o. (option_map_or (λ seen. cond (list_any (is_hand giver depth) seen.hands) (hand_ended store id giver depth seen) store) o store).copies ≡ store.copies) [
-      | None ↦ refl
-      | Some seen ↦ elim (list_any (is_hand giver depth) seen.hands) as (λ b. (cond b (hand_ended store id giver depth seen) store).copies ≡ store.copies) [ true ↦ refl | false ↦ refl ]
-    ])
+      elim (at store.received id) as (λ o. (option_map_or (λ seen. cond (list_any (is_hand giver depth) seen.hands) (hand_ended store id giver depth seen) store) o store).copies ≡ store.copies) [
+        | None ↦ refl
+        | Some seen ↦ elim (list_any (is_hand giver depth) seen.hands) as (λ b. (cond b (hand_ended store id giver depth seen) store).copies ≡ store.copies) [ true ↦ refl | false ↦ refl ]
+      ])
 
   begin_plain : (quota : Quota) → Plain store (begin store quota)
   begin_plain quota =

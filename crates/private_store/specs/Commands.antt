@@ -17,8 +17,8 @@ use Rattle.obj_id.specs.declared.commands.GrantedItem.{GrantedItem}
 use Rattle.obj_id.specs.declared.commands.Reply.TheVariants as reply
 use Rattle.obj_id.specs.Ids.{same_id, same_task}
 use Rattle.private_store.specs.Tables.{at, with_entry, ids_of}
-use Rattle.private_store.specs.Limits.{longest_object, most_bytes, chunk_size, most_copies, most_holds, most_borrowers, most_hands, greatest_depth, most_ended_tasks, has_numbers}
-use Rattle.private_store.specs.Extents.{rounded}
+use Rattle.private_store.specs.Limits.{most_bytes, chunk_size, most_copies, most_holds, most_borrowers, most_hands, greatest_depth, most_ended_tasks, has_numbers}
+use Rattle.private_store.specs.Extents.{rounded, is_size}
 use Rattle.private_store.specs.Shape.{Copy, Shape, Change, Fetch, Phase, locating, sized, pulling, failed, HandTaken, add_location, locate, pull}
 use Rattle.private_store.specs.Copies.{is_primary, is_created, is_sealed, is_granted, in_scope, visible, window_used, device_used}
 use Rattle.private_store.specs.Room.{make_room, set_copy, drop_copy, asked, works_left}
@@ -26,7 +26,7 @@ use Rattle.private_store.specs.Change.{replied, refused, done, checked, needing,
 
 -- whether an object of the length may be in the window
 abbrev pub is_length : Shape → ℕ → Bool
-is_length store n = nat_lt 0 n && nat_le n longest_object && nat_le (rounded n) store.quota.window
+is_length store n = is_size store.quota.window n
 
 -- whether there may be no other copy
 abbrev pub is_full_of_copies : Shape → Bool

@@ -1,11 +1,16 @@
 -- Extents of a window, and first fit.
-use Rattle.std.specs.Prelude.{ℕ, zero, suc, ◌+◌, ◌*◌, ◌/◌, nat_le, Bool, true, false, ◌&&◌, ◌||◌, List, Option, Some, None}
+use Rattle.std.specs.Prelude.{ℕ, zero, suc, ◌+◌, ◌*◌, ◌/◌, nat_lt, nat_le, Bool, true, false, ◌&&◌, ◌||◌, List, Option, Some, None}
 use Rattle.std.specs.List.{list_all}
 use Rattle.obj_id.specs.declared.works.Extent.{Extent}
+use Rattle.private_store.specs.Limits.{longest_object}
 
 -- n bytes in whole units of 16
 abbrev pub rounded : ℕ → ℕ
 rounded n = 16 * ((n + 15) / 16)
+
+-- whether an object of n bytes may be in a window
+abbrev pub is_size : ℕ → ℕ → Bool
+is_size window n = nat_lt 0 n && nat_le n longest_object && nat_le (rounded n) window
 
 abbrev pub end_of : Extent → ℕ
 end_of e = e.offset + e.length

@@ -9,14 +9,14 @@ use Rattle.obj_id.specs.declared.commands.Kind.{Kind}
 use Rattle.obj_id.specs.declared.commands.Kind.TheVariants.{Primary, Secondary}
 use Rattle.obj_id.specs.declared.commands.CopyState.{CopyState}
 use Rattle.obj_id.specs.declared.commands.CopyState.TheVariants.{Created, Sealed, Restoring, Fetching, Away}
-use Rattle.obj_id.specs.declared.refusals.Refusal.{Refusal}
-use Rattle.obj_id.specs.declared.refusals.Refusal.TheVariants as refusal
 use Rattle.obj_id.specs.declared.commands.OwnItem.{OwnItem}
 use Rattle.obj_id.specs.declared.commands.GrantedItem.{GrantedItem}
 use Rattle.obj_id.specs.declared.commands.Command.{Command}
 use Rattle.obj_id.specs.declared.commands.Command.TheVariants as command
 use Rattle.obj_id.specs.declared.commands.Reply.{Reply}
 use Rattle.obj_id.specs.declared.commands.Reply.TheVariants as reply
+use Rattle.obj_id.specs.Ids.{id_bytes}
+use Rattle.obj_id.specs.Refusals.{number_of}
 use Rattle.private_store.specs.declared.frames.Awaited.{Awaited}
 use Rattle.private_store.specs.declared.frames.Awaited.TheVariants as awaited
 use Rattle.private_store.specs.declared.frames.Item.{Item}
@@ -27,10 +27,6 @@ be4 n = to_be_bytes w32 n
 
 abbrev pub be8 : ℕ → List ℕ
 be8 n = to_be_bytes w64 n
-
--- the 28 bytes of an id
-abbrev pub id_bytes : ObjectId → List ℕ
-id_bytes id = id.task.0 ++ be4 id.job.0 ++ be4 id.index
 
 abbrev pub frame : List ℕ → List ℕ
 frame body = be4 (length body) ++ body
@@ -231,32 +227,6 @@ own_bytes i = id_bytes i.id ++ state_byte i.state ∷ kind_byte i.kind ∷ be4 i
 abbrev pub granted_bytes : GrantedItem → List ℕ
 granted_bytes i = id_bytes i.id ++ be4 i.length ++ i.depth ∷ []
 
-abbrev pub refusal_byte : Refusal → ℕ
-refusal_byte refusal.NotAdmitted = 1
-refusal_byte refusal.BadId = 2
-refusal_byte refusal.Exists = 3
-refusal_byte refusal.Absent = 4
-refusal_byte refusal.NotSealed = 5
-refusal_byte refusal.AlreadySealed = 6
-refusal_byte refusal.BadSize = 7
-refusal_byte refusal.OutOfBounds = 8
-refusal_byte refusal.Full = 9
-refusal_byte refusal.Pending = 10
-refusal_byte refusal.NotHeld = 11
-refusal_byte refusal.Granted = 12
-refusal_byte refusal.NotGranted = 13
-refusal_byte refusal.DeviceFailed = 14
-refusal_byte refusal.Damaged = 15
-refusal_byte refusal.Busy = 16
-refusal_byte refusal.TooMany = 17
-refusal_byte refusal.Gone = 18
-refusal_byte refusal.NoMemory = 19
-refusal_byte refusal.Malformed = 20
-refusal_byte refusal.NoRoom = 21
-refusal_byte refusal.NotOwner = 22
-refusal_byte refusal.NotResident = 23
-refusal_byte refusal.Stale = 24
-
 -- the body of a reply's frame, if it has one
 abbrev pub reply_body : Reply (List ℕ) → Option (List ℕ)
 reply_body reply.Ok = Some (0x80 ∷ [])
@@ -267,7 +237,7 @@ reply_body (reply.List own granted) = Some (0x84 ∷ be4 (length own) ++ flat_ma
 reply_body (reply.Usage u) = Some (0x85 ∷ be8 u.window ++ be8 u.window_used ++ be8 u.device ++ be8 u.device_used ++ be8 u.copies ++ be8 u.works)
 reply_body (reply.Work work) = None
 reply_body reply.NoWork = None
-reply_body (reply.Refused r) = Some (0x8f ∷ refusal_byte r ∷ [])
+reply_body (reply.Refused r) = Some (0x8f ∷ number_of r ∷ [])
 
 abbrev pub reply_frame : Reply (List ℕ) → List ℕ
 reply_frame r = unwrap_or (option_map frame (reply_body r)) []

@@ -1,6 +1,6 @@
 -- What every store keeps that came from an unbegun one by inputs, whatever they were: the invariants
 -- of a job's store.
-use Rattle.std.specs.Prelude.{◌≡◌, ℕ, ◌+◌, ◌%◌, ◌≤◌, ◌<◌, ◌^◌, ◌==◌, nat_lt, nat_le, Bool, true, false, not, ◌||◌, ◌&&◌, List, [], length, count_by, Option, Some, None, is_some, is_none, IsTrue}
+use Rattle.std.specs.Prelude.{◌≡◌, ℕ, ◌%◌, ◌≤◌, ◌<◌, ◌^◌, ◌==◌, nat_lt, nat_le, Bool, true, false, not, ◌||◌, ◌&&◌, List, [], length, count_by, Option, Some, None, is_some, is_none, IsTrue}
 use Rattle.std.specs.Option.{option_map_or}
 use Rattle.std.specs.List.{list_any, list_all}
 use Rattle.std.specs.Ordering.{nat_cmp}
@@ -12,7 +12,7 @@ use Rattle.obj_id.specs.declared.commands.CopyState.TheVariants.{Created, Sealed
 use Rattle.obj_id.specs.declared.works.Extent.{Extent}
 use Rattle.obj_id.specs.Ids.{id_cmp, same_id, same_task}
 use Rattle.private_store.specs.Limits.{longest_object, most_copies, most_works, most_holds, most_borrowers, most_hands, most_ended_tasks, is_quota}
-use Rattle.private_store.specs.Tables.{ById, at}
+use Rattle.private_store.specs.Tables.{at}
 use Rattle.private_store.specs.Extents.{end_of, is_apart}
 use Rattle.private_store.specs.Shape.{Copy, Shape, Phase, pulling, Fetch, WorkInFlight, HandGiven, Seen}
 use Rattle.private_store.specs.Copies.{is_primary, is_sealed, is_away, is_held, extent_of, device_used}

@@ -58,7 +58,10 @@ most_ended_tasks = 1024
 abbrev pub has_numbers : ℕ → ℕ → Bool
 has_numbers used n = nat_lt (used + n) (2 ^ 64)
 
--- a window of whole units and a device quota, both within their ranges
+-- a window's bytes: whole units of 16, within their range
+abbrev pub is_window : ℕ → Bool
+is_window n = nat_le 16 n && nat_le n widest_window && (n % 16 == 0)
+
+-- a window and a device quota, both within their ranges
 abbrev pub is_quota : Quota → Bool
-is_quota quota =
-    nat_le 16 quota.window && nat_le quota.window widest_window && (quota.window % 16 == 0) && nat_le quota.device greatest_device_quota
+is_quota quota = is_window quota.window && nat_le quota.device greatest_device_quota

@@ -1,5 +1,5 @@
 -- What a refusal leaves as it was.
-use Rattle.std.specs.Prelude.{◌≡◌, Bool, false, [], Option, Some, None}
+use Rattle.std.specs.Prelude.{◌≡◌, false, [], Some, None}
 use Rattle.obj_id.specs.declared.ids.ObjectId.{ObjectId}
 use Rattle.obj_id.specs.declared.refusals.Refusal.{Refusal}
 use Rattle.obj_id.specs.declared.refusals.Refusal.TheVariants.{Pending, DeviceFailed}

@@ -1,6 +1,6 @@
 -- The answers that neighbours share, to the operator, to device workers and of deliveries: what each
 -- must be, by the steps and answers before it.
-use Rattle.std.specs.Prelude.{◌≡◌, ℕ, ◌==◌, ◌%◌, nat_le, Bool, true, false, not, ◌&&◌, ◌||◌, if◌then◌else◌, List, [], ◌∷◌, ◌++◌, length, map, reverse, filter, filter_map, find, slice_get, Option, Some, None, is_none, unwrap_or, option_map, ◌⊎◌}
+use Rattle.std.specs.Prelude.{◌≡◌, ℕ, ◌==◌, nat_le, Bool, true, false, not, ◌&&◌, ◌||◌, if◌then◌else◌, List, [], ◌∷◌, ◌++◌, length, map, reverse, filter, find, slice_get, Option, Some, None, is_none, unwrap_or, option_map}
 use Rattle.std.specs.Option.{option_map_or, option_and_then}
 use Rattle.std.specs.List.{list_any, list_all}
 use Rattle.obj_id.specs.declared.works.Extent.{Extent}
@@ -21,7 +21,7 @@ use Rattle.private_store.specs.declared.schedules.Traced.{Traced}
 use Rattle.private_store.specs.Limits.{is_quota, most_live_jobs}
 use Rattle.private_store.specs.Tables.{at}
 use Rattle.private_store.specs.Extents.{first, end_of, is_apart}
-use Rattle.private_store.specs.Shape.{Copy, Shape, WorkInFlight}
+use Rattle.private_store.specs.Shape.{Copy, WorkInFlight}
 use Rattle.private_store.specs.Copies.{fits_quota}
 use Rattle.private_store.specs.Contents.{bytes_at}
 use Rattle.private_store.specs.Private.{Store, Outcome, key_of}

@@ -1,5 +1,5 @@
 -- Tables by object: lists of entries by rising id.
-use Rattle.std.specs.Prelude.{ℕ, Bool, not, List, map, filter, Option}
+use Rattle.std.specs.Prelude.{Bool, not, List, map, filter, Option}
 use Rattle.std.specs.List.{list_any}
 use Rattle.std.specs.FinMap.{find, put}
 use Rattle.obj_id.specs.declared.ids.ObjectId.{ObjectId}

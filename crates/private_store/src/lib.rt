@@ -6,6 +6,7 @@
 
 mod frames;
 mod inputs;
+pub mod laws;
 mod schedules;
 
 pub use frames::{Awaited, Item};

@@ -1,0 +1,7 @@
+pub mod First
+pub mod Gap
+pub mod Kept
+pub mod Parts
+pub mod Places
+pub mod Resized
+pub mod Searched

@@ -1,0 +1,350 @@
+//! A job's window: one memory, and the extents that are placed in it. A contract sees a window as its
+//! quota and its extents by rising offset, each with its bytes; the memory behind is hidden.
+#![tactic(auto)]
+
+ghost use Rattle.std.specs.Prelude.{◌≡◌, ◌≢◌, ◌↔◌, ℕ, ◌+◌, ◌-◌, ◌*◌, ◌/◌, ◌%◌, ◌^◌, ◌<◌, ◌≤◌, ◌++◌, List, [], ◌∷◌, Some, None, true, false, not, nat_eq, IfOk, OnOk, OnErr, IfSome, IsSome, IsErrOf, IsOk, IsTrue, length, take, drop, filter, replicate};
+ghost use Rattle.std.specs.List.{list_any, list_all};
+ghost use Rattle.std.specs.List.Sorted.{IsNonDecreasingBy};
+ghost use Rattle.obj_id.specs.declared.works.Extent.{Extent};
+ghost use Rattle.std.specs.Map.{lookup, remove_entry, set_value};
+ghost use Rattle.obj_id.specs.declared.refusals.Refusal.{Refusal};
+ghost use Rattle.obj_id.specs.declared.refusals.Refusal.TheVariants.{BadSize, Full, OutOfBounds, NoMemory};
+ghost use Rattle.private_store.specs.Limits.{is_window as is_window_lem};
+ghost use Rattle.private_store.specs.Extents.{rounded, is_size, first};
+ghost use Rattle.private_store.specs.Contents.{overwritten};
+ghost use Rattle.job_region.specs.Region.{extents_of, place_for, place_check, put_in, without, IsAt, bytes_at, resize_check as resize_check_lem};
+ghost use Rattle.job_region.specs.Layout.{placed_in, LaidFrom, put_extent, without_extent, last_end};
+
+use obj_id::{Extent, Refusal};
+use std::alloc::{AllocError, Global};
+use std::marker::Model;
+
+/// The bytes of the longest object.
+const LONGEST_OBJECT: u32 = 16_777_216;
+
+/// A job's window of so many bytes, and its extents.
+#[derive(Drop)]
+pub struct Window {
+    quota: u64,
+    // by rising offset
+    extents: Vec<Extent>,
+    memory: Vec<u8>,
+}
+
+impl Model for Window {
+    ghost use Rattle.job_region.specs.Region.{Region};
+
+    ghost Value = { Region };
+
+    ghost use Rattle.job_region.specs.Layout.{placed_in, IsLaid};
+
+    ghost view = { λ w. record { quota = w.quota; placed = placed_in w.memory.items w.extents.items } };
+
+    ghost invariant = { λ w. IsLaid w.quota w.memory.items w.extents.items };
+}
+
+impl Window {
+    /// A window of `quota` bytes with nothing placed. `BadSize` unless that is 16 to 268,435,456 and a
+    /// multiple of 16.
+    pub fn new(alloc: Global, quota: u64) -> Result<Window, Refusal>
+        ensures ok { IfOk result (λ w. w ≡ record { quota = quota; placed = [] }) }
+        ensures size { IsErrOf result BadSize ↔ (is_window_lem quota ≡ false) }
+        ensures refused { (r : Refusal) → r ≢ NoMemory → IsErrOf result r → r ≡ BadSize }
+    {
+        if !is_window(quota) {
+            return Err(Refusal::BadSize);
+        }
+        let memory = zeros(alloc, quota)?;
+        Ok(Window {
+            quota,
+            extents: Vec::new(alloc),
+            memory,
+        })
+    }
+
+    /// Places an extent of zeros for an object of `len` bytes, at the least multiple of 16 at which they
+    /// lie within the window and meet no extent. Takes a scan of the extents.
+    ///
+    /// `BadSize` where no object of that length may be in the window, `Full` where no place is free,
+    /// `NoMemory` last. A refusal changes nothing.
+    pub fn place(&mut self, len: u32) -> Result<Extent, Refusal>
+        ensures least { IfOk result (λ e. place_for self.old len ≡ Some e.offset) }
+        ensures length { IfOk result (λ e. e.length ≡ rounded len) }
+        ensures placed { IfOk result (λ e. self.new ≡ record self.old { placed = put_in (e.offset, replicate e.length 0) self.old.placed }) }
+        ensures refused { (r : Refusal) → r ≢ NoMemory → IsErrOf result r → place_check self.old len ≡ Some r }
+        ensures passed { IsOk result → place_check self.old len ≡ None }
+        ensures memory { IsErrOf result NoMemory → place_check self.old len ≡ None }
+        ensures err { OnErr result (self.new ≡ self.old) }
+        ensures fresh { IfOk result (λ e. lookup (nat_eq e.offset) self.old.placed ≡ None) }
+        ensures there { IfOk result (λ e. IsAt e self.new.placed) }
+        ensures others { IfOk result (λ e. (o : ℕ) → o ≢ e.offset → lookup (nat_eq o) self.new.placed ≡ lookup (nat_eq o) self.old.placed) }
+    {
+        let need = round_up(len);
+        if len == 0 || len > LONGEST_OBJECT || need > self.quota {
+            return Err(Refusal::BadSize);
+        }
+        let Some(offset) = gap_now(&self.extents, &self.memory, self.quota, len) else {
+            return Err(Refusal::Full);
+        };
+        let extent = Extent {
+            offset,
+            length: need,
+        };
+        put(&mut self.extents, extent)?;
+        clear_bytes(&mut self.memory, offset, need);
+        Ok(extent)
+    }
+
+    /// Why an object of `len` bytes can't be placed: `BadSize`, `Full`, or nothing.
+    pub fn check(&self, len: u32) -> Option<Refusal>
+        ensures { result ≡ place_check self.now len }
+    {
+        let need = round_up(len);
+        if len == 0 || len > LONGEST_OBJECT || need > self.quota {
+            return Some(Refusal::BadSize);
+        }
+        match gap_now(&self.extents, &self.memory, self.quota, len) {
+            Some(_) => None,
+            None => Some(Refusal::Full),
+        }
+    }
+
+    /// Takes back an extent of this window. Takes no memory.
+    pub fn give_back(&mut self, extent: Extent)
+        requires { IsAt extent self.old.placed }
+        ensures { self.new ≡ record self.old { placed = remove_entry (nat_eq extent.offset) self.old.placed } }
+    {
+        take_out(&mut self.extents, extent.offset);
+    }
+
+    /// The bytes of an extent of this window, lent without a copy.
+    pub fn bytes_of(&self, extent: &Extent) -> &[u8]
+        requires { IsAt extent.now self.now.placed }
+        ensures value { lookup (nat_eq extent.now.offset) self.now.placed ≡ Some result.now }
+        ensures length { length result.now ≡ extent.now.length }
+    {
+        slice_at(&self.memory, extent.offset as usize, extent.length as usize)
+    }
+
+    /// Writes bytes into an extent of this window, from an offset in it on; the other extents stay.
+    /// `OutOfBounds` where they pass its end, and then nothing is written.
+    pub fn write(&mut self, extent: &Extent, off: u32, bytes: &[u8]) -> Result<(), Refusal>
+        requires { IsAt extent.now self.old.placed }
+        ensures ok { OnOk result (self.new ≡ record self.old { placed = set_value (nat_eq extent.now.offset) self.old.placed (overwritten (bytes_at extent.now self.old.placed) off bytes.now) }) }
+        ensures succeeds { off + length bytes.now ≤ extent.now.length → IsOk result }
+        ensures bounds { IsErrOf result OutOfBounds ↔ (extent.now.length < off + length bytes.now) }
+        ensures err { OnErr result (self.new ≡ self.old) }
+    {
+        if (extent.length as usize) < off as usize + bytes.len() {
+            return Err(Refusal::OutOfBounds);
+        }
+        copy_in(
+            &mut self.memory,
+            extent.offset as usize,
+            off as usize,
+            bytes,
+        );
+        Ok(())
+    }
+
+    /// Where an object of `len` bytes would go if these extents went, which are given by rising offset.
+    /// Takes one scan of the window's extents, each looked up among those that go, and no memory.
+    pub fn fits_without(&self, gone: &[Extent], len: u32) -> Option<u64>
+        requires { IsNonDecreasingBy (λ (e : Extent). e.offset) gone.now }
+        ensures { result ≡ first (extents_of (without gone.now self.now.placed)) self.now.quota len }
+    {
+        first_gap(&self.extents, gone, &self.memory, self.quota, len)
+    }
+
+    /// Gives back all extents. Takes no memory.
+    pub fn clear(&mut self)
+        ensures { self.new ≡ record self.old { placed = [] } }
+    {
+        self.extents.clear();
+    }
+
+    /// Gives the window `quota` bytes; the extents keep their places and their bytes. Shrinking takes no
+    /// memory.
+    ///
+    /// `BadSize` unless that is a window's size, `Full` where an extent would reach past its end,
+    /// `NoMemory` last. A refusal changes nothing.
+    pub fn resize(&mut self, quota: u64) -> Result<(), Refusal>
+        ensures ok { OnOk result (self.new ≡ record self.old { quota = quota }) }
+        ensures passed { IsOk result → resize_check_lem self.old quota ≡ None }
+        ensures refused { (r : Refusal) → r ≢ NoMemory → IsErrOf result r → resize_check_lem self.old quota ≡ Some r }
+        ensures memory { IsErrOf result NoMemory → (self.old.quota < quota) × (resize_check_lem self.old quota ≡ None) }
+        ensures err { OnErr result (self.new ≡ self.old) }
+    {
+        if let Some(refusal) = self.resize_check(quota) {
+            return Err(refusal);
+        }
+        match resize_bytes(&mut self.memory, quota) {
+            Err(_) => Err(Refusal::NoMemory),
+            Ok(()) => {
+                self.quota = quota;
+                Ok(())
+            }
+        }
+    }
+
+    /// Why the window can't have `quota` bytes: `BadSize`, `Full`, or nothing.
+    pub fn resize_check(&self, quota: u64) -> Option<Refusal>
+        ensures { result ≡ resize_check_lem self.now quota }
+    {
+        if !is_window(quota) {
+            return Some(Refusal::BadSize);
+        }
+        if end_of_last(&self.extents) > quota {
+            Some(Refusal::Full)
+        } else {
+            None
+        }
+    }
+}
+
+/// Whether a window may have so many bytes.
+fn is_window(quota: u64) -> bool
+    ensures { result ≡ is_window_lem quota }
+{
+    quota >= 16 && quota <= 268_435_456 && quota % 16 == 0
+}
+
+/// So many zeros.
+fn zeros(alloc: Global, len: u64) -> Result<Vec<u8>, AllocError>
+    ensures { IfOk result (λ v. v.items ≡ replicate len 0) }
+{
+    Ok(vec![in alloc; 0; len as usize]?)
+}
+
+/// In whole units of 16.
+fn round_up(len: u32) -> u64
+    ensures { result ≡ rounded len }
+{
+    (u64::from(len) + 15) / 16 * 16
+}
+
+/// Puts an extent in its place.
+fn put(extents: &mut Vec<Extent>, extent: Extent) -> Result<(), AllocError>
+    ensures ok { OnOk result (extents.new.items ≡ put_extent extent extents.old.items) }
+    ensures err { OnErr result (extents.new.items ≡ extents.old.items) }
+{
+    let mut at = 0;
+    while at < extents.len() && extents[at].offset < extent.offset {
+        at += 1;
+    }
+    extents.insert(at, extent)?;
+    Ok(())
+}
+
+/// Takes out the extent at an offset.
+fn take_out(extents: &mut Vec<Extent>, offset: u64)
+    ensures { extents.new.items ≡ without_extent offset extents.old.items }
+{
+    let mut at = 0;
+    while at < extents.len() {
+        if extents[at].offset == offset {
+            extents.remove(at);
+            return;
+        }
+        at += 1;
+    }
+}
+
+/// Where the last extent ends.
+fn end_of_last(extents: &Vec<Extent>) -> u64
+    requires { last_end 0 extents.now.items < 2 ^ 64 }
+    ensures { result ≡ last_end 0 extents.now.items }
+{
+    match extents.last() {
+        Some(last) => last.offset + last.length,
+        None => 0,
+    }
+}
+
+/// So many bytes from an offset on.
+fn slice_at(memory: &Vec<u8>, from: usize, len: usize) -> &[u8]
+    requires { from + len ≤ length memory.now.items }
+    ensures { result.now ≡ take len (drop from memory.now.items) }
+{
+    &memory[from..from + len]
+}
+
+/// Writes zeros.
+fn clear_bytes(memory: &mut Vec<u8>, offset: u64, len: u64)
+    requires { offset + len ≤ length memory.old.items }
+    ensures { memory.new.items ≡ overwritten memory.old.items offset (replicate len 0) }
+{
+    let start = offset as usize;
+    memory[start..start + len as usize].fill(0);
+}
+
+/// Writes bytes into the part of the memory that begins at `from`, at an offset in it.
+fn copy_in(memory: &mut Vec<u8>, from: usize, off: usize, bytes: &[u8])
+    requires { from + off + length bytes.now ≤ length memory.old.items }
+    ensures { memory.new.items ≡ overwritten memory.old.items (from + off) bytes.now }
+{
+    let start = from + off;
+    memory[start..start + bytes.len()].copy_from_slice(bytes);
+}
+
+/// Cuts the memory, or fills it up with zeros. Cutting takes no memory.
+fn resize_bytes(memory: &mut Vec<u8>, len: u64) -> Result<(), AllocError>
+    requires { length memory.old.items < 2 ^ 29 }
+    ensures ok { OnOk result (memory.new.items ≡ take len memory.old.items ++ replicate (len - length memory.old.items) 0) }
+    ensures err { OnErr result (memory.new.items ≡ memory.old.items) }
+    ensures grows { OnErr result (length memory.old.items < len) }
+{
+    let len = len as usize;
+    if len <= memory.len() {
+        memory.truncate(len);
+        return Ok(());
+    }
+    memory.resize(len, 0)?;
+    Ok(())
+}
+
+/// Whether an extent is among those that go.
+fn goes(gone: &[Extent], offset: u64) -> bool
+    requires { IsNonDecreasingBy (λ (e : Extent). e.offset) gone.now }
+    ensures { result ≡ list_any (λ g. nat_eq g.offset offset) gone.now }
+{
+    gone.binary_search_by_key(&offset, |e| e.offset).is_ok()
+}
+
+/// The least offset at which `len` bytes are free now.
+fn gap_now(extents: &Vec<Extent>, memory: &Vec<u8>, quota: u64, len: u32) -> Option<u64>
+    requires laid { LaidFrom quota 0 extents.now.items }
+    requires memory { length memory.now.items ≡ quota }
+    requires small { quota < 2 ^ 29 }
+    ensures { result ≡ first (extents_of (placed_in memory.now.items extents.now.items)) quota len }
+{
+    first_gap(extents, &[], memory, quota, len)
+}
+
+/// The least offset at which `len` bytes are free, without the extents that go.
+fn first_gap(
+    extents: &[Extent],
+    gone: &[Extent],
+    memory: &[u8],
+    quota: u64,
+    len: u32,
+) -> Option<u64>
+    requires laid { LaidFrom quota 0 extents.now }
+    requires memory { length memory.now ≡ quota }
+    requires small { quota < 2 ^ 29 }
+    requires rising { IsNonDecreasingBy (λ (e : Extent). e.offset) gone.now }
+    ensures { result ≡ first (extents_of (without gone.now (placed_in memory.now extents.now))) quota len }
+{
+    let need = round_up(len);
+    let mut at = 0;
+    for e in extents {
+        if goes(gone, e.offset) {
+            continue;
+        }
+        if e.offset - at >= need {
+            return Some(at);
+        }
+        at = e.offset + e.length;
+    }
+    if quota - at >= need { Some(at) } else { None }
+}

@@ -1,0 +1,6 @@
+//! Tests of the crates that stand lowest, a module for each: what no contract says, and outside
+//! values.
+#![tactic(auto)]
+
+#[cfg(test)]
+mod ids;

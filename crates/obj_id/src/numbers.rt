@@ -1,0 +1,35 @@
+//! Decimal numbers as texts print them: digits alone, with no leading zero but in `0` itself.
+ghost use Rattle.std.specs.Prelude.{◌≡◌, ℕ, ◌^◌, ◌<◌, IfSome, decimal};
+
+use itoa::Buffer;
+
+/// The number that the text prints, below 2^64. `None` where no number of 64 bits is printed so:
+/// an empty text, a sign, a leading zero, another byte than a digit, or too great a number.
+pub fn read_u64(text: &str) -> Option<u64>
+    ensures printed { IfSome result (λ number. decimal number ≡ text.now) }
+    ensures read { (number : ℕ) → number < 2 ^ 64 → decimal number ≡ text.now
+        → result ≡ Some number }
+{
+    let number: u64 = text.parse().ok()?;
+    let mut buffer = Buffer::new();
+    if buffer.format(number) == text {
+        Some(number)
+    } else {
+        None
+    }
+}
+
+/// The number that the text prints, below 2^32. `None` where no number of 32 bits is printed so.
+pub fn read_u32(text: &str) -> Option<u32>
+    ensures printed { IfSome result (λ number. decimal number ≡ text.now) }
+    ensures read { (number : ℕ) → number < 2 ^ 32 → decimal number ≡ text.now
+        → result ≡ Some number }
+{
+    let number: u32 = text.parse().ok()?;
+    let mut buffer = Buffer::new();
+    if buffer.format(number) == text {
+        Some(number)
+    } else {
+        None
+    }
+}

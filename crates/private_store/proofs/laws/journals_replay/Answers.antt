@@ -1,0 +1,8 @@
+use Rattle.private_store.proofs.ReplayLemmas.{replayed-lines, IsReplayed-lines}
+use Rattle.private_store.proofs.laws.journals_replay.Goals as goal
+
+pub returns-clause-state : goal.returns-clause-state
+returns-clause-state c = replayed-lines
+
+pub returns-clause-answers : goal.returns-clause-answers
+returns-clause-answers c = IsReplayed-lines
