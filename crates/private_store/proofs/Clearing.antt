@@ -21,7 +21,7 @@ use Rattle.private_store.specs.Copies.{is_primary, extent_of, device_used}
 use Rattle.private_store.specs.Room.{Room, fits, wait, full, busy, evict, spill, set_copy, drop_copy, evicted, asked, no_room, room_by, spill_room, spill_plan, evict_room, make_room, victims, spilled, offset_without, bytes_of_copies, works_left}
 use Rattle.private_store.specs.Kept.{is_placed, are_apart}
 use Rattle.private_store.proofs.Tests.{true_false, some_value, none_some, both_left, both_right, both_are, neither}
-use Rattle.private_store.proofs.FirstFit.{from-free, from-units}
+use Rattle.private_store.proofs.FirstFit.{first-free, first-units}
 use Rattle.private_store.proofs.Stamps.{id_cmp-IsAntisymmetric}
 use Rattle.private_store.proofs.Rows.{same_is, same_self, at-put, at-drop, Quiet, quiet_stays, quiet_fold, quiet_evicted}
 
@@ -114,8 +114,8 @@ cleared : (store : Shape) (n : ℕ) (ids : List ObjectId) (offset : ℕ) → off
 cleared store n ids offset e =
     let left : ById Copy = filter (λ e. not (is_among ids e.0)) store.copies in
     let extents : List Extent = filter_map (λ e. extent_of e.1) left in
-    let free : is_free extents store.quota.window n offset ≡ true = from-free extents store.quota.window n 0 _ offset e in
-    let units : offset % 16 ≡ 0 = from-units extents store.quota.window n 0 _ offset refl e in
+    let free : is_free extents store.quota.window n offset ≡ true = first-free extents store.quota.window n offset e in
+    let units : offset % 16 ≡ 0 = first-units extents store.quota.window n offset e in
     let within : nat_le (offset + rounded n) store.quota.window ≡ true = both_left _ _ free in
     let all : list_all (is_apart (extent_at offset n)) extents ≡ true = both_right (nat_le (offset + rounded n) store.quota.window) _ free in
     record {

@@ -18,7 +18,7 @@ next_unit n u = omega arith
 
 module _ (extents : List Extent) (window n : ℕ) where
   -- what is found is free
-  pub from-free : (offset k p : ℕ) → first_from extents window n offset k ≡ Some p → is_free extents window n p ≡ true
+  from-free : (offset k p : ℕ) → first_from extents window n offset k ≡ Some p → is_free extents window n p ≡ true
   from-free offset zero p e = none_some p e
   from-free offset (suc k) p e =
       elim (is_free extents window n offset) as (λ b. is_free extents window n offset ≡ b → elim b [ true ↦ Some offset | false ↦ first_from extents window n (offset + 16) k ] ≡ Some p → is_free extents window n p ≡ true) [
@@ -27,7 +27,7 @@ module _ (extents : List Extent) (window n : ℕ) where
       ] refl e
 
   -- and a whole number of units from where the search began
-  pub from-units : (offset k p : ℕ) → offset % 16 ≡ 0 → first_from extents window n offset k ≡ Some p → p % 16 ≡ 0
+  from-units : (offset k p : ℕ) → offset % 16 ≡ 0 → first_from extents window n offset k ≡ Some p → p % 16 ≡ 0
   from-units offset zero p u e = none_some p e
   from-units offset (suc k) p u e =
       elim (is_free extents window n offset) as (λ b. elim b [ true ↦ Some offset | false ↦ first_from extents window n (offset + 16) k ] ≡ Some p → p % 16 ≡ 0) [
@@ -58,6 +58,9 @@ module _ (extents : List Extent) (window n : ℕ) where
 
 pub first-free : (extents : List Extent) (window n p : ℕ) → first extents window n ≡ Some p → is_free extents window n p ≡ true
 first-free extents window n p e = from-free extents window n 0 (window / 16 + 1) p e
+
+pub first-units : (extents : List Extent) (window n p : ℕ) → first extents window n ≡ Some p → p % 16 ≡ 0
+first-units extents window n p e = from-units extents window n 0 (window / 16 + 1) p refl e
 
 and_left : (a b : Bool) → a && b ≡ true → a ≡ true
 and_left true b h = refl

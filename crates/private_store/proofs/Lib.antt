@@ -14,6 +14,7 @@ pub mod RowContents
 pub mod Bringing
 pub mod ContentsKept
 pub mod DeviceKept
+pub mod StepsKept
 pub mod Stamped
 pub mod Runs
 pub mod ExampleWords
