@@ -1,5 +1,5 @@
 -- First fit gives the least multiple of 16 that is free, or none where none is.
-use Rattle.std.proofs.Common.{◌≡◌, ℕ, zero, suc, ◌+◌, ◌*◌, ◌/◌, ◌<◌, ◌≤◌, Bool, true, false, ◌&&◌, List, Some, None, is_some, unwrap_or, refl, sym, ap, subst, ◌∙◌, T, arith}
+use Rattle.std.proofs.Common.{◌≡◌, ℕ, zero, suc, ◌+◌, ◌*◌, ◌/◌, ◌%◌, ◌<◌, ◌≤◌, Bool, true, false, ◌&&◌, List, Some, None, is_some, unwrap_or, refl, sym, ap, subst, ◌∙◌, T, arith}
 use Rattle.obj_id.specs.declared.works.Extent.{Extent}
 use Rattle.private_store.specs.Extents.{rounded, is_free, first_from, first}
 use Rattle.std.proofs.lemmas.Bool.{leb-true}
@@ -13,7 +13,11 @@ none_some x e = absurd (subst T (ap is_some (sym e)) tt)
 true_false : {B : Type 0} → true ≡ false → B
 true_false e = absurd (subst T e tt)
 
+next_unit : (n : ℕ) → n % 16 ≡ 0 → (n + 16) % 16 ≡ 0
+next_unit n u = omega arith
+
 module _ (extents : List Extent) (window n : ℕ) where
+  -- what is found is free
   from-free : (offset k p : ℕ) → first_from extents window n offset k ≡ Some p → is_free extents window n p ≡ true
   from-free offset zero p e = none_some p e
   from-free offset (suc k) p e =
@@ -21,6 +25,15 @@ module _ (extents : List Extent) (window n : ℕ) where
         | true ↦ λ t e. subst (λ x. is_free extents window n x ≡ true) (some_value offset p e) t
         | false ↦ λ _ e. from-free (offset + 16) k p e
       ] refl e
+
+  -- and a whole number of units from where the search began
+  from-units : (offset k p : ℕ) → offset % 16 ≡ 0 → first_from extents window n offset k ≡ Some p → p % 16 ≡ 0
+  from-units offset zero p u e = none_some p e
+  from-units offset (suc k) p u e =
+      elim (is_free extents window n offset) as (λ b. elim b [ true ↦ Some offset | false ↦ first_from extents window n (offset + 16) k ] ≡ Some p → p % 16 ≡ 0) [
+        | true ↦ λ e. ap (λ x. x % 16) (sym (some_value offset p e)) ∙ u
+        | false ↦ λ e. from-units (offset + 16) k p (next_unit offset u) e
+      ] e
 
   -- a free place within reach is found, at or before it
   from-least : (offset k i : ℕ) → i < k → is_free extents window n (offset + 16 * i) ≡ true
@@ -45,6 +58,9 @@ module _ (extents : List Extent) (window n : ℕ) where
 
 pub first-free : (extents : List Extent) (window n p : ℕ) → first extents window n ≡ Some p → is_free extents window n p ≡ true
 first-free extents window n p e = from-free extents window n 0 (window / 16 + 1) p e
+
+pub first-units : (extents : List Extent) (window n p : ℕ) → first extents window n ≡ Some p → p % 16 ≡ 0
+first-units extents window n p e = from-units extents window n 0 (window / 16 + 1) p refl e
 
 and_left : (a b : Bool) → a && b ≡ true → a ≡ true
 and_left true b h = refl

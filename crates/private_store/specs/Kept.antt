@@ -187,6 +187,8 @@ pub record IsContentKept (contents : Contents) (id : ObjectId) (copy : Copy) : T
 
 pub record AreContentsKept (store : Shape) (contents : Contents) : Type 0 where
   pub each : (id : ObjectId) (copy : Copy) → at store.copies id ≡ Some copy → IsContentKept contents id copy
+  -- what isn't resident has no bytes, so that a new extent has none but zeros
+  pub resident : (id : ObjectId) → is_some (at contents.bytes id) ≡ true → option_map_or (λ copy. is_some copy.offset) (at store.copies id) false ≡ true
   pub received : (id : ObjectId) (seen : Seen) → at store.received id ≡ Some seen → length (bytes_at contents.received id) ≡ seen.length
 
 -- ---- all of it
