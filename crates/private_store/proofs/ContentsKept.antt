@@ -42,7 +42,7 @@ use Rattle.private_store.specs.Commands.{write, seal, chunk_count}
 use Rattle.private_store.specs.Events.{hands_of, work_of, fetch_of, is_missing}
 use Rattle.private_store.specs.Step.{step, owned}
 use Rattle.private_store.specs.Contents.{has_digest, is_read_back, work_verdict, read_verdict, write_verdict, chunk_verdict, pulled_verdict, gap_verdict, with_chunk, chunk_length, source_in, entry_elsewhere, is_locating, peer_arrival, View, bytes_at, digest_at, digest_of, overwritten, judge, brief, contents_after, brought}
-use Rattle.private_store.specs.Private.{Store, view_of, private_step, no_store}
+use Rattle.private_store.specs.Private.{view_step, no_store}
 use Rattle.private_store.specs.Kept.{IsShapeKept, AreContentsKept, has_extent, has_read, is_restoring, are_gaps, is_fetching, is_pulling}
 use Rattle.private_store.specs.Room.{set_copy}
 use Rattle.private_store.proofs.Tests.{true_false, some_value, none_some, both_left, both_right, passed}
@@ -461,8 +461,9 @@ module _ (node : ℕ) (view : View) (sh : IsShapeKept view.shape) (h : AreConten
   fills input.End = record { is = plain judged.End tt }
 
 -- the contents stay the copies' own
-pub contents_keep : (node : ℕ) (store : Store) (x : Input) → IsShapeKept store.shape → AreContentsKept store.shape store.contents → AreContentsKept (private_step node store x).shape (private_step node store x).contents
-contents_keep node store x shape kept = (fills node (view_of store) shape kept x).is
+pub contents_keep : (node : ℕ) (view : View) (x : Input) → IsShapeKept view.shape → AreContentsKept view.shape view.contents
+    → AreContentsKept (view_step node view x).view.shape (view_step node view x).view.contents
+contents_keep node view x shape kept = (fills node view shape kept x).is
 
 pub no_contents_kept : (job : ℕ) → AreContentsKept (no_store job).shape (no_store job).contents
 no_contents_kept job = record {

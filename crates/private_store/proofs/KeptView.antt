@@ -50,20 +50,3 @@ order_keeps order c once = by_use c.used
     by_use : (used : Option ObjectId) → IsOrderOfUse (reordered order c.shape.copies used)
     by_use None q = subst (λ ids. count_by (same_id q) ids ≤ 1) (sym (append-nil (filter (stays None) order))) (fewer None q)
     by_use (Some id) q = used_last id q (same_id q id) refl
-
--- a store as its node shows it
-pub record IsViewKept (view : View) : Type 0 where
-  pub order : IsOrderOfUse view.order
-  pub shape : IsShapeKept view.shape
-
-pub view_keeps : (node : ℕ) (view : View) (x : Input) → IsViewKept view → IsViewKept (view_step node view x).view
-view_keeps node view x h =
-    let y = judge node view x in
-    record { order = order_keeps view.order (step view.order view.shape y) h.order; shape = step_keeps view.order view.shape y h.order h.shape }
-
-pub no_store_kept : (job : ℕ) → IsViewKept (view_of (no_store job))
-no_store_kept job = record { order = λ id. omega arith; shape = unbegun_kept job }
-
--- and with stamps
-pub private_step_keeps : (node : ℕ) (store : Store) (x : Input) → IsStamped store → IsViewKept (view_of store) → IsViewKept (view_of (private_step node store x))
-private_step_keeps node store x s h = subst IsViewKept (sym (view_of_step node store x s)) (view_keeps node (view_of store) x h)

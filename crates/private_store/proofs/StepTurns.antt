@@ -28,6 +28,7 @@ use Rattle.private_store.specs.Commands.{create, new_copy, seal, get, get_sealed
 use Rattle.private_store.specs.Events.{begin, requota, end_job_here, written, read_back, without_work, work_of, answer, with_fetch, fetch_of, located, located_copy, fetch_failed, chunk_taken, chunk_arrived, is_missing, not_here_arrived, quiet, pull_answer, pull_arrived}
 use Rattle.private_store.specs.Step.{step, owned, commanded, if_live}
 use Rattle.private_store.specs.Kept.{IsShapeKept, has_write, has_extent, is_fetching, is_pulling}
+use Rattle.private_store.proofs.KeptTests.{works_have_copies}
 use Rattle.private_store.proofs.Tests.{true_false, some_value, none_some, some_or_none, passed}
 use Rattle.private_store.proofs.Checks.{Fails, checked_past}
 use Rattle.private_store.proofs.Sound.{needing_has}
@@ -150,7 +151,7 @@ module _ (s : ObjectId → Bool) (store : Shape) (sh : IsShapeKept store) where
   no_copy id e = some_or_none (at store.copies id) e
 
   new_weight : (works : List WorkInFlight) (id : ObjectId) (d : Copy) (m : ℕ) → (has_write works id ≡ true → has_write store.works id ≡ true) → at store.copies id ≡ None → d.backed ≡ None → weight works id d ≤ m
-  new_weight works id d m writes none unbacked = weightless works id d m unbacked (not_written works store.works id writes (unwritten store.copies store.works id sh.works_of_copies none))
+  new_weight works id d m writes none unbacked = weightless works id d m unbacked (not_written works store.works id writes (unwritten store.copies store.works id (works_have_copies store sh) none))
 
   create_turn : (order : List ObjectId) (id : ObjectId) (kind : Kind) (n : ℕ) → IsTurn s store (create order store id kind n)
   create_turn order id kind n =

@@ -22,7 +22,7 @@ use Rattle.private_store.specs.Shape.{Copy, Shape, Phase, pulling, Fetch, WorkIn
 use Rattle.private_store.specs.Copies.{is_primary, is_sealed, is_away, extent_of, device_used}
 use Rattle.private_store.specs.Commands.{chunk_count}
 use Rattle.private_store.specs.Events.{is_live}
-use Rattle.private_store.specs.Contents.{Contents, bytes_at, digest_at, digest_of, keeps_digest}
+use Rattle.private_store.specs.Contents.{Contents, View, bytes_at, digest_at, digest_of, keeps_digest}
 
 -- ---- one copy
 
@@ -198,6 +198,11 @@ pub record IsKept (store : Shape) (contents : Contents) : Type 0 where
   pub extents : AreExtentsKept store
   pub device : IsDeviceKept store
   pub filled : AreContentsKept store contents
+
+-- of a store as its node shows it
+pub record IsViewKept (view : View) : Type 0 where
+  pub order : IsOrderOfUse view.order
+  pub kept : IsKept view.shape view.contents
 
 -- ---- over a step
 

@@ -1,5 +1,5 @@
 //! Theorems about the definitions: each function does nothing, and its contract is a law.
-ghost use Rattle.std.specs.Prelude.{◌≡◌, ℕ, ◌+◌, ◌*◌, ◌<◌, ◌≤◌, ◌/◌, List, Some, None, true};
+ghost use Rattle.std.specs.Prelude.{◌≡◌, ℕ, ◌+◌, ◌*◌, ◌<◌, ◌≤◌, ◌/◌, List, Some, None, true, false};
 ghost use Rattle.obj_id.specs.declared.ids.ObjectId.{ObjectId};
 ghost use Rattle.obj_id.specs.declared.works.Extent.{Extent};
 ghost use Rattle.private_store.specs.declared.inputs.Input.{Input};
@@ -8,9 +8,10 @@ ghost use Rattle.private_store.specs.Extents.{first, is_free};
 ghost use Rattle.private_store.specs.Shape.{Shape};
 ghost use Rattle.private_store.specs.Step.{step};
 ghost use Rattle.private_store.specs.Contents.{View};
-ghost use Rattle.private_store.specs.Private.{view_of, view_from, view_replies, no_store, store_from, private_replies};
+ghost use Rattle.private_store.specs.Private.{view_of, view_step, view_from, view_replies, no_store, store_from, private_replies};
 ghost use Rattle.private_store.specs.Replay.{brief_of, replayed, lines_from, IsReplayed};
 ghost use Rattle.private_store.specs.Refusing.{RefusesCleanly};
+ghost use Rattle.private_store.specs.Kept.{IsViewKept, NumbersRise, is_end};
 
 /// First fit gives the least multiple of 16 at which the bytes are free, and nothing where there is
 /// none.
@@ -43,3 +44,17 @@ pub fn journals_replay()
 pub fn refusals_change_nothing()
     ensures { (order : List ObjectId) (store : Shape) (x : Judged) → RefusesCleanly store (step order store x) }
 {}
+
+/// The invariants of a store: what a store that was never admitted keeps, what every input keeps, and so
+/// what every store keeps that came of inputs, whatever they were; and no number of a work or a fetch is
+/// used again while the job lives.
+pub fn every_input_keeps_a_store()
+    ensures begins { (job : ℕ) → IsViewKept (view_of (no_store job)) }
+    ensures each { (node : ℕ) (view : View) (x : Input)
+        → IsViewKept view → IsViewKept (view_step node view x).view }
+    ensures runs { (node job : ℕ) (xs : List Input)
+        → IsViewKept (view_of (store_from node (no_store job) xs)) }
+    ensures numbers { (order : List ObjectId) (store : Shape) (x : Judged)
+        → is_end x ≡ false → NumbersRise store (step order store x).shape }
+{
+}
