@@ -22,7 +22,7 @@ use Rattle.private_store.specs.Room.{Room, fits, wait, full, busy, evict, spill,
 use Rattle.private_store.specs.Kept.{is_placed, are_apart}
 use Rattle.private_store.proofs.Tests.{true_false, some_value, none_some, both_left, both_right, both_are, neither}
 use Rattle.private_store.proofs.FirstFit.{first-free, first-units}
-use Rattle.private_store.proofs.Stamps.{id_cmp-IsAntisymmetric}
+use Rattle.obj_id.proofs.SameIds.{id_cmp-IsAntisymmetric}
 use Rattle.private_store.proofs.Rows.{same_is, same_self, at-put, at-drop, Quiet, quiet_stays, quiet_fold, quiet_evicted}
 
 -- ---- what is left after evictions

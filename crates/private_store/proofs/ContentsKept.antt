@@ -46,7 +46,7 @@ use Rattle.private_store.specs.Private.{view_step, no_store}
 use Rattle.private_store.specs.Kept.{IsShapeKept, AreContentsKept, has_extent, has_read, is_restoring, are_gaps, is_fetching, is_pulling}
 use Rattle.private_store.specs.Room.{set_copy}
 use Rattle.private_store.proofs.Tests.{true_false, some_value, none_some, both_left, both_right, passed}
-use Rattle.private_store.proofs.Stamps.{id_cmp-IsTotalOrder}
+use Rattle.obj_id.proofs.SameIds.{id_cmp-IsTotalOrder}
 use Rattle.private_store.proofs.Checks.{checked_past}
 use Rattle.private_store.proofs.Sound.{needing_has, step_sound}
 use Rattle.private_store.proofs.Rows.{same_is, same_self, at-put, quiet_stays}

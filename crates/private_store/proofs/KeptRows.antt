@@ -14,7 +14,7 @@ use Rattle.private_store.specs.Tables.{ById, at, with_entry, without_entry}
 use Rattle.private_store.specs.Shape.{Copy, WorkInFlight, HandGiven, Shape}
 use Rattle.private_store.specs.Events.{is_live}
 use Rattle.private_store.specs.Kept.{IsShapeKept}
-use Rattle.private_store.proofs.Stamps.{id_cmp-IsAntisymmetric, id_cmp-IsTotalOrder}
+use Rattle.obj_id.proofs.SameIds.{id_cmp-IsAntisymmetric, id_cmp-IsTotalOrder}
 use Rattle.private_store.proofs.KeptCopy.{SameFor, IsRowKept, row_carried, true_false, T_true, true_T}
 
 pub same_is : (a b : ObjectId) → same_id a b ≡ true → a ≡ b

@@ -1,21 +1,16 @@
 -- A step keeps the order of use, and so every store keeps its record, as its node shows it and with stamps.
-use Rattle.std.proofs.Common.{◌≡◌, ℕ, ◌+◌, ◌≤◌, Bool, true, false, not, ◌&&◌, List, [], ◌∷◌, ◌++◌, filter, Option, Some, None, is_some, refl, sym, ap, subst, ◌∙◌, arith}
+use Rattle.std.proofs.Common.{◌≡◌, ◌+◌, ◌≤◌, Bool, true, false, not, ◌&&◌, List, [], ◌∷◌, ◌++◌, filter, Option, Some, None, is_some, refl, sym, ap, subst, ◌∙◌, arith}
 use Rattle.std.specs.Prelude.{count_by}
 use Rattle.std.proofs.lemmas.List.{append-nil}
 use Rattle.obj_id.specs.declared.ids.ObjectId.{ObjectId}
 use Rattle.obj_id.specs.Ids.{same_id}
-use Rattle.private_store.specs.declared.inputs.Input.{Input}
 use Rattle.private_store.specs.Tables.{at, is_among}
 use Rattle.private_store.specs.Shape.{Change}
-use Rattle.private_store.specs.Step.{step, is_used, reordered, order_after}
-use Rattle.private_store.specs.Contents.{View, judge}
-use Rattle.private_store.specs.Private.{Store, view_of, view_step, private_step, no_store}
-use Rattle.private_store.specs.Kept.{IsOrderOfUse, IsShapeKept}
-use Rattle.private_store.proofs.Stamped.{IsStamped, view_of_step}
+use Rattle.private_store.specs.Step.{is_used, reordered, order_after}
+use Rattle.private_store.specs.Kept.{IsOrderOfUse}
 use Rattle.private_store.proofs.KeptLists.{count-append, count-no, count-yes, count_none, count-filter}
 use Rattle.private_store.proofs.KeptRows.{same_both}
 use Rattle.private_store.proofs.KeptFold.{among-filter}
-use Rattle.private_store.proofs.KeptStep.{step_keeps, unbegun_kept}
 
 pub order_keeps : (order : List ObjectId) (c : Change) → IsOrderOfUse order → IsOrderOfUse (order_after order c)
 order_keeps order c once = by_use c.used

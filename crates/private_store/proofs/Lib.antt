@@ -48,5 +48,5 @@ pub mod KeptAnswers
 pub mod KeptHandsTaken
 pub mod KeptStep
 pub mod KeptView
-pub mod KeptTests
+pub mod WorksHaveCopies
 pub mod NumbersRise

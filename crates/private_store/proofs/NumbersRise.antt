@@ -1,5 +1,5 @@
 -- The numbers of works and fetches only rise, as long as the job lives.
-use Rattle.std.proofs.Common.{◌≡◌, ℕ, ◌+◌, ◌≤◌, Bool, true, false, not, cond, ◌==◌, ◌&&◌, List, [], ◌∷◌, length, filter, fold, Option, Some, None, Result, Ok, Err, is_none, is_ok, refl, arith}
+use Rattle.std.proofs.Common.{◌≡◌, ℕ, Bool, true, false, not, cond, ◌==◌, ◌&&◌, List, [], ◌∷◌, length, filter, fold, Option, Some, None, Ok, Err, is_none, refl, arith}
 use Rattle.std.specs.Option.{option_map_or}
 use Rattle.std.specs.List.{list_any}
 use Rattle.obj_id.specs.declared.ids.ObjectId.{ObjectId}
@@ -10,7 +10,7 @@ use Rattle.obj_id.specs.declared.commands.Kind.{Kind}
 use Rattle.obj_id.specs.declared.commands.Command.{Command}
 use Rattle.obj_id.specs.declared.commands.Command.TheVariants as command
 use Rattle.obj_id.specs.declared.refusals.Refusal.{Refusal}
-use Rattle.obj_id.specs.declared.refusals.Refusal.TheVariants.{Pending, DeviceFailed, TooMany, Absent, NotSealed, Stale, BadSize, Damaged}
+use Rattle.obj_id.specs.declared.refusals.Refusal.TheVariants.{Pending, DeviceFailed, TooMany, Absent, NotSealed, Stale, BadSize}
 use Rattle.obj_id.specs.declared.works.Quota.{Quota}
 use Rattle.private_store.specs.declared.inputs.Source.{Source}
 use Rattle.private_store.specs.declared.inputs.WorkVerdict.{WorkVerdict}
@@ -26,9 +26,9 @@ use Rattle.private_store.specs.Shape.{Copy, Shape, Change, Fetch, Phase, locatin
 use Rattle.private_store.specs.Copies.{is_primary, is_idle, in_scope, visible}
 use Rattle.private_store.specs.Room.{Room, Plan, fits, wait, full, busy, evict, spill, plan, set_copy, drop_copy, evicted, asked, no_room, spill_room, room_by, make_room}
 use Rattle.private_store.specs.Change.{refused, done, checked, needing, sending, in_room, erasing, settled, doomed, doom}
-use Rattle.private_store.specs.Commands.{create, created, write, seal, get, read, release, unpin, borrow, give_up, delete, end_task, grant, grant_own, grant_foreign, withdraw, peek, list, usage, leave, restore, restoring, get_away, get_fetching, get_copy, get_sealed, begin_pull, begin_fetch, at_each, then_change, scoped, give_up_one, leave_one, has_borrower, without_borrower, with_holds, of_task, task_ended}
-use Rattle.private_store.specs.Events.{begin, requota, answer, written, without_work, read_back, located, located_copy, with_fetch, fetch_of, chunk_taken, chunk_arrived, is_missing, not_here_arrived, fetch_failed, pull_answer, pull_arrived, quiet, received, withdrawn, is_hand, hand_ended}
-use Rattle.private_store.specs.Step.{owned, commanded, if_live, step}
+use Rattle.private_store.specs.Commands.{create, created, get, end_task, grant, grant_own, grant_foreign, withdraw, restore, restoring, get_away, get_fetching, get_copy, get_sealed, begin_pull, begin_fetch, at_each, then_change, scoped, give_up_one, leave_one, has_borrower, without_borrower, with_holds, of_task, task_ended}
+use Rattle.private_store.specs.Events.{begin, answer, written, without_work, read_back, located, located_copy, with_fetch, fetch_of, chunk_taken, chunk_arrived, is_missing, not_here_arrived, fetch_failed, pull_answer, pull_arrived, quiet, withdrawn, is_hand, hand_ended}
+use Rattle.private_store.specs.Step.{owned, commanded, step}
 use Rattle.private_store.specs.Kept.{NumbersRise, is_end}
 
 -- the numbers are those of before
@@ -146,13 +146,13 @@ give_up_one_rises task store id =
     (cond (has_borrower copy task) (scoped store id (without_borrower copy task)) (done store))) o (done store))) [
       | None ↦ rises_same store _ refl refl
       | Some copy ↦ elim copy.doomed as (λ b. Rises store (cond b (done (set_copy store id (without_borrower copy task)))
-        (cond (has_borrower copy task) (scoped store id (without_borrower copy task)) (done store)))) [
-        | true ↦ rises_same store _ refl refl
-        | false ↦ elim (has_borrower copy task) as (λ b. Rises store (cond b (scoped store id (without_borrower copy task)) (done store))) [
-          | true ↦ scoped_rises store id (without_borrower copy task)
-          | false ↦ rises_same store _ refl refl
-        ]
-      ]
+          (cond (has_borrower copy task) (scoped store id (without_borrower copy task)) (done store)))) [
+            | true ↦ rises_same store _ refl refl
+            | false ↦ elim (has_borrower copy task) as (λ b. Rises store (cond b (scoped store id (without_borrower copy task)) (done store))) [
+              | true ↦ scoped_rises store id (without_borrower copy task)
+              | false ↦ rises_same store _ refl refl
+            ]
+          ]
     ]
 
 leave_one_rises : (session : ℕ) (store : Shape) (id : ObjectId) → Rises store (leave_one session store id)

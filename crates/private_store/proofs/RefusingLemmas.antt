@@ -40,7 +40,7 @@ use Rattle.private_store.specs.Events.{begin, end_job_here, answer, written, wit
 use Rattle.private_store.specs.Step.{owned, commanded, if_live, step}
 use Rattle.private_store.specs.Change.{refused, done, checked, needing, sending, in_room, keys_gone, erasing}
 use Rattle.private_store.specs.Refusing.{IsWaiting, IsExcused, unchanged, spill_told, fault_told, fetch_told, waits, RefusesCleanly}
-use Rattle.private_store.proofs.Stamps.{id_cmp-IsTotalOrder}
+use Rattle.obj_id.proofs.SameIds.{id_cmp-IsTotalOrder}
 
 -- ---- words
 

@@ -15,7 +15,7 @@ use Rattle.private_store.specs.Copies.{is_sealed, is_primary, is_idle}
 use Rattle.private_store.specs.Room.{set_copy, drop_copy, evicted}
 use Rattle.private_store.specs.Change.{settled, doomed}
 use Rattle.private_store.specs.Kept.{has_write}
-use Rattle.private_store.proofs.Stamps.{id_cmp-IsAntisymmetric, id_cmp-IsTotalOrder}
+use Rattle.obj_id.proofs.SameIds.{id_cmp-IsAntisymmetric, id_cmp-IsTotalOrder}
 
 -- ---- ids and tables
 

@@ -44,7 +44,7 @@ use Rattle.std.proofs.Common.{is_none}
 use Rattle.private_store.specs.Step.{step, is_used, owned, commanded}
 use Rattle.obj_id.specs.declared.commands.Command.{Command}
 use Rattle.obj_id.specs.declared.commands.Command.TheVariants as command
-use Rattle.private_store.proofs.Stamps.{id_cmp-IsAntisymmetric, id_cmp-IsTotalOrder}
+use Rattle.obj_id.proofs.SameIds.{id_cmp-IsAntisymmetric, id_cmp-IsTotalOrder}
 
 abbrev pub InOrder : Shape → Type 0
 InOrder store = T (is_sorted id_cmp store.copies)

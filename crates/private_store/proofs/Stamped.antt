@@ -10,7 +10,8 @@ use Rattle.private_store.specs.Tables.{ById, at}
 use Rattle.private_store.specs.Step.{is_used}
 use Rattle.private_store.specs.Contents.{judge}
 use Rattle.private_store.specs.Private.{Store, view_of, view_step, private_outcome, private_step, restamped, by_stamp, no_store, store_from, view_from, private_replies, view_replies}
-use Rattle.private_store.proofs.Stamps.{AllBelow, IsStepped, by_stamp-restamped, id_cmp-IsTotalOrder, id_cmp-IsAntisymmetric, find-map, is_sorted-map}
+use Rattle.obj_id.proofs.SameIds.{id_cmp-IsAntisymmetric, id_cmp-IsTotalOrder}
+use Rattle.private_store.proofs.Stamps.{AllBelow, IsStepped, by_stamp-restamped, find-map, is_sorted-map}
 use Rattle.private_store.proofs.Sound.{step_sound}
 
 -- copies and stamps by id, each copy with a stamp, and no stamp of an input to come

@@ -7,13 +7,11 @@ use Rattle.std.specs.declared.cmp.Ordering.TheVariants.{Less, Equal, Greater}
 use Rattle.std.specs.Cmp.{IsTotalOrder, tied_itself}
 use Rattle.std.specs.FinMap.{IsAntisymmetric, find, is_sorted}
 use Rattle.std.specs.FinMap.Entries.{below_all, where_key, find-where_key, is_sorted-where_key, same_entries}
-use Rattle.std.specs.FinMap.{nat_cmp-IsAntisymmetric, slice_cmp-IsAntisymmetric}
-use Rattle.std.specs.Ordering.{ordering_then, nat_cmp}
 use Rattle.std.proofs.lemmas.List.{map-append}
 use Rattle.std.proofs.Common.{MatchOption}
-use Rattle.obj_id.specs.contracts.ids.ObjectIdOrd.TheImpl.Laws.{total-law}
+use Rattle.obj_id.proofs.SameIds.{id_cmp-IsAntisymmetric, id_cmp-IsTotalOrder}
 use Rattle.obj_id.specs.declared.ids.ObjectId.{ObjectId}
-use Rattle.obj_id.specs.Ids.{id_cmp, task_cmp, same_id}
+use Rattle.obj_id.specs.Ids.{id_cmp, same_id}
 use Rattle.private_store.specs.Tables.{ById, at}
 use Rattle.private_store.specs.Step.{is_used, reordered}
 use Rattle.private_store.specs.Private.{placed, stamps_sorted, by_stamp, restamped}
@@ -156,24 +154,10 @@ and_right : (a b : Bool) → T (a && b) → T b
 and_right true b h = h
 and_right false b h = absurd h
 
-both_true : (a b : Bool) → T a → T b → T (a && b)
-both_true true b h k = k
-both_true false b h k = absurd h
-
 less_is : (r : Ordering) → T (is_lt r) → r ≡ Less
 less_is Less h = refl
 less_is Equal h = absurd h
 less_is Greater h = absurd h
-
-first_equal : (r s : Ordering) → ordering_then r s ≡ Equal → r ≡ Equal
-first_equal Less s e = e
-first_equal Equal s e = refl
-first_equal Greater s e = e
-
-second_equal : (r s : Ordering) → ordering_then r s ≡ Equal → s ≡ Equal
-second_equal Less s e = absurd (subst (λ q. T (is_lt q)) e tt)
-second_equal Equal s e = e
-second_equal Greater s e = absurd (subst (λ q. T (not (is_eq q))) e tt)
 
 some_value : {A : Type 0} (x y : A) → Some x ≡ Some y → x ≡ y
 some_value x y e = ap (λ o. unwrap_or o x) e
@@ -280,18 +264,6 @@ all_stay (x ∷ xs) = ap (λ ys. x ∷ ys) (all_stay xs)
 append-nil : {A : Type 0} (xs : List A) → xs ++ [] ≡ xs
 append-nil [] = refl
 append-nil (x ∷ xs) = ap (λ ys. x ∷ ys) (append-nil xs)
-
-pub id_cmp-IsAntisymmetric : IsAntisymmetric id_cmp
-id_cmp-IsAntisymmetric a b e =
-    let tasks : task_cmp a.task b.task ≡ Equal = first_equal _ _ e in
-    let rest : ordering_then (nat_cmp a.job.0 b.job.0) (nat_cmp a.index b.index) ≡ Equal = second_equal _ _ e in
-    let task : a.task.0 ≡ b.task.0 = slice_cmp-IsAntisymmetric nat_cmp-IsAntisymmetric a.task.0 b.task.0 tasks in
-    let job : a.job.0 ≡ b.job.0 = nat_cmp-IsAntisymmetric a.job.0 b.job.0 (first_equal _ _ rest) in
-    let index : a.index ≡ b.index = nat_cmp-IsAntisymmetric a.index b.index (second_equal _ _ rest) in
-    λ i. record { task = record { 0 = task i }; job = record { 0 = job i }; index = index i }
-
-pub id_cmp-IsTotalOrder : IsTotalOrder id_cmp
-id_cmp-IsTotalOrder = total-law
 
 -- the copies that stay or are used were there, or are what was used; and what was used is there
 pub record IsStepped {X : Type 0} (n : ℕ) (used : Option ObjectId) (stamps : ById ℕ) (copies : ById X) : Type 0 where

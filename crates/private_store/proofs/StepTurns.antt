@@ -28,7 +28,7 @@ use Rattle.private_store.specs.Commands.{create, new_copy, seal, get, get_sealed
 use Rattle.private_store.specs.Events.{begin, requota, end_job_here, written, read_back, without_work, work_of, answer, with_fetch, fetch_of, located, located_copy, fetch_failed, chunk_taken, chunk_arrived, is_missing, not_here_arrived, quiet, pull_answer, pull_arrived}
 use Rattle.private_store.specs.Step.{step, owned, commanded, if_live}
 use Rattle.private_store.specs.Kept.{IsShapeKept, has_write, has_extent, is_fetching, is_pulling}
-use Rattle.private_store.proofs.KeptTests.{works_have_copies}
+use Rattle.private_store.proofs.WorksHaveCopies.{works_have_copies}
 use Rattle.private_store.proofs.Tests.{true_false, some_value, none_some, some_or_none, passed}
 use Rattle.private_store.proofs.Checks.{Fails, checked_past}
 use Rattle.private_store.proofs.Sound.{needing_has}

@@ -56,5 +56,4 @@ pub fn every_input_keeps_a_store()
         → IsViewKept (view_of (store_from node (no_store job) xs)) }
     ensures numbers { (order : List ObjectId) (store : Shape) (x : Judged)
         → is_end x ≡ false → NumbersRise store (step order store x).shape }
-{
-}
+{}
