@@ -1,6 +1,6 @@
 -- The order of ids is a total order, and ids that are the same are equal.
-use Rattle.std.proofs.Common.{◌≡◌, true, refl, sym, ◌∙◌}
-use Rattle.std.specs.Cmp.{IsEquivalence, IsTotalOrder, both_tied, unsigned_ties}
+use Rattle.std.proofs.Common.{◌≡◌, true, false, refl, sym, ap, ◌∙◌}
+use Rattle.std.specs.Cmp.{IsEquivalence, IsTotalOrder, both_tied, tied_itself, unsigned_ties}
 use Rattle.std.specs.Cmp.Lexicographic.{lists_ties}
 use Rattle.std.specs.FinMap.{IsAntisymmetric, nat_cmp-IsAntisymmetric, slice_cmp-IsAntisymmetric}
 use Rattle.std.specs.Ordering.{is_eq, nat_cmp, ordering_then}
@@ -51,6 +51,18 @@ same_task-equal a b h = task_cmp-IsAntisymmetric a b (tied _ h)
 -- ids that are the same are equal
 pub same_id-equal : (a b : ObjectId) → same_id a b ≡ true → a ≡ b
 same_id-equal a b h = id_cmp-IsAntisymmetric a b (tied _ h)
+
+-- an id is the same as itself
+pub same_id-itself : (a : ObjectId) → same_id a a ≡ true
+same_id-itself a = ap is_eq (tied_itself id_cmp-IsTotalOrder a)
+
+-- where one id is not the other, the other is not the one
+pub same_id-not_back : (a b : ObjectId) → same_id a b ≡ false → same_id b a ≡ false
+same_id-not_back a b e =
+    elim (same_id b a) as (λ t. same_id b a ≡ t → t ≡ false) [
+      | true ↦ λ t. sym (same_id-itself a) ∙ ap (λ x. same_id a x) (sym (same_id-equal b a t)) ∙ e
+      | false ↦ λ t. refl
+    ] refl
 
 -- the order ties where `==` holds
 pub same_id-id_eq : (a b : ObjectId) → same_id a b ≡ id_eq a b

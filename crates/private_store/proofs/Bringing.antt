@@ -11,10 +11,11 @@ use Rattle.private_store.specs.Copies.{is_sealed}
 use Rattle.private_store.specs.Contents.{View, bytes_at, digest_at, digest_of}
 use Rattle.private_store.specs.Kept.{IsShapeKept, AreContentsKept}
 use Rattle.private_store.proofs.Tests.{true_false, some_value}
-use Rattle.private_store.proofs.Rows.{same_is, at-put, at-put_here, SeenRow}
+use Rattle.private_store.proofs.Rows.{at-put, at-put_here, SeenRow}
 use Rattle.private_store.proofs.Turns.{resident, IsTurn}
 use Rattle.private_store.proofs.Filling.{IsFilled, refilled, refilled_kept}
 use Rattle.private_store.proofs.RowContents.{RowTurn, steady, bare, begun, row_turns, seen_turns, plain_filled, plain_seen}
+use Rattle.obj_id.proofs.SameIds.{same_id-equal}
 
 -- no copy may be sealed
 abbrev pub nothing : ObjectId → Bool
@@ -53,7 +54,7 @@ module _ (view : View) (sh : IsShapeKept view.shape) (h : AreContentsKept view.s
       rows q d e =
           elim (same_id q id) as (λ b. same_id q id ≡ b → IsFilled (at B' q) (at D' q) d) [
             | true ↦ λ t.
-                let is : q ≡ id = same_is q id t in
+                let is : q ≡ id = same_id-equal q id t in
                 subst (λ x. IsFilled (at B' x) (at D' x) d) (sym is) (here d (row_turns s view.shape c k id d (ap (at c.shape.copies) (sym is) ∙ e)))
             | false ↦ λ f.
                 let same = rest q f in

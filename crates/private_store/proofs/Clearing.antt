@@ -20,24 +20,17 @@ use Rattle.private_store.specs.Shape.{Copy, Shape, WorkInFlight, Seen}
 use Rattle.private_store.specs.Copies.{is_primary, extent_of, device_used}
 use Rattle.private_store.specs.Room.{Room, fits, wait, full, busy, evict, spill, set_copy, drop_copy, evicted, asked, no_room, room_by, spill_room, spill_plan, evict_room, make_room, victims, spilled, offset_without, bytes_of_copies, works_left}
 use Rattle.private_store.specs.Kept.{is_placed, are_apart}
-use Rattle.private_store.proofs.Tests.{true_false, some_value, none_some, both_left, both_right, both_are, neither}
+use Rattle.private_store.proofs.Tests.{true_false, some_value, none_some, both_left, both_right, both, neither}
 use Rattle.private_store.proofs.FirstFit.{first-free, first-units}
-use Rattle.obj_id.proofs.SameIds.{id_cmp-IsAntisymmetric}
-use Rattle.private_store.proofs.Rows.{same_is, same_self, at-put, at-drop, Quiet, quiet_stays, quiet_fold, quiet_evicted}
+use Rattle.obj_id.proofs.SameIds.{id_cmp-IsAntisymmetric, same_id-equal, same_id-not_back}
+use Rattle.private_store.proofs.Rows.{at-put, at-drop, Quiet, quiet_stays, quiet_fold, quiet_evicted}
 
 -- ---- what is left after evictions
 
 not_same : {X : Type 0} (table : ById X) (id q : ObjectId) (x : X) → at table id ≡ None → at table q ≡ Some x → same_id q id ≡ false
 not_same table id q x none e =
     elim (same_id q id) as (λ b. same_id q id ≡ b → b ≡ false) [
-      | true ↦ λ t. none_some x (sym none ∙ ap (at table) (sym (same_is q id t)) ∙ e)
-      | false ↦ λ _. refl
-    ] refl
-
-pub not_same_back : (id q : ObjectId) → same_id id q ≡ false → same_id q id ≡ false
-not_same_back id q f =
-    elim (same_id q id) as (λ b. same_id q id ≡ b → b ≡ false) [
-      | true ↦ λ t. true_false (sym f ∙ ap (same_id id) (same_is q id t) ∙ same_self id)
+      | true ↦ λ t. none_some x (sym none ∙ ap (at table) (sym (same_id-equal q id t)) ∙ e)
       | false ↦ λ _. refl
     ] refl
 
@@ -55,7 +48,7 @@ drop_stood : (table : ById Copy) (id q : ObjectId) (c : Copy) → at (without_en
 drop_stood table id q c e =
     elim (same_id id q) as (λ b. same_id id q ≡ b → cond (not b) (at table q) None ≡ Some c → Stood table id q c) [
       | true ↦ λ t e. none_some c e
-      | false ↦ λ t e. (not_same_back id q t, e)
+      | false ↦ λ t e. (same_id-not_back id q t, e)
     ] refl (sym (at-drop table id q) ∙ e)
 
 evicted_stood : (store : Shape) (id q : ObjectId) (c : Copy) → at (evicted store id).copies q ≡ Some c → is_some c.offset ≡ true → Stood store.copies id q c
@@ -120,7 +113,7 @@ cleared store n ids offset e =
     let all : list_all (is_apart (extent_at offset n)) extents ≡ true = both_right (nat_le (offset + rounded n) store.quota.window) _ free in
     record {
       quiet = quiet_fold evicted quiet_evicted store ids;
-      placed = both_are (offset % 16 == 0) _ (ap (λ x. x == 0) units) within;
+      placed = both (offset % 16 == 0) _ (ap (λ x. x == 0) units) within;
       apart = λ q c is. elim (extent_of c) as (λ o. extent_of c ≡ o → are_apart (Some (extent_at offset n)) o ≡ true) [
         | None ↦ λ _. refl
         | Some x ↦ λ ext.

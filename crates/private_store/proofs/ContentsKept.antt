@@ -46,10 +46,10 @@ use Rattle.private_store.specs.Private.{view_step, no_store}
 use Rattle.private_store.specs.Kept.{IsShapeKept, AreContentsKept, has_extent, has_read, is_restoring, are_gaps, is_fetching, is_pulling}
 use Rattle.private_store.specs.Room.{set_copy}
 use Rattle.private_store.proofs.Tests.{true_false, some_value, none_some, both_left, both_right, passed}
-use Rattle.obj_id.proofs.SameIds.{id_cmp-IsTotalOrder}
+use Rattle.obj_id.proofs.SameIds.{id_cmp-IsTotalOrder, same_id-equal, same_id-itself}
 use Rattle.private_store.proofs.Checks.{checked_past}
 use Rattle.private_store.proofs.Sound.{needing_has, step_sound}
-use Rattle.private_store.proofs.Rows.{same_is, same_self, at-put, quiet_stays}
+use Rattle.private_store.proofs.Rows.{at-put, quiet_stays}
 use Rattle.private_store.proofs.CalmSteps.{visible_at}
 use Rattle.private_store.proofs.Turns.{found_any, resident, calm, IsTurn}
 use Rattle.private_store.proofs.StepTurns.{is_taken, ReadsBack, sealing_turn, step_turn, MaySeal, fetch_found, fetch_fetching, fetching_unsealed}
@@ -99,7 +99,7 @@ other_than id =
     let other : ObjectId = record id { index = id.index + 1 } in (
       other,
       elim (same_id other id) as (λ b. same_id other id ≡ b → b ≡ false) [
-        | true ↦ λ t. absurd (past id.index (ap (λ x. x.index) (same_is other id t)))
+        | true ↦ λ t. absurd (past id.index (ap (λ x. x.index) (same_id-equal other id t)))
         | false ↦ λ _. refl
       ] refl,
     )
@@ -189,7 +189,7 @@ module _ (node : ℕ) (view : View) (sh : IsShapeKept view.shape) (h : AreConten
           let s : ObjectId → Bool = λ q. same_id q id in
           let created : is_created copy.state ≡ true = passed (is_created copy.state) c in
           let stands = created_stands id copy e created in
-          brings_digest view sh h s id (digest_of (bytes_at view.contents.bytes id)) (λ q f. f) (λ _. other_than id) (done (set_copy view.shape id (record copy { state = Sealed }))) (sealing_turn s view.shape sh id copy (same_self id) e)
+          brings_digest view sh h s id (digest_of (bytes_at view.contents.bytes id)) (λ q f. f) (λ _. other_than id) (done (set_copy view.shape id (record copy { state = Sealed }))) (sealing_turn s view.shape sh id copy (same_id-itself id) e)
           (is_sorted-put id_cmp id_cmp-IsTotalOrder id (record copy { state = Sealed }) view.shape.copies in_order) (λ d t. by_turn d stands t)
         where
           by_turn : (d : Copy) → is_some copy.offset ≡ true → RowTurn (λ q. same_id q id) view.shape id d → IsFilled (at view.contents.bytes id) (Some (digest_of (bytes_at view.contents.bytes id))) d
@@ -232,7 +232,7 @@ module _ (node : ℕ) (view : View) (sh : IsShapeKept view.shape) (h : AreConten
   restoring_stands : (number : ℕ) (w : WorkInFlight) (c : Copy) → work_of view.shape number ≡ Some w → w.writes ≡ false → at view.shape.copies w.id ≡ Some c → is_some c.offset ≡ true
   restoring_stands number w c is reads e =
       let k = sh.each w.id c e in
-      let read : has_read view.shape.works w.id ≡ true = found_any (λ work. work.number == number) (λ work. same_id w.id work.id && not work.writes) view.shape.works w is (ap (λ b. b && not w.writes) (same_self w.id) ∙ ap not reads) in
+      let read : has_read view.shape.works w.id ≡ true = found_any (λ work. work.number == number) (λ work. same_id w.id work.id && not work.writes) view.shape.works w is (ap (λ b. b && not w.writes) (same_id-itself w.id) ∙ ap not reads) in
       k.resident ∙ by_state c.state (sym k.restored ∙ read)
     where
       by_state : (state : CopyState) → is_restoring state ≡ true → has_extent state c.fetch ≡ true
@@ -259,7 +259,7 @@ module _ (node : ℕ) (view : View) (sh : IsShapeKept view.shape) (h : AreConten
           let s : ObjectId → Bool = λ q. same_id q w.id in
           let own = own_bytes w.id bytes (fine (is_read_back view w.id bytes) (sym (verdict_of_read number (device.Bytes bytes) w is reads) ∙ e)) in
           let y = judged.Answer number work.Fine in
-          let may : ReadsBack s view.shape number work.Fine = λ v other _. ap (λ x. same_id x.id w.id) (some_value v w (sym other ∙ is)) ∙ same_self w.id in
+          let may : ReadsBack s view.shape number work.Fine = λ v other _. ap (λ x. same_id x.id w.id) (some_value v w (sym other ∙ is)) ∙ same_id-itself w.id in
           brings_bytes view sh h s w.id bytes (λ q f. f) (λ _. other_than w.id) (after y) (turn s y may) (still_sorted y)
           (λ d t. sealed_filled view sh h s w.id bytes own.0 d own.1 (restoring_stands number w own.0 is reads own.1) own.2 own.3 t)
 
@@ -381,7 +381,7 @@ module _ (node : ℕ) (view : View) (sh : IsShapeKept view.shape) (h : AreConten
       let within = chunk_within id k.copy k.fetch k.source k.missing index (length bytes) found.0 found.1 k.phase k.gap k.long in
       record {
         is = brings_bytes view sh h s id (with_chunk view id index bytes) (λ q f. f) (λ _. other_than id) (after y)
-            (turn s y (λ p source missing is phase none t. same_self id)) (still_sorted y)
+            (turn s y (λ p source missing is phase none t. same_id-itself id)) (still_sorted y)
             (λ d t. sealed_filled view sh h s id (with_chunk view id index bytes) k.copy d found.0 stands (chunk_long id index bytes k.copy found.0 stands within)
             (digest_right (with_chunk view id index bytes) (digest_at view.contents.digests id) (whole_right (filter (λ i. not (i == index)) k.missing) k.verdict)) t);
       }

@@ -18,11 +18,11 @@ use Rattle.private_store.specs.Step.{step}
 use Rattle.private_store.specs.Kept.{IsShapeKept, IsDeviceKept, has_write}
 use Rattle.private_store.proofs.Tests.{both_right, and_left, and_right, or_false}
 use Rattle.private_store.proofs.Sound.{step_sound}
-use Rattle.private_store.proofs.Rows.{same_is, same_self, at-drop, Tame}
-use Rattle.private_store.proofs.Clearing.{not_same_back}
+use Rattle.private_store.proofs.Rows.{at-drop, Tame}
 use Rattle.private_store.proofs.Turns.{weight, weight_of, weight_same, Turn, calm, spills, puts, requotas, empties, receives, IsTurn}
 use Rattle.private_store.proofs.StepTurns.{step_turn, all_may}
 use Rattle.private_store.proofs.Filling.{below_none}
+use Rattle.obj_id.proofs.SameIds.{same_id-equal, same_id-itself, same_id-not_back}
 
 -- ---- the sum over a table
 
@@ -54,8 +54,8 @@ total_split works k (e ∷ es) h =
     let rest = total_split works k es (and_right (below_all id_cmp e.0 es) _ h) in
     elim (same_id k e.0) as (λ b. same_id k e.0 ≡ b → weight works e.0 e.1 + total works es ≡ weight_of works k (cond b (Some e.1) (at es k)) + total works (cond (not b) (e ∷ without_entry es k) (without_entry es k))) [
       | true ↦ λ t.
-          let none : at es k ≡ None = ap (at es) (same_is k e.0 t) ∙ below_none e.0 es (and_left _ _ h) in
-          here (weight works e.0 e.1) (weight works k e.1) _ _ _ (ap (λ x. weight works x e.1) (sym (same_is k e.0 t))) (ap (weight_of works k) none) rest
+          let none : at es k ≡ None = ap (at es) (same_id-equal k e.0 t) ∙ below_none e.0 es (and_left _ _ h) in
+          here (weight works e.0 e.1) (weight works k e.1) _ _ _ (ap (λ x. weight works x e.1) (sym (same_id-equal k e.0 t))) (ap (weight_of works k) none) rest
       | false ↦ λ f. later _ _ _ _ rest
     ] refl
   where
@@ -70,7 +70,7 @@ total_less : (works works' : List WorkInFlight) (new old : ById Copy) → T (is_
     → ((q : ObjectId) → weight_of works' q (at new q) ≤ weight_of works q (at old q)) → total works' new ≤ total works old
 total_less works works' [] old g h less = omega arith
 total_less works works' (e ∷ es) old g h less =
-    let head : weight works' e.0 e.1 ≤ weight_of works e.0 (at old e.0) = subst (λ o. weight_of works' e.0 o ≤ weight_of works e.0 (at old e.0)) (ap (λ b. cond b (Some e.1) (at es e.0)) (same_self e.0)) (less e.0) in
+    let head : weight works' e.0 e.1 ≤ weight_of works e.0 (at old e.0) = subst (λ o. weight_of works' e.0 o ≤ weight_of works e.0 (at old e.0)) (ap (λ b. cond b (Some e.1) (at es e.0)) (same_id-itself e.0)) (less e.0) in
     let rest = total_less works works' es (without_entry old e.0) (and_right (below_all id_cmp e.0 es) _ g) (is_sorted-where_key id_cmp (λ x. not (same_id e.0 x)) old h) others in
     joined _ _ _ _ _ head rest (total_split works e.0 old h)
   where
@@ -82,9 +82,9 @@ total_less works works' (e ∷ es) old g h less =
         subst (λ o. weight_of works' q (at es q) ≤ weight_of works q o) (sym (at-drop old e.0 q))
         (elim (same_id e.0 q) as (λ b. same_id e.0 q ≡ b → weight_of works' q (at es q) ≤ weight_of works q (cond (not b) (at old q) None)) [
           | true ↦ λ t.
-              let none : at es q ≡ None = ap (at es) (sym (same_is e.0 q t)) ∙ below_none e.0 es (and_left _ _ g) in
+              let none : at es q ≡ None = ap (at es) (sym (same_id-equal e.0 q t)) ∙ below_none e.0 es (and_left _ _ g) in
               subst (λ o. weight_of works' q o ≤ 0) (sym none) (omega arith)
-          | false ↦ λ f. subst (λ o. weight_of works' q o ≤ weight_of works q (at old q)) (ap (λ b. cond b (Some e.1) (at es q)) (not_same_back e.0 q f)) (less q)
+          | false ↦ λ f. subst (λ o. weight_of works' q o ≤ weight_of works q (at old q)) (ap (λ b. cond b (Some e.1) (at es q)) (same_id-not_back e.0 q f)) (less q)
         ] refl)
 
 -- ---- writes that are asked for
@@ -128,7 +128,7 @@ one_more works w table h =
         subst (λ o. weight_of (with_write works w) q o ≤ weight_of works q o) (sym (at-drop table w.id q))
         (elim (same_id w.id q) as (λ b. same_id w.id q ≡ b → weight_of (with_write works w) q (cond (not b) (at table q) None) ≤ weight_of works q (cond (not b) (at table q) None)) [
           | true ↦ λ _. omega arith
-          | false ↦ λ f. same_row q (at table q) (not_same_back w.id q f)
+          | false ↦ λ f. same_row q (at table q) (same_id-not_back w.id q f)
         ] refl)
 
 all_asked : (store : Shape) (ids : List ObjectId) → T (is_sorted id_cmp store.copies) → total (fold (asked true) store ids).works store.copies ≤ total store.works store.copies + sum (map (bytes_of store.copies) ids)
@@ -180,7 +180,7 @@ module _ (s : ObjectId → Bool) (store : Shape) (in_order : T (is_sorted id_cmp
           rows : (q : ObjectId) → weight_of c.shape.works q (at c.shape.copies q) ≤ weight_of store.works q (at store.copies q)
           rows q =
               elim (same_id q id) as (λ b. same_id q id ≡ b → weight_of c.shape.works q (at c.shape.copies q) ≤ weight_of store.works q (at store.copies q)) [
-                | true ↦ λ t. subst (λ x. weight_of c.shape.works x (at c.shape.copies x) ≤ weight_of store.works x (at store.copies x)) (sym (same_is q id t)) (subst (λ o. weight_of c.shape.works id o ≤ weight_of store.works id (at store.copies id)) (sym p.here) p.weight)
+                | true ↦ λ t. subst (λ x. weight_of c.shape.works x (at c.shape.copies x) ≤ weight_of store.works x (at store.copies x)) (sym (same_id-equal q id t)) (subst (λ o. weight_of c.shape.works id o ≤ weight_of store.works id (at store.copies id)) (sym p.here) p.weight)
                 | false ↦ λ f. tame_weight store.works c.shape.works q (at store.copies q) (at c.shape.copies q) (p.writes q) (p.others q f)
               ] refl
       by_turn (requotas e w r fit) = subst (λ n. n ≤ c.shape.quota.device) (used_is store.works store.copies ∙ sym (same_tables e w)) (leb-true (device_used store) c.shape.quota.device (both_right (is_within store c.shape.quota.window) _ fit))

@@ -12,11 +12,12 @@ use Rattle.private_store.specs.Shape.{Copy, Shape, Change, unbegun}
 use Rattle.private_store.specs.Copies.{extent_of, is_within}
 use Rattle.private_store.specs.Step.{step}
 use Rattle.private_store.specs.Kept.{IsShapeKept, AreExtentsKept, is_placed, are_apart}
-use Rattle.private_store.proofs.Tests.{true_false, none_some, both_left, both_are, or_swaps}
-use Rattle.private_store.proofs.Rows.{same_is, same_self, IsTame, Tame}
+use Rattle.private_store.proofs.Tests.{true_false, none_some, both_left, both, or_swaps}
+use Rattle.private_store.proofs.Rows.{IsTame, Tame}
 use Rattle.private_store.proofs.Clearing.{all_extents, extent_at}
 use Rattle.private_store.proofs.Turns.{Stands, nowhere, fresh, same, Turn, calm, spills, puts, requotas, empties, receives, IsTurn}
 use Rattle.private_store.proofs.StepTurns.{step_turn, all_may}
+use Rattle.obj_id.proofs.SameIds.{same_id-equal, same_id-itself}
 
 -- ---- two extents
 
@@ -79,7 +80,7 @@ module _ (window : ℕ) (old : ById Copy) (fit : Fit window old) where
   module _ (new : ById Copy) (id : ObjectId) (d : Copy) (here : at new id ≡ Some d) (others : (q : ObjectId) (c : Copy) → same_id q id ≡ false → at new q ≡ Some c → Loses old q c)
       (is_in : option_map_or (is_placed window) (extent_of d) true ≡ true) (clear : (q : ObjectId) (c : Copy) → same_id q id ≡ false → at new q ≡ Some c → are_apart (extent_of d) (extent_of c) ≡ true) where
     here_is : (q : ObjectId) (c : Copy) → same_id q id ≡ true → at new q ≡ Some c → extent_of c ≡ extent_of d
-    here_is q c t e = ap (λ o. option_map_or extent_of o None) (sym e ∙ ap (at new) (same_is q id t) ∙ here)
+    here_is q c t e = ap (λ o. option_map_or extent_of o None) (sym e ∙ ap (at new) (same_id-equal q id t) ∙ here)
 
     new_placed : (q : ObjectId) (c : Copy) → at new q ≡ Some c → option_map_or (is_placed window) (extent_of c) true ≡ true
     new_placed q c e =
@@ -92,7 +93,7 @@ module _ (window : ℕ) (old : ById Copy) (fit : Fit window old) where
     new_apart a b x y e g f = by_ids (same_id a id) (same_id b id) refl refl
       where
         by_ids : (s t : Bool) → same_id a id ≡ s → same_id b id ≡ t → are_apart (extent_of x) (extent_of y) ≡ true
-        by_ids true true s t = true_false (sym f ∙ ap (same_id a) (same_is b id t ∙ sym (same_is a id s)) ∙ same_self a)
+        by_ids true true s t = true_false (sym f ∙ ap (same_id a) (same_id-equal b id t ∙ sym (same_id-equal a id s)) ∙ same_id-itself a)
         by_ids true false s t = ap (λ o. are_apart o (extent_of y)) (here_is a x s e) ∙ clear b y t g
         by_ids false true s t = apart_back (extent_of y) (extent_of x) (ap (λ o. are_apart o (extent_of x)) (here_is b y t g) ∙ clear a x s e)
         by_ids false false s t = losing_apart a b x y (others a x s e) (others b y t g) f
@@ -113,7 +114,7 @@ rewindow : (store : Shape) (window : ℕ) → is_within store window ≡ true �
 rewindow store window within fit = record {
   placed = λ id copy e. elim (extent_of copy) as (λ o. extent_of copy ≡ o → option_map_or (is_placed store.quota.window) o true ≡ true → option_map_or (is_placed window) o true ≡ true) [
     | None ↦ λ _ _. refl
-    | Some x ↦ λ is h. both_are (x.offset % 16 == 0) (nat_le (end_of x) window) (both_left (x.offset % 16 == 0) _ h) (all_extents (λ e. nat_le (end_of e) window) store.copies id copy x e is within)
+    | Some x ↦ λ is h. both (x.offset % 16 == 0) (nat_le (end_of x) window) (both_left (x.offset % 16 == 0) _ h) (all_extents (λ e. nat_le (end_of e) window) store.copies id copy x e is within)
   ] refl (fit.placed id copy e);
   apart = fit.apart;
 }
@@ -134,8 +135,8 @@ module _ (s : ObjectId → Bool) (store : Shape) (fit : Fit store.quota.window s
         where
           moved : (q : ObjectId) (c : Copy) → same_id q id ≡ true → at copies q ≡ Some c → Loses store.copies q c
           moved q c t e =
-              let is : extent_of c ≡ extent_of d = ap (λ o. option_map_or extent_of o None) (sym e ∙ ap (at copies) (same_is q id t) ∙ here) in
-              elim h [ inl gone ↦ inl (is ∙ gone) | inr kept ↦ inr (kept.0, ap (at store.copies) (same_is q id t) ∙ kept.1, is ∙ kept.2) ]
+              let is : extent_of c ≡ extent_of d = ap (λ o. option_map_or extent_of o None) (sym e ∙ ap (at copies) (same_id-equal q id t) ∙ here) in
+              elim h [ inl gone ↦ inl (is ∙ gone) | inr kept ↦ inr (kept.0, ap (at store.copies) (same_id-equal q id t) ∙ kept.1, is ∙ kept.2) ]
 
       by_stand : Stands s store copies id d → Fit store.quota.window copies
       by_stand (nowhere none unsealed) = settled (inl (extent_none d none))

@@ -17,8 +17,8 @@ use Rattle.private_store.specs.Copies.{is_sealed, was_sealed}
 use Rattle.private_store.specs.Contents.{Contents, bytes_at, digest_of, no_digest, kept, keeps_digest, is_sized}
 use Rattle.private_store.specs.Kept.{IsContentKept, AreContentsKept}
 use Rattle.private_store.proofs.Tests.{and_left, and_right}
-use Rattle.private_store.proofs.Rows.{same_is}
 use Rattle.private_store.proofs.Turns.{resident}
+use Rattle.obj_id.proofs.SameIds.{same_id-equal}
 
 -- ---- look-ups in what is kept
 
@@ -46,8 +46,8 @@ module _ {X : Type 0} {Y : Type 0} (test : X → Bool) (default : X → Y) (tabl
       let g : ObjectId × X → ObjectId × Y = λ e. (e.0, unwrap_or (at table e.0) (default e.1)) in
       elim (same_id q e.0) as (λ b. same_id q e.0 ≡ b → at (map g (cond (test e.1) (e ∷ f) f)) q ≡ kept_row q (cond b (Some e.1) (at es q))) [
         | true ↦ λ t. elim (test e.1) as (λ c. at (map g (cond c (e ∷ f) f)) q ≡ cond c (Some (unwrap_or (at table q) (default e.1))) None) [
-          | true ↦ ap (λ b. cond b (Some (unwrap_or (at table e.0) (default e.1))) (at (map g f) q)) t ∙ ap (λ x. Some (unwrap_or (at table x) (default e.1))) (sym (same_is q e.0 t))
-          | false ↦ rest ∙ ap (kept_row q) (ap (at es) (same_is q e.0 t) ∙ below_none e.0 es (and_left _ _ h))
+          | true ↦ ap (λ b. cond b (Some (unwrap_or (at table e.0) (default e.1))) (at (map g f) q)) t ∙ ap (λ x. Some (unwrap_or (at table x) (default e.1))) (sym (same_id-equal q e.0 t))
+          | false ↦ rest ∙ ap (kept_row q) (ap (at es) (same_id-equal q e.0 t) ∙ below_none e.0 es (and_left _ _ h))
         ]
         | false ↦ λ t. elim (test e.1) as (λ c. at (map g (cond c (e ∷ f) f)) q ≡ kept_row q (at es q)) [
           | true ↦ ap (λ b. cond b (Some (unwrap_or (at table e.0) (default e.1))) (at (map g f) q)) t ∙ rest
@@ -65,7 +65,7 @@ module _ {X : Type 0} {Y : Type 0} (default : X → Y) (table : ById Y) where
   at-all [] q = refl
   at-all (e ∷ es) q =
       elim (same_id q e.0) as (λ b. same_id q e.0 ≡ b → cond b (Some (unwrap_or (at table e.0) (default e.1))) (at (kept (λ x. true) default table es) q) ≡ all_row q (cond b (Some e.1) (at es q))) [
-        | true ↦ λ t. ap (λ x. Some (unwrap_or (at table x) (default e.1))) (sym (same_is q e.0 t))
+        | true ↦ λ t. ap (λ x. Some (unwrap_or (at table x) (default e.1))) (sym (same_id-equal q e.0 t))
         | false ↦ λ t. at-all es q
       ] refl
 

@@ -1,17 +1,9 @@
 -- First fit gives the least multiple of 16 that is free, or none where none is.
-use Rattle.std.proofs.Common.{◌≡◌, ℕ, zero, suc, ◌+◌, ◌*◌, ◌/◌, ◌%◌, ◌<◌, ◌≤◌, Bool, true, false, ◌&&◌, List, Some, None, is_some, unwrap_or, refl, sym, ap, subst, ◌∙◌, T, arith}
+use Rattle.std.proofs.Common.{◌≡◌, ℕ, zero, suc, ◌+◌, ◌*◌, ◌/◌, ◌%◌, ◌<◌, ◌≤◌, true, false, List, Some, refl, sym, ap, subst, ◌∙◌, arith}
 use Rattle.obj_id.specs.declared.works.Extent.{Extent}
 use Rattle.private_store.specs.Extents.{rounded, is_free, first_from, first}
 use Rattle.std.proofs.lemmas.Bool.{leb-true}
-
-some_value : {A : Type 0} (x y : A) → Some x ≡ Some y → x ≡ y
-some_value x y e = ap (λ o. unwrap_or o x) e
-
-none_some : {A : Type 0} {B : Type 0} (x : A) → None ≡ Some x → B
-none_some x e = absurd (subst T (ap is_some (sym e)) tt)
-
-true_false : {B : Type 0} → true ≡ false → B
-true_false e = absurd (subst T e tt)
+use Rattle.private_store.proofs.Tests.{both_left, false_true, none_some, some_value}
 
 next_unit : (n : ℕ) → n % 16 ≡ 0 → (n + 16) % 16 ≡ 0
 next_unit n u = omega arith
@@ -50,7 +42,7 @@ module _ (extents : List Extent) (window n : ℕ) where
           → (p : ℕ) × (first_from extents window n (offset + 16) k ≡ Some p) × (p ≤ offset + 16 * i)
       later zero lt free taken ih =
           let e : offset + 16 * 0 ≡ offset = omega arith in
-          true_false (sym (subst (λ x. is_free extents window n x ≡ true) e free) ∙ taken)
+          false_true (sym (subst (λ x. is_free extents window n x ≡ true) e free) ∙ taken)
       later (suc j) lt free taken ih =
           let e : offset + 16 * suc j ≡ (offset + 16) + 16 * j = omega arith in
           let found = ih j (omega (arith, lt)) (subst (λ x. is_free extents window n x ≡ true) e free) in
@@ -62,13 +54,9 @@ first-free extents window n p e = from-free extents window n 0 (window / 16 + 1)
 pub first-units : (extents : List Extent) (window n p : ℕ) → first extents window n ≡ Some p → p % 16 ≡ 0
 first-units extents window n p e = from-units extents window n 0 (window / 16 + 1) p refl e
 
-and_left : (a b : Bool) → a && b ≡ true → a ≡ true
-and_left true b h = refl
-and_left false b h = h
-
 pub first-least : (extents : List Extent) (window n k : ℕ) → is_free extents window n (16 * k) ≡ true → (p : ℕ) × (first extents window n ≡ Some p) × (p ≤ 16 * k)
 first-least extents window n k free =
-    let ends : 16 * k + rounded n ≤ window = leb-true (16 * k + rounded n) window (and_left _ _ free) in
+    let ends : 16 * k + rounded n ≤ window = leb-true (16 * k + rounded n) window (both_left _ _ free) in
     let within : k < window / 16 + 1 = omega (arith, ends) in
     let from_zero : 0 + 16 * k ≡ 16 * k = omega arith in
     let found = from-least extents window n 0 (window / 16 + 1) k within (subst (λ o. is_free extents window n o ≡ true) (sym from_zero) free) in

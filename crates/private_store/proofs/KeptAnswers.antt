@@ -16,12 +16,14 @@ use Rattle.private_store.specs.Room.{set_copy}
 use Rattle.private_store.specs.Change.{done, erasing, settled}
 use Rattle.private_store.specs.Events.{work_of, without_work, written, read_back, answer}
 use Rattle.private_store.specs.Kept.{IsCopyKept, IsUseKept, has_extent, has_work, has_read, has_write, has_hand, is_fetching, is_restoring}
-use Rattle.private_store.proofs.KeptCopy.{IsLoose, true_false, false_true, or_false_left, or_false_right, sealed_is, restoring_is, has_work-split}
+use Rattle.private_store.proofs.KeptCopy.{IsLoose, sealed_is, restoring_is, has_work-split}
 use Rattle.private_store.proofs.KeptLists.{find-any}
-use Rattle.private_store.proofs.KeptRows.{IsRowChange, IsLiveKept, row_same, same_itself}
+use Rattle.private_store.proofs.KeptRows.{IsRowChange, IsLiveKept, row_same}
 use Rattle.private_store.proofs.KeptWorks.{rest_keep, rest_free, same_rest}
 use Rattle.private_store.proofs.KeptChanges.{no_hand_of, unheld_of}
 use Rattle.private_store.proofs.KeptStore.{IsFrameKept, settle_moved, Keeps, needing_keeps, put_row, kept_copy}
+use Rattle.private_store.proofs.Tests.{false_true, or_false_left, or_false_right, true_false}
+use Rattle.obj_id.proofs.SameIds.{same_id-itself}
 
 module _ {store : Shape} (h : IsLiveKept store) (number : ℕ) (w : WorkInFlight) (found : work_of store number ≡ Some w) (copy : Copy) (e : at store.copies w.id ≡ Some copy) where
   abbrev rest : Shape
@@ -55,7 +57,7 @@ module _ {store : Shape} (h : IsLiveKept store) (number : ℕ) (w : WorkInFlight
 
   module _ (writes : w.writes ≡ true) where
     spilling : (is_sealed copy.state ≡ true) × (is_primary copy.kind ≡ true) × (copy.backed ≡ None)
-    spilling = kept.spilled (find-any (λ x. x.number == number) (λ x. same_id w.id x.id && x.writes) store.works w found (ap (λ b. b && w.writes) (same_itself w.id) ∙ writes))
+    spilling = kept.spilled (find-any (λ x. x.number == number) (λ x. same_id w.id x.id && x.writes) store.works w found (ap (λ b. b && w.writes) (same_id-itself w.id) ∙ writes))
 
     still : is_restoring copy.state ≡ false
     still = ap is_restoring (sealed_is copy.state spilling.0)
@@ -92,7 +94,7 @@ module _ {store : Shape} (h : IsLiveKept store) (number : ℕ) (w : WorkInFlight
 
   module _ (reads : w.writes ≡ false) where
     coming : copy.state ≡ Restoring
-    coming = restoring_is copy.state (sym kept.restored ∙ find-any (λ x. x.number == number) (λ x. same_id w.id x.id && not x.writes) store.works w found (ap (λ b. b && not w.writes) (same_itself w.id) ∙ ap not reads))
+    coming = restoring_is copy.state (sym kept.restored ∙ find-any (λ x. x.number == number) (λ x. same_id w.id x.id && not x.writes) store.works w found (ap (λ b. b && not w.writes) (same_id-itself w.id) ∙ ap not reads))
 
     no_hand : has_hand store.given w.id ≡ false
     no_hand = no_hand_of copy kept (ap is_sealed coming)

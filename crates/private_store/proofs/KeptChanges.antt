@@ -16,10 +16,11 @@ use Rattle.private_store.specs.Shape.{Copy, Fetch, WorkInFlight, HandGiven}
 use Rattle.private_store.specs.Copies.{is_primary, is_sealed, is_away}
 use Rattle.private_store.specs.Commands.{new_copy, fetched_copy, holds_of, all_holds, with_holds, without_borrower}
 use Rattle.private_store.specs.Kept.{AreMarksKept, AreHoldsKept, IsUseKept, IsScopeKept, IsCopyKept, are_held, are_gaps, has_extent, has_work, has_read, has_write, has_hand, is_remembered, is_restoring, is_fetching, is_pulling}
-use Rattle.private_store.proofs.KeptCopy.{IsBare, IsLoose, IsAbsentKept, true_false, false_true, or_false_left, or_false_right, refuted, has_work-split}
+use Rattle.private_store.proofs.KeptCopy.{IsBare, IsLoose, IsAbsentKept, has_work-split}
 use Rattle.private_store.proofs.KeptLists.{any-filter-only, length-filter-le}
 use Rattle.private_store.proofs.KeptHolds.{holds_keep}
 use Rattle.private_store.proofs.KeptEnd.{same_task_is}
+use Rattle.private_store.proofs.Tests.{false_true, or_false_left, or_false_right, refuted, true_false}
 
 pub visible_at : (o : Option Copy) (copy : Copy) → option_and_then (λ c. cond c.doomed None (Some c)) o ≡ Some copy → (o ≡ Some copy) × (copy.doomed ≡ false)
 visible_at None copy e = true_false (ap is_some e)

@@ -15,10 +15,11 @@ use Rattle.private_store.specs.Room.{set_copy}
 use Rattle.private_store.specs.Change.{done, sending, has_ended, settled}
 use Rattle.private_store.specs.Commands.{write, seal, read, release, unpin, borrow, give_up, delete, peek, leave, leave_one, holds_of, with_holds, without_borrower, has_borrower, at_each}
 use Rattle.private_store.specs.Kept.{are_held}
-use Rattle.private_store.proofs.KeptCopy.{bare, false_true, not_false, created_is, or_false_right}
+use Rattle.private_store.proofs.KeptCopy.{bare, created_is}
 use Rattle.private_store.proofs.KeptRows.{IsLiveKept, row_same}
 use Rattle.private_store.proofs.KeptChanges.{visible_at, sealed_copy, held_copy, unpinned_bare, borrowed_copy, without_borrower_bare, without_borrower_scope}
 use Rattle.private_store.proofs.KeptStore.{Keeps, same_keeps, checked_keeps, check_keeps, checks_keep, needing_keeps, sending_keeps, scoped_keeps, set_keeps, settle, doomed_keeps, put_row, kept_copy}
+use Rattle.private_store.proofs.Tests.{false_true, or_false_right, passed}
 
 held_by : (session : ℕ) (holds : List (ℕ × ℕ)) → (unwrap_or (find nat_cmp session holds) 0 == 0) ≡ false → are_held holds ≡ true
 held_by session [] e = false_true e
@@ -32,7 +33,7 @@ module _ {store : Shape} (h : IsLiveKept store) where
   seal_keeps id = needing_keeps h _ _ _ (λ copy v.
       let e = (visible_at (at store.copies id) copy v).0 in
       check_keeps h (not (is_created copy.state)) _ [] _ (λ c. checks_keep h _ (sending_keeps _ _ (record {
-        is = set_keeps h id copy (record copy { state = Sealed }) e (sealed_copy copy (kept_copy h id copy e) (created_is copy.state (not_false (is_created copy.state) c)));
+        is = set_keeps h id copy (record copy { state = Sealed }) e (sealed_copy copy (kept_copy h id copy e) (created_is copy.state (passed (is_created copy.state) c)));
       }))))
 
   pub read_keeps : (session : ℕ) (id : ObjectId) (offset n : ℕ) → Keeps (read store session id offset n)
@@ -61,7 +62,7 @@ module _ {store : Shape} (h : IsLiveKept store) where
       let e = (visible_at (at store.copies id) copy v).0 in
       check_keeps h (not (is_primary copy.kind)) _ _ _ (λ p. check_keeps h (has_borrower copy task) _ _ _ (λ _. check_keeps h (nat_le most_borrowers (length copy.borrowers)) _ [] _ (λ few. checks_keep h _ (record {
         is = set_keeps h id copy (record copy { borrowers = copy.borrowers ++ task ∷ [] }) e
-            (borrowed_copy copy (kept_copy h id copy e) task (not_false (is_primary copy.kind) p) (or_false_right (has_ended store id.task) (has_ended store task) live) few);
+            (borrowed_copy copy (kept_copy h id copy e) task (passed (is_primary copy.kind) p) (or_false_right (has_ended store id.task) (has_ended store task) live) few);
       })))))))
 
   pub give_up_keeps : (id : ObjectId) (task : TaskNo) → Keeps (give_up store id task)

@@ -1,5 +1,5 @@
 -- What a copy keeps while it changes, and a row of the table, which is a copy or none.
-use Rattle.std.proofs.Common.{◌≡◌, ℕ, Bool, true, false, not, ◌&&◌, ◌||◌, List, [], ◌∷◌, Option, Some, None, refl, sym, ap, subst, ◌∙◌, T, is_some, is_none, unwrap_or}
+use Rattle.std.proofs.Common.{◌≡◌, ℕ, Bool, true, false, not, ◌&&◌, ◌||◌, List, [], ◌∷◌, Option, Some, None, refl, sym, ap, ◌∙◌, is_none}
 use Rattle.obj_id.specs.declared.ids.ObjectId.{ObjectId}
 use Rattle.obj_id.specs.declared.ids.TaskNo.{TaskNo}
 use Rattle.obj_id.specs.declared.commands.Kind.{Kind}
@@ -9,28 +9,13 @@ use Rattle.obj_id.specs.Ids.{same_id}
 use Rattle.private_store.specs.Shape.{Copy, WorkInFlight, HandGiven}
 use Rattle.private_store.specs.Copies.{is_sealed, is_created}
 use Rattle.private_store.specs.Kept.{IsFormKept, AreMarksKept, AreHoldsKept, IsUseKept, IsScopeKept, IsCopyKept, are_held, has_work, has_read, has_write, has_hand, is_restoring, is_fetching}
-
-pub true_false : {B : Type 0} → false ≡ true → B
-true_false e = absurd (subst T (sym e) tt)
-
-pub false_true : {B : Type 0} → true ≡ false → B
-false_true e = absurd (subst T e tt)
+use Rattle.private_store.proofs.Tests.{both_left, both_right, not_true, passed, true_false}
 
 -- ---- options
 
 pub none_of : {A : Type 0} (o : Option A) → is_none o ≡ true → o ≡ None
 none_of None e = refl
 none_of (Some x) e = true_false e
-
-pub none_here : {A : Type 0} (o : Option A) → is_some o ≡ false → o ≡ None
-none_here None e = refl
-none_here (Some x) e = false_true e
-
-pub some_value : {A : Type 0} (x y : A) → Some x ≡ Some y → x ≡ y
-some_value x y e = ap (λ o. unwrap_or o x) e
-
-pub none_some : {A B : Type 0} (x : A) → None ≡ Some x → B
-none_some x e = true_false (ap is_some e)
 
 -- ---- states
 
@@ -62,74 +47,20 @@ restoring_is Sealed e = true_false e
 restoring_is Fetching e = true_false e
 restoring_is Away e = true_false e
 
--- ---- tests
-
-pub or_false_left : (a b : Bool) → a || b ≡ false → a ≡ false
-or_false_left true b e = false_true e
-or_false_left false b e = refl
-
-pub or_false_right : (a b : Bool) → a || b ≡ false → b ≡ false
-or_false_right true b e = false_true e
-or_false_right false b e = e
-
-pub or_left : (a b : Bool) → a ≡ true → a || b ≡ true
-or_left true b e = refl
-or_left false b e = true_false e
-
-pub or_right : (a b : Bool) → b ≡ true → a || b ≡ true
-or_right true b e = refl
-or_right false b e = e
-
-pub and_left : (a b : Bool) → a && b ≡ true → a ≡ true
-and_left true b e = refl
-and_left false b e = e
-
-pub and_right : (a b : Bool) → a && b ≡ true → b ≡ true
-and_right true b e = e
-and_right false b e = true_false e
-
-pub and_rest : (a b : Bool) → a ≡ true → a && b ≡ false → b ≡ false
-and_rest true b e f = f
-and_rest false b e f = true_false e
-
-pub both : (a b : Bool) → a ≡ true → b ≡ true → a && b ≡ true
-both true b e f = f
-both false b e f = true_false e
-
-pub not_true : (a : Bool) → not a ≡ true → a ≡ false
-not_true true e = true_false e
-not_true false e = refl
-
-pub not_false : (a : Bool) → not a ≡ false → a ≡ true
-not_false true e = refl
-not_false false e = false_true e
-
--- what isn't so where it would lead to a contradiction
-pub refuted : (a : Bool) → (a ≡ true → false ≡ true) → a ≡ false
-refuted true f = true_false (f refl)
-refuted false f = refl
-
-pub true_T : (b : Bool) → T b → b ≡ true
-true_T true h = refl
-true_T false h = absurd h
-
-pub T_true : (b : Bool) → b ≡ true → T b
-T_true b e = subst T (sym e) tt
-
 -- idle, as a test of three
 pub not_idle : (a b c : Bool) → not a && not b && not c ≡ false → a || b || c ≡ true
 not_idle true b c e = refl
 not_idle false true c e = refl
-not_idle false false c e = not_false c e
+not_idle false false c e = passed c e
 
 pub idle_held : (a b c : Bool) → not a && not b && not c ≡ true → a ≡ false
-idle_held a b c e = not_true a (and_left (not a) (not b) (and_left _ (not c) e))
+idle_held a b c e = not_true a (both_left (not a) (not b) (both_left _ (not c) e))
 
 pub idle_granted : (a b c : Bool) → not a && not b && not c ≡ true → b ≡ false
-idle_granted a b c e = not_true b (and_right (not a) (not b) (and_left _ (not c) e))
+idle_granted a b c e = not_true b (both_right (not a) (not b) (both_left _ (not c) e))
 
 pub idle_working : (a b c : Bool) → not a && not b && not c ≡ true → c ≡ false
-idle_working a b c e = not_true c (and_right (not a && not b) (not c) e)
+idle_working a b c e = not_true c (both_right (not a && not b) (not c) e)
 
 -- ---- what stands on an id, in other lists
 

@@ -9,8 +9,9 @@ use Rattle.private_store.specs.Room.{set_copy, drop_copy}
 use Rattle.private_store.specs.Change.{done, sending, settled, doomed, doom}
 use Rattle.private_store.specs.Commands.{scoped, at_each}
 use Rattle.private_store.specs.Kept.{are_held, has_work, has_hand}
-use Rattle.private_store.proofs.KeptCopy.{is_kept_up, false_true, and_right, and_rest, idle_granted, idle_working, not_idle}
+use Rattle.private_store.proofs.KeptCopy.{is_kept_up, idle_granted, idle_working, not_idle}
 use Rattle.private_store.proofs.KeptRows.{IsRowChange, row_put, row_drop, row_then, row_here}
+use Rattle.private_store.proofs.Tests.{and_rest, both_right, false_true}
 
 -- ---- changes of copies alone
 
@@ -63,7 +64,7 @@ module _ (most : ℕ) (copies : ById Copy) (id : ObjectId) (P : Option Copy → 
       → ((copy.doomed ≡ true → is_kept_up store.works store.given id copy ≡ true) → P (Some copy))
       → (b : Bool) → copy.doomed && is_idle store id copy ≡ b → RowOf most copies id P (cond b (drop_copy store id) store).copies
   settled_as copy c none some true t =
-      let idle = and_right copy.doomed (is_idle store id copy) t in
+      let idle = both_right copy.doomed (is_idle store id copy) t in
       record {
         row = None;
         change = row_then c (row_drop store.copies id c.in_order c.few);

@@ -17,12 +17,14 @@ use Rattle.private_store.specs.Room.{set_copy}
 use Rattle.private_store.specs.Change.{done, doom, doomed, settled, sending}
 use Rattle.private_store.specs.Commands.{of_task, task_ended, scoped, give_up_one, has_borrower, without_borrower}
 use Rattle.private_store.specs.Kept.{IsCopyKept, AreMarksKept, are_held, has_work, is_remembered}
-use Rattle.private_store.proofs.KeptCopy.{IsBare, IsAbsentKept, IsRowKept, is_kept_up, true_false, false_true, refuted, or_right, and_rest}
+use Rattle.private_store.proofs.KeptCopy.{IsBare, IsAbsentKept, IsRowKept, is_kept_up}
 use Rattle.private_store.proofs.KeptLists.{any-filter, any-filter-le, any-filter-only, length-filter-le}
 use Rattle.private_store.proofs.KeptWorks.{pushed_no}
-use Rattle.private_store.proofs.KeptRows.{IsRowChange, row_put, row_same, IsLiveKept, same_is}
+use Rattle.private_store.proofs.KeptRows.{IsRowChange, row_put, row_same, IsLiveKept}
 use Rattle.private_store.proofs.KeptFold.{Visits, AreVisited, visited, among-filter, among-ids}
 use Rattle.private_store.proofs.KeptEach.{IsOfCopies, doomed_of_copies, scoped_of_copies, RowOf, doomed_row}
+use Rattle.private_store.proofs.Tests.{and_rest, false_true, or_right, refuted, true_false}
+use Rattle.obj_id.proofs.SameIds.{same_id-equal}
 
 -- ---- tasks
 
@@ -114,7 +116,7 @@ module _ (store : Shape) (h : IsLiveKept store) (task : TaskNo) where
     of_live_task = λ d. pushed_no (same_task id.task) store.ended_tasks task (same_task_swapped task id.task other) ∙ k.of_live_task d;
     kept_up = λ d. ap (λ b. are_held copy.holds || b || has_work store.works id)
         (any-filter (λ hand. same_id id hand.id) (λ hand. not (hand.id.job.0 == store.job && same_task task hand.id.task)) store.given
-        (λ hand s. no_and (hand.id.job.0 == store.job) (same_task task hand.id.task) (sym (ap (λ x. same_task task x.task) (same_is id hand.id s)) ∙ other)))
+        (λ hand s. no_and (hand.id.job.0 == store.job) (same_task task hand.id.task) (sym (ap (λ x. same_task task x.task) (same_id-equal id hand.id s)) ∙ other)))
         ∙ k.doomed d;
   }
 

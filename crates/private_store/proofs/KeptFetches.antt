@@ -21,12 +21,13 @@ use Rattle.private_store.specs.Change.{done, sending}
 use Rattle.private_store.specs.Commands.{chunk_count, restore}
 use Rattle.private_store.specs.Events.{with_fetch, fetch_of, located, located_copy, fetch_failed, chunk_taken, chunk_arrived, is_missing, not_here_arrived, quiet, pull_answer, pull_arrived}
 use Rattle.private_store.specs.Kept.{IsOrderOfUse, IsCopyKept, are_gaps, has_extent, is_pulling}
-use Rattle.private_store.proofs.KeptCopy.{true_false, and_left, and_right, both, fetching_is, none_of, some_value}
+use Rattle.private_store.proofs.KeptCopy.{fetching_is, none_of}
 use Rattle.private_store.proofs.KeptLists.{all-filter}
 use Rattle.private_store.proofs.KeptRows.{IsLiveKept}
 use Rattle.private_store.proofs.KeptGet.{restore_keeps}
 use Rattle.private_store.proofs.KeptChanges.{visible_at, fetched_on, arrived_copy}
 use Rattle.private_store.proofs.KeptStore.{Keeps, same_keeps, sending_keeps, set_keeps, kept_copy}
+use Rattle.private_store.proofs.Tests.{both, both_left, both_right, some_value, true_false}
 
 -- the copy and the fetch that a message is of
 record IsFetchOf (store : Shape) (id : ObjectId) (copy : Copy) (fetch : Fetch) : Type 0 where
@@ -115,13 +116,13 @@ module _ {store : Shape} (h : IsLiveKept store) where
     left_after : (source index : ℕ) (missing : List ℕ) → fetch.phase ≡ pulling source missing → AreLeft (filter (λ i. not (i == index)) missing)
     left_after source index missing p =
         let g : are_gaps copy.length (pulling source missing) ≡ true = sym (ap (are_gaps copy.length) p) ∙ gaps_kept in
-        let three : nat_lt 0 (length missing) && list_all (λ i. nat_lt i (chunk_count copy.length)) missing && nat_lt 0 copy.length ≡ true = and_left _ (nat_le copy.length longest_object) g in
-        let two : nat_lt 0 (length missing) && list_all (λ i. nat_lt i (chunk_count copy.length)) missing ≡ true = and_left _ (nat_lt 0 copy.length) three in
+        let three : nat_lt 0 (length missing) && list_all (λ i. nat_lt i (chunk_count copy.length)) missing && nat_lt 0 copy.length ≡ true = both_left _ (nat_le copy.length longest_object) g in
+        let two : nat_lt 0 (length missing) && list_all (λ i. nat_lt i (chunk_count copy.length)) missing ≡ true = both_left _ (nat_lt 0 copy.length) three in
         record {
           here = in_place ∙ ap is_pulling p;
-          chunks_of = all-filter (λ i. nat_lt i (chunk_count copy.length)) (λ i. not (i == index)) missing (and_right (nat_lt 0 (length missing)) (list_all (λ i. nat_lt i (chunk_count copy.length)) missing) two);
-          some = and_right (nat_lt 0 (length missing) && list_all (λ i. nat_lt i (chunk_count copy.length)) missing) (nat_lt 0 copy.length) three;
-          within = and_right (nat_lt 0 (length missing) && list_all (λ i. nat_lt i (chunk_count copy.length)) missing && nat_lt 0 copy.length) (nat_le copy.length longest_object) g;
+          chunks_of = all-filter (λ i. nat_lt i (chunk_count copy.length)) (λ i. not (i == index)) missing (both_right (nat_lt 0 (length missing)) (list_all (λ i. nat_lt i (chunk_count copy.length)) missing) two);
+          some = both_right (nat_lt 0 (length missing) && list_all (λ i. nat_lt i (chunk_count copy.length)) missing) (nat_lt 0 copy.length) three;
+          within = both_right (nat_lt 0 (length missing) && list_all (λ i. nat_lt i (chunk_count copy.length)) missing && nat_lt 0 copy.length) (nat_le copy.length longest_object) g;
         }
 
   pub located_keeps : (id : ObjectId) (number : ℕ) (source : Option Source) → Keeps (located store id number source)

@@ -5,8 +5,9 @@ use Rattle.obj_id.specs.declared.ids.ObjectId.{ObjectId}
 use Rattle.obj_id.specs.Ids.{id_cmp, same_id}
 use Rattle.private_store.specs.Tables.{ById, at, is_among, ids_of}
 use Rattle.private_store.specs.Shape.{Copy}
-use Rattle.private_store.proofs.KeptCopy.{or_left, or_right}
-use Rattle.private_store.proofs.KeptRows.{IsRowChange, same_is, same_itself}
+use Rattle.private_store.proofs.KeptRows.{IsRowChange}
+use Rattle.obj_id.proofs.SameIds.{same_id-equal, same_id-itself}
+use Rattle.private_store.proofs.Tests.{or_left, or_right}
 
 -- what passes a filter
 pub among-filter : (p : ObjectId → Bool) (ids : List ObjectId) (q : ObjectId) → is_among (filter p ids) q ≡ is_among ids q && p q
@@ -18,12 +19,12 @@ among-filter p (id ∷ ids) q =
     ] refl
   where
     here : (b : Bool) → same_id q id ≡ b → p id ≡ true → (c : Bool) → b || (c && p q) ≡ (b || c) && p q
-    here true t e c = sym (ap p (same_is q id t) ∙ e)
+    here true t e c = sym (ap p (same_id-equal q id t) ∙ e)
     here false t e c = refl
 
     there : (b : Bool) → same_id q id ≡ b → p id ≡ false → (c : Bool) → c && p q ≡ (b || c) && p q
     there true t e true = refl
-    there true t e false = sym (ap p (same_is q id t) ∙ e)
+    there true t e false = sym (ap p (same_id-equal q id t) ∙ e)
     there false t e c = refl
 
 -- the ids of a table are those that have an entry
@@ -50,15 +51,15 @@ module _ (most : ℕ) (f : ById Copy → ObjectId → ById Copy) (Before After :
       → AreVisited most After (fold f copies ids)
   visited [] copies h n before after = record { in_order = h; each = λ q. after q refl; few = n }
   visited (id ∷ ids) copies h n before after =
-      let v = visit copies id h n (before id (or_left (same_id id id) (is_among ids id) (same_itself id))) in
+      let v = visit copies id h n (before id (or_left (same_id id id) (is_among ids id) (same_id-itself id))) in
       visited ids (f copies id) v.change.in_order v.change.few
       (λ q t. subst (Before q) (sym (v.change.rows q))
       (elim (same_id q id) as (λ b. same_id q id ≡ b → Before q (cond b v.row (at copies q))) [
-        | true ↦ λ s. subst (λ x. Before x v.row) (sym (same_is q id s)) v.again
+        | true ↦ λ s. subst (λ x. Before x v.row) (sym (same_id-equal q id s)) v.again
         | false ↦ λ s. before q (or_right (same_id q id) (is_among ids q) t)
       ] refl))
       (λ q t. subst (After q) (sym (v.change.rows q))
       (elim (same_id q id) as (λ b. same_id q id ≡ b → After q (cond b v.row (at copies q))) [
-        | true ↦ λ s. subst (λ x. After x v.row) (sym (same_is q id s)) v.done
+        | true ↦ λ s. subst (λ x. After x v.row) (sym (same_id-equal q id s)) v.done
         | false ↦ λ s. after q (ap (λ b. b || is_among ids q) s ∙ t)
       ] refl))

@@ -18,13 +18,15 @@ use Rattle.private_store.specs.Room.{make_room, works_left, set_copy}
 use Rattle.private_store.specs.Change.{refused, checked, needing, sending, has_ended}
 use Rattle.private_store.specs.Commands.{is_length, is_full_of_copies, new_copy, created, create, get_sealed, restoring, restore, get_away, counted, chunk_count, begin_pull, get_fetching, get_copy, fetched_copy, fetch_begun, begin_fetch, get, holds_of, all_holds, with_holds}
 use Rattle.private_store.specs.Kept.{IsOrderOfUse, IsCopyKept, are_held, are_gaps, has_work, has_hand, is_fetching, is_restoring}
-use Rattle.private_store.proofs.KeptCopy.{true_false, tight, and_left, and_right, and_rest, both, or_right, not_false, none_here}
-use Rattle.private_store.proofs.KeptRows.{row_put, rows_changed, IsLiveKept, same_itself}
+use Rattle.private_store.proofs.KeptCopy.{tight}
+use Rattle.private_store.proofs.KeptRows.{row_put, rows_changed, IsLiveKept}
 use Rattle.private_store.proofs.KeptWorks.{ask_keeps, next_work, pushed_no, pushed_yes}
 use Rattle.private_store.proofs.KeptRoom.{IsMade}
 use Rattle.private_store.proofs.KeptPlan.{room_keeps, in_room_keeps}
 use Rattle.private_store.proofs.KeptChanges.{no_write_of, no_hand_of, unheld_of, no_work_of, held_copy, told_copy, fetched_on, new_kept, fetched_kept}
 use Rattle.private_store.proofs.KeptStore.{Keeps, same_keeps, check_keeps, checks_keep, needing_keeps, sending_keeps, keeps_row, set_keeps, drop_keeps, put_row, kept_copy, kept_absent}
+use Rattle.private_store.proofs.Tests.{and_rest, both, both_left, both_right, none_here, or_right, passed, true_false}
+use Rattle.obj_id.proofs.SameIds.{same_id-itself}
 
 -- ---- chunks
 
@@ -52,10 +54,10 @@ all_gaps n source pos long =
 
 module _ (store : Shape) where
   length_positive : (n : ℕ) → is_length store n ≡ true → 0 < n
-  length_positive n e = ltb-true 0 n (and_left (nat_lt 0 n) (nat_le n longest_object) (and_left (nat_lt 0 n && nat_le n longest_object) (nat_le (rounded n) store.quota.window) e))
+  length_positive n e = ltb-true 0 n (both_left (nat_lt 0 n) (nat_le n longest_object) (both_left (nat_lt 0 n && nat_le n longest_object) (nat_le (rounded n) store.quota.window) e))
 
   length_within : (n : ℕ) → is_length store n ≡ true → n ≤ longest_object
-  length_within n e = leb-true n longest_object (and_right (nat_lt 0 n) (nat_le n longest_object) (and_left (nat_lt 0 n && nat_le n longest_object) (nat_le (rounded n) store.quota.window) e))
+  length_within n e = leb-true n longest_object (both_right (nat_lt 0 n) (nat_le n longest_object) (both_left (nat_lt 0 n && nat_le n longest_object) (nat_le (rounded n) store.quota.window) e))
 
 module _ (order : List ObjectId) (once : IsOrderOfUse order) {store : Shape} (h : IsLiveKept store) where
   -- ---- Create
@@ -75,7 +77,7 @@ module _ (order : List ObjectId) (once : IsOrderOfUse order) {store : Shape} (h 
       let r = room_keeps order once store h n in
       check_keeps h (not (is_length store n)) _ _ _ (λ l. check_keeps h (has_ended store id.task) _ _ _ (λ live. check_keeps h (is_some (at store.copies id)) _ _ _ (λ none. check_keeps h (is_full_of_copies store) _ [] _ (λ few. checks_keep h _
       (in_room_keeps store room (created id kind n) r.made r.kept (λ offset m _.
-      let t = not_false (is_length store n) l in
+      let t = passed (is_length store n) l in
       placed_keeps id kind n offset own live (none_here (at store.copies id) none) (leb-false most_copies (length store.copies) few) (length_positive store n t) (length_within store n t) m))))))
 
   -- ---- Get of a copy that is here
@@ -101,11 +103,11 @@ module _ (order : List ObjectId) (once : IsOrderOfUse order) {store : Shape} (h 
         holds = record { held = λ t. true_false (sym (unheld_of copy k (ap is_sealed s)) ∙ t); sessions = k.sessions; few_holds = k.few_holds };
         uses = record {
           granted = λ t. true_false (sym (no_hand_of copy k (ap is_sealed s)) ∙ t);
-          spilled = λ t. true_false (sym (pushed_no (λ x. same_id id x.id && x.writes) store.works w (ap (λ b. b && false) (same_itself id)) ∙ no_write_of copy k (ap is_sealed s)) ∙ t);
-          restored = pushed_yes (λ x. same_id id x.id && not x.writes) store.works w (ap (λ b. b && true) (same_itself id));
+          spilled = λ t. true_false (sym (pushed_no (λ x. same_id id x.id && x.writes) store.works w (ap (λ b. b && false) (same_id-itself id)) ∙ no_write_of copy k (ap is_sealed s)) ∙ t);
+          restored = pushed_yes (λ x. same_id id x.id && not x.writes) store.works w (ap (λ b. b && true) (same_id-itself id));
         };
         scope = k.scope;
-        doomed = λ d. or_right (are_held copy.holds || has_hand store.given id) (has_work (store.works ++ w ∷ []) id) (pushed_yes (λ x. same_id id x.id) store.works w (same_itself id));
+        doomed = λ d. or_right (are_held copy.holds || has_hand store.given id) (has_work (store.works ++ w ∷ []) id) (pushed_yes (λ x. same_id id x.id) store.works w (same_id-itself id));
       }
 
   works_few : (works_left store == 0) ≡ false → length store.works < most_works
@@ -128,7 +130,7 @@ module _ (order : List ObjectId) (once : IsOrderOfUse order) {store : Shape} (h 
       check_keeps h (works_left store == 0) _ [] _ (λ left. checks_keep h _
       (check_keeps h (is_ok room.offset && not (has_numbers store.works_asked 1)) _ [] _ (λ numbers. checks_keep h _
       (in_room_keeps store room (restoring id copy) r.made r.kept (λ offset m ok. restored_keeps id copy offset e s f (works_few left)
-      (ltb-true (store.works_asked + 1) (2 ^ 64) (not_false (has_numbers store.works_asked 1) (and_rest (is_ok room.offset) (not (has_numbers store.works_asked 1)) ok numbers))) m)))))
+      (ltb-true (store.works_asked + 1) (2 ^ 64) (passed (has_numbers store.works_asked 1) (and_rest (is_ok room.offset) (not (has_numbers store.works_asked 1)) ok numbers))) m)))))
 
   get_away_keeps : (id : ObjectId) (copy : Copy) → at store.copies id ≡ Some copy → copy.state ≡ Away → Keeps (get_away order store id copy)
   get_away_keeps id copy e s =
@@ -154,7 +156,7 @@ module _ (order : List ObjectId) (once : IsOrderOfUse order) {store : Shape} (h 
       let room = make_room order store copy.length in
       let r = room_keeps order once store h copy.length in
       check_keeps h (not (is_length store copy.length)) _ [] _ (λ l. checks_keep h _
-      (in_room_keeps store room (begin_pull id copy fetch source) r.made r.kept (λ offset m _. pulled_keeps id copy fetch source offset e s (not_false (is_length store copy.length) l) m)))
+      (in_room_keeps store room (begin_pull id copy fetch source) r.made r.kept (λ offset m _. pulled_keeps id copy fetch source offset e s (passed (is_length store copy.length) l) m)))
   get_fetching_keeps id copy fetch (pulling source missing) e s = sending_keeps _ _ (same_keeps h _ refl)
   get_fetching_keeps id copy fetch (failed refusal) e s =
       let k = kept_copy h id copy e in
@@ -194,7 +196,7 @@ module _ (order : List ObjectId) (once : IsOrderOfUse order) {store : Shape} (h 
   unfolding sending
   begin_fetch_keeps id own live none =
       check_keeps h (is_full_of_copies store) _ _ _ (λ few. check_keeps h (not (has_numbers store.fetches_begun 1)) _ [] _ (λ numbers. checks_keep h _ (record {
-        is = begun_keeps id own live none (leb-false most_copies (length store.copies) few) (not_false (has_numbers store.fetches_begun 1) numbers);
+        is = begun_keeps id own live none (leb-false most_copies (length store.copies) few) (passed (has_numbers store.fetches_begun 1) numbers);
       })))
 
   pub get_keeps : (session : ℕ) (id : ObjectId) → id.job.0 ≡ store.job → Keeps (get order store session id)

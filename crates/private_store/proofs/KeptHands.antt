@@ -15,12 +15,14 @@ use Rattle.private_store.specs.Room.{drop_copy}
 use Rattle.private_store.specs.Change.{settled}
 use Rattle.private_store.specs.Commands.{grant, grant_own, grant_foreign, is_sealed_primary, has_given, withdraw}
 use Rattle.private_store.specs.Kept.{IsCopyKept}
-use Rattle.private_store.proofs.KeptCopy.{SameFor, IsAbsentKept, IsRowKept, IsLoose, true_false, not_false, and_left, and_right, or_left, or_right, or_false_right, both}
+use Rattle.private_store.proofs.KeptCopy.{SameFor, IsAbsentKept, IsRowKept, IsLoose}
 use Rattle.private_store.proofs.KeptLists.{any-filter, any-filter-le, any-filter-only, all-filter, length-filter-le}
-use Rattle.private_store.proofs.KeptRows.{AreHandsKept, IsLiveKept, rows_moved, row_same, same_is, same_both}
+use Rattle.private_store.proofs.KeptRows.{AreHandsKept, IsLiveKept, rows_moved, row_same, same_both}
 use Rattle.private_store.proofs.KeptWorks.{pushed_no}
 use Rattle.private_store.proofs.KeptChanges.{visible_at}
 use Rattle.private_store.proofs.KeptStore.{IsFrameKept, in_frame, settle_moved, kept_copy, Keeps, checked_keeps, check_keeps, checks_keep, needing_keeps}
+use Rattle.private_store.proofs.Tests.{both, both_left, both_right, or_false_right, or_left, or_right, passed, true_false}
+use Rattle.obj_id.proofs.SameIds.{same_id-equal}
 
 module _ {store : Shape} (h : IsLiveKept store) where
   -- ---- grants
@@ -70,10 +72,10 @@ module _ {store : Shape} (h : IsLiveKept store) where
       let hand : HandGiven = record { id = id; target = target; hangs_on = None } in
       check_keeps h (not (is_sealed_primary copy)) _ _ _ (λ s. check_keeps h (has_given store id target) _ _ _ (λ _. check_keeps h (nat_le most_hands (length store.given)) _ [] _ (λ few. checks_keep h _ (record {
         is =
-            let t : is_primary copy.kind && is_sealed copy.state ≡ true = not_false (is_sealed_primary copy) s in
+            let t : is_primary copy.kind && is_sealed copy.state ≡ true = passed (is_sealed_primary copy) s in
             give_keeps hand (or_right (not (id.job.0 == store.job)) true refl) few
             (subst (IsRowKept store.job store.works (store.given ++ hand ∷ []) store.ended_tasks id) (sym e)
-            (granted_copy hand copy (and_right (is_primary copy.kind) (is_sealed copy.state) t) (and_left (is_primary copy.kind) (is_sealed copy.state) t) (visible_at (at store.copies id) copy v).1 (kept_copy h id copy e)));
+            (granted_copy hand copy (both_right (is_primary copy.kind) (is_sealed copy.state) t) (both_left (is_primary copy.kind) (is_sealed copy.state) t) (visible_at (at store.copies id) copy v).1 (kept_copy h id copy e)));
       }))))))
 
   grant_foreign_keeps : (id : ObjectId) (target : ℕ) → (id.job.0 == store.job) ≡ false → Keeps (grant_foreign store id target)
@@ -136,7 +138,7 @@ module _ {store : Shape} (h : IsLiveKept store) where
           (loose_left keep id copy (kept_copy h id copy e))
 
   not_this : (q id hand : ObjectId) (b : Bool) → same_id q id ≡ false → same_id q hand ≡ true → not (same_id id hand && b) ≡ true
-  not_this q id hand b f t = ap (λ c. not (c && b)) (same_both id hand ∙ ap (λ x. same_id x id) (sym (same_is q hand t)) ∙ f)
+  not_this q id hand b f t = ap (λ c. not (c && b)) (same_both id hand ∙ ap (λ x. same_id x id) (sym (same_id-equal q hand t)) ∙ f)
 
   pub withdraw_keeps : (id : ObjectId) (target : ℕ) → Keeps (withdraw store id target)
   withdraw_keeps id target = checked_keeps h _ _ (record {

@@ -9,9 +9,11 @@ use Rattle.private_store.specs.Tables.{ById, at}
 use Rattle.private_store.specs.Shape.{Copy, Shape, HandGiven, Seen}
 use Rattle.private_store.specs.Events.{is_live, received, withdrawn, is_hand, hangs_on, hand_ended}
 use Rattle.private_store.specs.Kept.{IsShapeKept}
-use Rattle.private_store.proofs.KeptCopy.{SameFor, IsRowKept, copy_carried, true_false}
+use Rattle.private_store.proofs.KeptCopy.{SameFor, IsRowKept, copy_carried}
 use Rattle.private_store.proofs.KeptLists.{any-filter-all, any-filter-le, all-filter, all_weaker, length-filter-le}
-use Rattle.private_store.proofs.KeptRows.{IsLiveKept, to_live, from_live, same_is}
+use Rattle.private_store.proofs.KeptRows.{IsLiveKept, to_live, from_live}
+use Rattle.private_store.proofs.Tests.{true_false}
+use Rattle.obj_id.proofs.SameIds.{same_id-equal}
 
 -- other hands are received
 pub seen_keeps : (store : Shape) (seen : ById Seen) → IsShapeKept store → IsShapeKept (record store { received = seen })
@@ -52,7 +54,7 @@ module _ (store : Shape) (id : ObjectId) (giver : ℕ) where
       by_same : (b : Bool) → same_id q hand.id ≡ b → not b || keep hand ≡ true
       by_same false s = refl
       by_same true s =
-          let mine : (hand.id.job.0 == store.job) ≡ true = eq-eqb hand.id.job.0 store.job (sym (ap (λ x. x.job.0) (same_is q hand.id s)) ∙ own) in
+          let mine : (hand.id.job.0 == store.job) ≡ true = eq-eqb hand.id.job.0 store.job (sym (ap (λ x. x.job.0) (same_id-equal q hand.id s)) ∙ own) in
           by_none hand.hangs_on (same_id id hand.id) (sym (ap (λ b. not b || is_none hand.hangs_on) mine) ∙ e)
 
   row_stays : (h : IsLiveKept store) (q : ObjectId) (o : Option Copy) → IsRowKept store.job store.works store.given store.ended_tasks q o → IsRowKept store.job store.works (filter keep store.given) store.ended_tasks q o

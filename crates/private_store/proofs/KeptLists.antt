@@ -3,7 +3,7 @@ use Rattle.std.proofs.Common.{◌≡◌, ℕ, zero, suc, ◌+◌, ◌≤◌, Boo
 use Rattle.std.specs.Prelude.{count_by, take}
 use Rattle.std.specs.List.{list_any, list_all, find}
 use Rattle.std.proofs.lemmas.List.Sums.{sum_by-cons, sum_by-append}
-use Rattle.private_store.proofs.KeptCopy.{true_false, or_false_left, or_false_right, and_left, and_right, both, some_value, none_some}
+use Rattle.private_store.proofs.Tests.{both, both_left, both_right, none_some, or_false_left, or_false_right, some_value, true_false}
 
 one_at_most : (n : ℕ) → 1 + n ≤ 1 → n ≡ 0
 one_at_most n h = omega (arith, h)
@@ -93,11 +93,11 @@ module _ {X : Type 0} where
   pub any-filter-all : (p q : X → Bool) (xs : List X) → list_all (λ x. not (p x) || q x) xs ≡ true → list_any p (filter q xs) ≡ list_any p xs
   any-filter-all p q [] h = refl
   any-filter-all p q (x ∷ xs) h =
-      let i = any-filter-all p q xs (and_right (not (p x) || q x) (list_all (λ x. not (p x) || q x) xs) h) in
+      let i = any-filter-all p q xs (both_right (not (p x) || q x) (list_all (λ x. not (p x) || q x) xs) h) in
       elim (q x) as (λ b. not (p x) || b ≡ true → list_any p (cond b (x ∷ filter q xs) (filter q xs)) ≡ (p x || list_any p xs)) [
         | true ↦ λ _. ap (λ b. p x || b) i
         | false ↦ λ t. i ∙ sym (ap (λ b. b || list_any p xs) (unmet (p x) t))
-      ] (and_left (not (p x) || q x) (list_all (λ x. not (p x) || q x) xs) h)
+      ] (both_left (not (p x) || q x) (list_all (λ x. not (p x) || q x) xs) h)
     where
       unmet : (b : Bool) → not b || false ≡ true → b ≡ false
       unmet true t = true_false t
@@ -106,12 +106,12 @@ module _ {X : Type 0} where
   pub all-filter : (p q : X → Bool) (xs : List X) → list_all p xs ≡ true → list_all p (filter q xs) ≡ true
   all-filter p q [] h = refl
   all-filter p q (x ∷ xs) h =
-      let i = all-filter p q xs (and_right (p x) (list_all p xs) h) in
-      elim (q x) as (λ b. list_all p (cond b (x ∷ filter q xs) (filter q xs)) ≡ true) [ true ↦ both _ _ (and_left (p x) (list_all p xs) h) i | false ↦ i ]
+      let i = all-filter p q xs (both_right (p x) (list_all p xs) h) in
+      elim (q x) as (λ b. list_all p (cond b (x ∷ filter q xs) (filter q xs)) ≡ true) [ true ↦ both _ _ (both_left (p x) (list_all p xs) h) i | false ↦ i ]
 
   pub all_weaker : (p q : X → Bool) (xs : List X) → ((x : X) → p x ≡ true → q x ≡ true) → list_all p xs ≡ true → list_all q xs ≡ true
   all_weaker p q [] h k = refl
-  all_weaker p q (x ∷ xs) h k = both _ _ (h x (and_left (p x) (list_all p xs) k)) (all_weaker p q xs h (and_right (p x) (list_all p xs) k))
+  all_weaker p q (x ∷ xs) h k = both _ _ (h x (both_left (p x) (list_all p xs) k)) (all_weaker p q xs h (both_right (p x) (list_all p xs) k))
 
   pub find-passes : (q : X → Bool) (xs : List X) (w : X) → find q xs ≡ Some w → q w ≡ true
   find-passes q [] w e = none_some w e

@@ -14,12 +14,12 @@ use Rattle.private_store.specs.Copies.{is_evictable, is_spillable, is_passing, d
 use Rattle.private_store.specs.Room.{Room, Plan, fits, wait, full, busy, evict, spill, shortest, shortest_from, in_order, offset_without, victims, spilled, spill_plan, bytes_of_copies, works_left, plan, asked, no_room, spill_room, evict_room, room_by, make_room}
 use Rattle.private_store.specs.Change.{refused, in_room}
 use Rattle.private_store.specs.Kept.{IsOrderOfUse}
-use Rattle.private_store.proofs.KeptCopy.{true_false, and_right, some_value, none_some}
 use Rattle.private_store.proofs.KeptLists.{count-cons, count-append, count-take, count-filter, some_counted, count_none}
 use Rattle.private_store.proofs.KeptRows.{IsLiveKept}
 use Rattle.private_store.proofs.KeptFold.{among-filter}
 use Rattle.private_store.proofs.KeptRoom.{IsMade, passes, evict_keeps, spills_keep, spillable_is}
 use Rattle.private_store.proofs.KeptStore.{Keeps, sending_keeps}
+use Rattle.private_store.proofs.Tests.{both_right, none_some, some_value, true_false}
 
 -- ---- ids of the order of use
 
@@ -62,7 +62,7 @@ fewer_chosen store test ids fewer h le = record {
 module _ (order : List ObjectId) (once : IsOrderOfUse order) (store : Shape) where
   in_order_chosen : (test : ObjectId → Copy → Bool) → AreChosen store test (in_order store order test)
   in_order_chosen test = record {
-    pass = λ q t. and_right (is_among order q) (passes store test q) (sym (among-filter (passes store test) order q) ∙ t);
+    pass = λ q t. both_right (is_among order q) (passes store test q) (sym (among-filter (passes store test) order q) ∙ t);
     once = λ q. let k = count-filter (same_id q) (passes store test) order in let o = once q in omega (arith, k, o);
   }
 

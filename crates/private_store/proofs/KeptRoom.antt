@@ -14,12 +14,14 @@ use Rattle.private_store.specs.Shape.{Copy, WorkInFlight, HandGiven, Shape}
 use Rattle.private_store.specs.Copies.{is_primary, is_sealed, is_idle, is_evictable, is_spillable}
 use Rattle.private_store.specs.Room.{set_copy, drop_copy, evicted, asked}
 use Rattle.private_store.specs.Kept.{IsOrderOfUse, IsCopyKept, are_held, has_work, has_read, has_write, has_hand, is_fetching}
-use Rattle.private_store.proofs.KeptCopy.{IsRowKept, true_false, false_true, or_left, or_right, and_left, and_right, idle_held, idle_granted, idle_working, sealed_is, refuted, or_false_left, or_false_right, has_work-split, none_of}
+use Rattle.private_store.proofs.KeptCopy.{IsRowKept, idle_held, idle_granted, idle_working, sealed_is, has_work-split, none_of}
 use Rattle.private_store.proofs.KeptLists.{count-cons, none_counted}
-use Rattle.private_store.proofs.KeptRows.{IsRowChange, row_put, row_drop, row_same, IsLiveKept, same_itself}
+use Rattle.private_store.proofs.KeptRows.{IsRowChange, row_put, row_drop, row_same, IsLiveKept}
 use Rattle.private_store.proofs.KeptWorks.{ask_keeps, pushed_no, pushed_yes, next_work}
 use Rattle.private_store.proofs.KeptFold.{Visits, visited}
 use Rattle.private_store.proofs.KeptStore.{with_copies, kept_copy}
+use Rattle.private_store.proofs.Tests.{both_left, both_right, false_true, or_false_left, or_false_right, or_left, or_right, refuted, true_false}
+use Rattle.obj_id.proofs.SameIds.{same_id-itself}
 
 -- ---- copies that may go
 
@@ -141,14 +143,14 @@ passes store test id = option_map_or (test id) (at store.copies id) false
 module _ (store : Shape) (h : IsLiveKept store) where
   evictable_may_go : (id : ObjectId) (copy : Copy) → is_evictable store id copy ≡ true → MayGo store.works store.given id copy
   evictable_may_go id copy t =
-      let mark : not (is_primary copy.kind) || is_some copy.backed ≡ true = and_right (is_sealed copy.state && is_idle store id copy) (not (is_primary copy.kind) || is_some copy.backed) t in
-      let first : is_sealed copy.state && is_idle store id copy ≡ true = and_left _ (not (is_primary copy.kind) || is_some copy.backed) t in
-      let idle = and_right (is_sealed copy.state) (is_idle store id copy) first in
+      let mark : not (is_primary copy.kind) || is_some copy.backed ≡ true = both_right (is_sealed copy.state && is_idle store id copy) (not (is_primary copy.kind) || is_some copy.backed) t in
+      let first : is_sealed copy.state && is_idle store id copy ≡ true = both_left _ (not (is_primary copy.kind) || is_some copy.backed) t in
+      let idle = both_right (is_sealed copy.state) (is_idle store id copy) first in
       record {
         unheld = idle_held (are_held copy.holds) (has_hand store.given id) (has_work store.works id) idle;
         no_hand = idle_granted (are_held copy.holds) (has_hand store.given id) (has_work store.works id) idle;
         no_work = idle_working (are_held copy.holds) (has_hand store.given id) (has_work store.works id) idle;
-        still = ap is_fetching (sealed_is copy.state (and_left (is_sealed copy.state) (is_idle store id copy) first));
+        still = ap is_fetching (sealed_is copy.state (both_left (is_sealed copy.state) (is_idle store id copy) first));
         backed = λ p. or_rest (is_primary copy.kind) (is_some copy.backed) p mark;
       }
 
@@ -176,7 +178,7 @@ module _ (store : Shape) (h : IsLiveKept store) where
       }
     where
       sealed_passes : (q : ObjectId) (copy : Copy) → is_evictable store q copy ≡ true → is_sealed copy.state ≡ true
-      sealed_passes q copy t = and_left (is_sealed copy.state) (is_idle store q copy) (and_left (is_sealed copy.state && is_idle store q copy) (not (is_primary copy.kind) || is_some copy.backed) t)
+      sealed_passes q copy t = both_left (is_sealed copy.state) (is_idle store q copy) (both_left (is_sealed copy.state && is_idle store q copy) (not (is_primary copy.kind) || is_some copy.backed) t)
 
 -- ---- spilling
 
@@ -195,16 +197,16 @@ spillable_is store id t = by_row (at store.copies id) refl t
     by_row : (o : Option Copy) → at store.copies id ≡ o → option_map_or (is_spillable store id) o false ≡ true → MaySpill store.copies store.works id
     by_row None e t = true_false t
     by_row (Some copy) e t =
-        let four : is_sealed copy.state && is_primary copy.kind && is_none copy.backed && is_idle store id copy ≡ true = and_left _ (not copy.doomed) t in
-        let three : is_sealed copy.state && is_primary copy.kind && is_none copy.backed ≡ true = and_left _ (is_idle store id copy) four in
-        let two : is_sealed copy.state && is_primary copy.kind ≡ true = and_left _ (is_none copy.backed) three in
+        let four : is_sealed copy.state && is_primary copy.kind && is_none copy.backed && is_idle store id copy ≡ true = both_left _ (not copy.doomed) t in
+        let three : is_sealed copy.state && is_primary copy.kind && is_none copy.backed ≡ true = both_left _ (is_idle store id copy) four in
+        let two : is_sealed copy.state && is_primary copy.kind ≡ true = both_left _ (is_none copy.backed) three in
         record {
           copy = copy;
           is = e;
-          sealed = and_left (is_sealed copy.state) (is_primary copy.kind) two;
-          primary = and_right (is_sealed copy.state) (is_primary copy.kind) two;
-          unbacked = none_of copy.backed (and_right (is_sealed copy.state && is_primary copy.kind) (is_none copy.backed) three);
-          no_work = idle_working (are_held copy.holds) (has_hand store.given id) (has_work store.works id) (and_right (is_sealed copy.state && is_primary copy.kind && is_none copy.backed) (is_idle store id copy) four);
+          sealed = both_left (is_sealed copy.state) (is_primary copy.kind) two;
+          primary = both_right (is_sealed copy.state) (is_primary copy.kind) two;
+          unbacked = none_of copy.backed (both_right (is_sealed copy.state && is_primary copy.kind) (is_none copy.backed) three);
+          no_work = idle_working (are_held copy.holds) (has_hand store.given id) (has_work store.works id) (both_right (is_sealed copy.state && is_primary copy.kind && is_none copy.backed) (is_idle store id copy) four);
         }
 
 module _ (store : Shape) (h : IsLiveKept store) where
@@ -222,10 +224,10 @@ module _ (store : Shape) (h : IsLiveKept store) where
         uses = record {
           granted = k.granted;
           spilled = λ e. (m.sealed, m.primary, m.unbacked);
-          restored = pushed_no (λ x. same_id id x.id && not x.writes) store.works w (ap (λ b. b && false) (same_itself id)) ∙ k.restored;
+          restored = pushed_no (λ x. same_id id x.id && not x.writes) store.works w (ap (λ b. b && false) (same_id-itself id)) ∙ k.restored;
         };
         scope = k.scope;
-        doomed = λ d. or_right (are_held m.copy.holds || has_hand store.given id) (has_work works id) (pushed_yes (λ x. same_id id x.id) store.works w (same_itself id));
+        doomed = λ d. or_right (are_held m.copy.holds || has_hand store.given id) (has_work works id) (pushed_yes (λ x. same_id id x.id) store.works w (same_id-itself id));
       })
 
   -- another id may still be spilled
@@ -248,7 +250,7 @@ spills_keep [] store h m once few end = h
 spills_keep (id ∷ ids) store h m once few end =
     let pushed = length_push store.works (next_work store.works_asked id true) in
     spills_keep ids (asked true store id)
-    (spill_one store h id (m id (or_left (same_id id id) (is_among ids id) (same_itself id))) (omega (arith, few)) (omega (arith, end)))
+    (spill_one store h id (m id (or_left (same_id id id) (is_among ids id) (same_id-itself id))) (omega (arith, few)) (omega (arith, end)))
     (λ q t. spill_others store h id q (refuted (same_id q id) (λ s. sym (alone q s) ∙ t)) (m q (or_right (same_id q id) (is_among ids q) t)))
     (λ q. let k = count-cons (same_id q) id ids in let o = once q in omega (arith, k, o))
     (omega (arith, pushed, few)) (omega (arith, end))

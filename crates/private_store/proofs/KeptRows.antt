@@ -2,8 +2,6 @@
 use Rattle.std.proofs.Common.{◌≡◌, ℕ, ◌+◌, ◌≤◌, ◌<◌, Bool, true, false, not, cond, ◌&&◌, ◌||◌, List, length, Option, Some, None, is_some, is_none, refl, sym, ap, subst, ◌∙◌, T, arith}
 use Rattle.std.specs.Prelude.{IsTrue, ◌==◌, ◌^◌, nat_lt, nat_le, count_by}
 use Rattle.std.specs.List.{list_all}
-use Rattle.std.specs.Ordering.{is_eq}
-use Rattle.std.specs.Cmp.{tied_itself, Equal-is}
 use Rattle.std.specs.FinMap.{is_sorted}
 use Rattle.std.specs.FinMap.Entries.{find-where_key, is_sorted-where_key, is_sorted-put, find-put, length-put, length_without}
 use Rattle.obj_id.specs.declared.ids.ObjectId.{ObjectId}
@@ -14,21 +12,9 @@ use Rattle.private_store.specs.Tables.{ById, at, with_entry, without_entry}
 use Rattle.private_store.specs.Shape.{Copy, WorkInFlight, HandGiven, Shape}
 use Rattle.private_store.specs.Events.{is_live}
 use Rattle.private_store.specs.Kept.{IsShapeKept}
-use Rattle.obj_id.proofs.SameIds.{id_cmp-IsAntisymmetric, id_cmp-IsTotalOrder}
-use Rattle.private_store.proofs.KeptCopy.{SameFor, IsRowKept, row_carried, true_false, T_true, true_T}
-
-pub same_is : (a b : ObjectId) → same_id a b ≡ true → a ≡ b
-same_is a b e = id_cmp-IsAntisymmetric a b ((Equal-is (id_cmp a b)).0 e)
-
-pub same_itself : (a : ObjectId) → same_id a a ≡ true
-same_itself a = ap is_eq (tied_itself id_cmp-IsTotalOrder a)
-
-pub same_swapped : (a b : ObjectId) → same_id a b ≡ false → same_id b a ≡ false
-same_swapped a b e =
-    elim (same_id b a) as (λ t. same_id b a ≡ t → t ≡ false) [
-      | true ↦ λ t. true_false (sym e ∙ ap (λ x. same_id a x) (same_is b a t) ∙ same_itself a)
-      | false ↦ λ t. refl
-    ] refl
+use Rattle.obj_id.proofs.SameIds.{id_cmp-IsAntisymmetric, id_cmp-IsTotalOrder, same_id-equal, same_id-itself, same_id-not_back}
+use Rattle.private_store.proofs.KeptCopy.{SameFor, IsRowKept, row_carried}
+use Rattle.private_store.proofs.Tests.{T_true, true_T, true_false}
 
 -- ---- a change of one row
 
@@ -39,7 +25,7 @@ pub record IsRowChange (most : ℕ) (copies : ById Copy) (id : ObjectId) (o : Op
   pub few : length new ≤ most
 
 pub row_here : {most : ℕ} {copies : ById Copy} {id : ObjectId} {o : Option Copy} {new : ById Copy} → IsRowChange most copies id o new → at new id ≡ o
-row_here {copies} {id} {o} {new} h = h.rows id ∙ ap (λ b. cond b o (at copies id)) (same_itself id)
+row_here {copies} {id} {o} {new} h = h.rows id ∙ ap (λ b. cond b o (at copies id)) (same_id-itself id)
 
 put_size : (most : ℕ) (b : Bool) (n : ℕ) → n ≤ most → (b ≡ false → n < most) → cond b n (n + 1) ≤ most
 put_size most true n h k = h
@@ -63,8 +49,8 @@ less_by most a b n e h = omega (arith, e, h)
 pub same_both : (a b : ObjectId) → same_id a b ≡ same_id b a
 same_both a b =
     elim (same_id b a) as (λ t. same_id b a ≡ t → same_id a b ≡ t) [
-      | true ↦ λ t. ap (λ x. same_id a x) (same_is b a t) ∙ same_itself a
-      | false ↦ λ t. same_swapped b a t
+      | true ↦ λ t. ap (λ x. same_id a x) (same_id-equal b a t) ∙ same_id-itself a
+      | false ↦ λ t. same_id-not_back b a t
     ] refl
 
 -- the entry is taken out
@@ -81,7 +67,7 @@ pub row_same : {most : ℕ} (copies : ById Copy) (id : ObjectId) (o : Option Cop
 row_same copies id o h n e = record {
   in_order = h;
   rows = λ q. elim (same_id q id) as (λ b. same_id q id ≡ b → at copies q ≡ cond b o (at copies q)) [
-    | true ↦ λ t. ap (at copies) (same_is q id t) ∙ e
+    | true ↦ λ t. ap (at copies) (same_id-equal q id t) ∙ e
     | false ↦ λ t. refl
   ] refl;
   few = n;
@@ -111,7 +97,7 @@ rows_moved {job} {works} {old_works} {given} {old_given} {ended} {copies} {id} {
   in_order = c.in_order;
   each = λ q. subst (IsRowKept job works given ended q) (sym (c.rows q))
       (elim (same_id q id) as (λ b. same_id q id ≡ b → IsRowKept job works given ended q (cond b o (at copies q))) [
-        | true ↦ λ t. subst (λ x. IsRowKept job works given ended x o) (sym (same_is q id t)) r
+        | true ↦ λ t. subst (λ x. IsRowKept job works given ended x o) (sym (same_id-equal q id t)) r
         | false ↦ λ t. row_carried job ended (same q t) (at copies q) (h.each q)
       ] refl);
   few = c.few;

@@ -19,7 +19,6 @@ use Rattle.private_store.specs.Events.{is_live, begin, requota, over, end_job_he
 use Rattle.private_store.specs.Step.{owned, commanded, step}
 use Rattle.private_store.specs.Kept.{IsOrderOfUse, IsShapeKept}
 use Rattle.private_store.proofs.Checks.{needing-none}
-use Rattle.private_store.proofs.KeptCopy.{true_false, false_true, not_false}
 use Rattle.private_store.proofs.KeptRows.{IsLiveKept, to_live, from_live}
 use Rattle.private_store.proofs.KeptStore.{Keeps, same_keeps, checked_keeps, check_keeps, checks_keep}
 use Rattle.private_store.proofs.KeptCommands.{write_keeps, seal_keeps, read_keeps, peek_keeps, release_keeps, unpin_keeps, borrow_keeps, give_up_keeps, delete_keeps, leave_keeps}
@@ -29,12 +28,13 @@ use Rattle.private_store.proofs.KeptGet.{create_keeps, get_keeps}
 use Rattle.private_store.proofs.KeptFetches.{located_keeps, chunk_keeps, not_here_keeps, pull_keeps}
 use Rattle.private_store.proofs.KeptAnswers.{answer_keeps}
 use Rattle.private_store.proofs.KeptHandsTaken.{received_keeps, withdrawn_keeps}
+use Rattle.private_store.proofs.Tests.{false_true, passed, true_false}
 
 -- ---- the commands
 
 module _ (order : List ObjectId) (once : IsOrderOfUse order) {store : Shape} (h : IsLiveKept store) where
   owned_keeps : (id : ObjectId) (c : Change) → (id.job.0 ≡ store.job → Keeps c) → Keeps (owned store id c)
-  owned_keeps id c k = check_keeps h (not (id.job.0 == store.job)) NotGranted [] c (λ e. checks_keep h c (k (eqb-true id.job.0 store.job (not_false (id.job.0 == store.job) e))))
+  owned_keeps id c k = check_keeps h (not (id.job.0 == store.job)) NotGranted [] c (λ e. checks_keep h c (k (eqb-true id.job.0 store.job (passed (id.job.0 == store.job) e))))
 
   commanded_keeps : (session : ℕ) (c : Command ℕ) → Keeps (commanded order store session c)
   commanded_keeps session (command.Create id kind n) = owned_keeps id _ (λ own. create_keeps order once h id kind n own)
@@ -57,7 +57,7 @@ module _ (order : List ObjectId) (once : IsOrderOfUse order) {store : Shape} (h 
 
   requota_keeps : (quota : Quota) → Keeps (requota store quota)
   requota_keeps quota = check_keeps h (not (is_quota quota)) BadSize _ _ (λ q. checked_keeps h _ _ (record {
-    is = record { live = h.live; quota = not_false (is_quota quota) q; rows = h.rows; works = h.works; hands = h.hands; fetches = h.fetches; ended = h.ended };
+    is = record { live = h.live; quota = passed (is_quota quota) q; rows = h.rows; works = h.works; hands = h.hands; fetches = h.fetches; ended = h.ended };
   }))
 
 -- ---- the begin and the end
@@ -135,14 +135,14 @@ module _ (store : Shape) (h : IsShapeKept store) where
   begin_kept : (quota : Quota) → KeptAfter (begin store quota)
   begin_kept quota =
       elim store.life as (λ l. KeptAfter (elim l [ not_begun ↦ checked store ((not (is_quota quota), BadSize) ∷ []) (done (record store { life = live; quota = quota })) | _ ↦ refused store Stale ])) [
-        | not_begun ↦ record { is = one_check (not (is_quota quota)) BadSize (done (record store { life = live; quota = quota })) (λ q. begun_kept store quota (not_false (is_quota quota) q) h) }
+        | not_begun ↦ record { is = one_check (not (is_quota quota)) BadSize (done (record store { life = live; quota = quota })) (λ q. begun_kept store quota (passed (is_quota quota) q) h) }
         | live ↦ record { is = h }
         | ended ↦ record { is = h }
       ]
 
   -- what is done where the store is live
   living : (r : Refusal) (c : Change) → (IsLiveKept store → Keeps c) → IsShapeKept (checked store ((not (is_live store), r) ∷ []) c).shape
-  living r c k = one_check (not (is_live store)) r c (λ l. from_live c.shape (k (to_live store h (not_false (is_live store) l))).is)
+  living r c k = one_check (not (is_live store)) r c (λ l. from_live c.shape (k (to_live store h (passed (is_live store) l))).is)
 
   answer_kept : (number : ℕ) (verdict : WorkVerdict) → IsShapeKept (answer store number verdict).shape
   answer_kept number verdict = by_life (is_live store) refl

@@ -15,9 +15,10 @@ use Rattle.private_store.specs.Change.{done, checked, needing, sending, settled,
 use Rattle.private_store.specs.Commands.{scoped}
 use Rattle.private_store.specs.Kept.{IsCopyKept, IsScopeKept, has_work, has_hand}
 use Rattle.private_store.proofs.Sound.{checked_has, needing_has}
-use Rattle.private_store.proofs.KeptCopy.{SameFor, IsRowKept, IsAbsentKept, IsBare, IsLoose, tight, is_kept_up, false_true}
+use Rattle.private_store.proofs.KeptCopy.{SameFor, IsRowKept, IsAbsentKept, IsBare, IsLoose, tight, is_kept_up}
 use Rattle.private_store.proofs.KeptEach.{settled_row, settled_of_copies}
 use Rattle.private_store.proofs.KeptRows.{AreWorksKept, AreHandsKept, rows_moved, same_lists, IsRowChange, row_put, row_drop, row_then, row_here, AreRowsKept, rows_changed, IsLiveKept}
+use Rattle.private_store.proofs.Tests.{false_true}
 
 pub with_copies : {store : Shape} → IsLiveKept store → (new : ById Copy) → AreRowsKept store.job store.works store.given store.ended_tasks new → IsLiveKept (record store { copies = new })
 with_copies h new r = record { live = h.live; quota = h.quota; rows = r; works = h.works; hands = h.hands; fetches = h.fetches; ended = h.ended }

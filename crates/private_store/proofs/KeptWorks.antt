@@ -12,9 +12,11 @@ use Rattle.private_store.specs.Tables.{ById}
 use Rattle.private_store.specs.Shape.{Copy, WorkInFlight, HandGiven, Shape}
 use Rattle.private_store.specs.Room.{asked}
 use Rattle.private_store.specs.Kept.{IsCopyKept, has_work}
-use Rattle.private_store.proofs.KeptCopy.{SameFor, or_left, or_right, and_left, and_right, both}
+use Rattle.private_store.proofs.KeptCopy.{SameFor}
 use Rattle.private_store.proofs.KeptLists.{count-append, count-yes, count-no, count_none, count-filter, length-filter-le, all-filter, all_weaker, any-taken, none-taken}
-use Rattle.private_store.proofs.KeptRows.{IsRowChange, AreWorksKept, IsLiveKept, rows_moved, same_is, same_itself}
+use Rattle.private_store.proofs.KeptRows.{IsRowChange, AreWorksKept, IsLiveKept, rows_moved}
+use Rattle.private_store.proofs.Tests.{both, both_left, both_right, or_left, or_right}
+use Rattle.obj_id.proofs.SameIds.{same_id-equal, same_id-itself}
 
 or_nothing : (a b : Bool) → b ≡ false → a || (b || false) ≡ a
 or_nothing true b e = refl
@@ -44,10 +46,10 @@ same_asked works asked given id writes q e = record {
 number_above : (works : List WorkInFlight) (asked n : ℕ) → list_all (λ w. nat_lt 0 w.number && nat_le w.number asked) works ≡ true → asked < n → list_any (λ w. w.number == n) works ≡ false
 number_above [] asked n h lt = refl
 number_above (w ∷ works) asked n h lt =
-    let le : w.number ≤ asked = leb-true w.number asked (and_right (nat_lt 0 w.number) (nat_le w.number asked) (and_left _ _ h)) in
+    let le : w.number ≤ asked = leb-true w.number asked (both_right (nat_lt 0 w.number) (nat_le w.number asked) (both_left _ _ h)) in
     elim (w.number == n) as (λ b. (w.number == n) ≡ b → b || list_any (λ w. w.number == n) works ≡ false) [
       | true ↦ λ e. let is : w.number ≡ n = eqb-true w.number n e in absurd (omega (arith, is, le, lt))
-      | false ↦ λ e. number_above works asked n (and_right (nat_lt 0 w.number && nat_le w.number asked) _ h) lt
+      | false ↦ λ e. number_above works asked n (both_right (nat_lt 0 w.number && nat_le w.number asked) _ h) lt
     ] refl
 
 one_more : (p : WorkInFlight → Bool) (works : List WorkInFlight) (w : WorkInFlight) → count_by p works ≤ 1 → (p w ≡ true → list_any p works ≡ false) → count_by p (works ++ w ∷ []) ≤ 1
@@ -63,10 +65,10 @@ pub works_asked_keep : (works : List WorkInFlight) (asked : ℕ) (id : ObjectId)
 works_asked_keep works asked id writes h free few end =
     let w = next_work asked id writes in
     record {
-      one_work = λ q. one_more (λ x. same_id q x.id) works w (h.one_work q) (λ e. subst (λ x. has_work works x ≡ false) (sym (same_is q id e)) free);
+      one_work = λ q. one_more (λ x. same_id q x.id) works w (h.one_work q) (λ e. subst (λ x. has_work works x ≡ false) (sym (same_id-equal q id e)) free);
       numbers_used = list_all-append (λ x. nat_lt 0 x.number && nat_le x.number (asked + 1)) works (w ∷ [])
-          ∙ both _ _ (all_weaker _ _ works (λ x e. let le : x.number ≤ asked = leb-true x.number asked (and_right (nat_lt 0 x.number) (nat_le x.number asked) e) in
-          both _ _ (and_left (nat_lt 0 x.number) (nat_le x.number asked) e) (le-leb x.number (asked + 1) (omega (arith, le)))) h.numbers_used)
+          ∙ both _ _ (all_weaker _ _ works (λ x e. let le : x.number ≤ asked = leb-true x.number asked (both_right (nat_lt 0 x.number) (nat_le x.number asked) e) in
+          both _ _ (both_left (nat_lt 0 x.number) (nat_le x.number asked) e) (le-leb x.number (asked + 1) (omega (arith, le)))) h.numbers_used)
           (both (nat_lt 0 (asked + 1) && nat_le (asked + 1) (asked + 1)) true (both _ _ (lt-ltb 0 (asked + 1) (omega arith)) (le-leb (asked + 1) (asked + 1) (omega arith))) refl);
       one_number = λ n. one_more (λ x. x.number == n) works w (h.one_number n) (λ e. let is : asked + 1 ≡ n = eqb-true (asked + 1) n e in number_above works asked n h.numbers_used (omega (arith, is)));
       numbers_end = end;
@@ -106,7 +108,7 @@ module _ (works : List WorkInFlight) (asked number : ℕ) (w : WorkInFlight) (h 
 
   -- what it stood on has no other
   pub rest_free : has_work rest_of w.id ≡ false
-  rest_free = none-taken (λ x. x.number == number) (λ x. same_id w.id x.id) works w found (h.one_work w.id) (same_itself w.id)
+  rest_free = none-taken (λ x. x.number == number) (λ x. same_id w.id x.id) works w found (h.one_work w.id) (same_id-itself w.id)
 
   pub same_rest : (given : List HandGiven) (q : ObjectId) → same_id q w.id ≡ false → SameFor rest_of works given given q
   same_rest given q e = record {

@@ -41,16 +41,9 @@ use Rattle.private_store.specs.Step.{owned, commanded, if_live, step}
 use Rattle.private_store.specs.Change.{refused, done, checked, needing, sending, in_room, keys_gone, erasing}
 use Rattle.private_store.specs.Refusing.{IsWaiting, IsExcused, unchanged, spill_told, fault_told, fetch_told, waits, RefusesCleanly}
 use Rattle.obj_id.proofs.SameIds.{id_cmp-IsTotalOrder}
+use Rattle.private_store.proofs.Tests.{and_left, and_right, some_value}
 
 -- ---- words
-
-and_left : (a b : Bool) → T (a && b) → T a
-and_left true b h = tt
-and_left false b h = h
-
-and_right : (a b : Bool) → T (a && b) → T b
-and_right true b h = h
-and_right false b h = absurd h
 
 both : (a b : Bool) → T a → T b → T (a && b)
 both true b h k = k
@@ -124,9 +117,6 @@ waiting : (store : Shape) (c : Change) → SameRest store c.shape → IsWaiting 
 waiting store c h = record { job = h.job; life = h.life; quota = h.quota; flag = h.flag; ended = h.ended; given = h.given; received = h.received }
 
 -- ---- room
-
-some_value : {A : Type 0} (x y : A) → Some x ≡ Some y → x ≡ y
-some_value x y e = cc
 
 -- the shortest beginning passes the test
 shortest_passes : {X : Type 0} (test : List X → Bool) (taken xs ys : List X) → shortest_from test taken xs ≡ Some ys → test ys ≡ true

@@ -12,9 +12,10 @@ use Rattle.private_store.specs.Copies.{is_sealed}
 use Rattle.private_store.specs.Contents.{Contents, bytes_at, digest_of, overwritten}
 use Rattle.private_store.specs.Kept.{IsShapeKept, AreContentsKept, has_extent}
 use Rattle.private_store.proofs.Tests.{true_false, some_value, none_some}
-use Rattle.private_store.proofs.Rows.{same_is, Tame, SeenRow, seen_stays}
+use Rattle.private_store.proofs.Rows.{Tame, SeenRow, seen_stays}
 use Rattle.private_store.proofs.Turns.{resident, Stands, nowhere, fresh, same, Turn, calm, spills, puts, requotas, empties, receives, IsTurn}
 use Rattle.private_store.proofs.Filling.{filled, IsFilled}
+use Rattle.obj_id.proofs.SameIds.{same_id-equal}
 
 -- ---- what a turn does to one row
 
@@ -41,7 +42,7 @@ module _ (s : ObjectId → Bool) (store : Shape) where
   put_turns copies id d here turned others q c e =
       elim (same_id q id) as (λ b. same_id q id ≡ b → RowTurn s store q c) [
         | true ↦ λ t.
-            let is : q ≡ id = same_is q id t in
+            let is : q ≡ id = same_id-equal q id t in
             let row : d ≡ c = some_value d c (sym here ∙ ap (at copies) (sym is) ∙ e) in
             subst (λ x. RowTurn s store x c) (sym is) (subst (RowTurn s store id) row turned)
         | false ↦ λ f. tame_turns q c (at store.copies q) refl (subst (Tame (at store.copies q)) e (others q f))

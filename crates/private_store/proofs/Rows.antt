@@ -1,8 +1,6 @@
 -- The rows of a job's tables before and after a change: what stays of them where nothing new is placed,
 -- filled or sealed.
 use Rattle.std.proofs.Common.{◌≡◌, true, false, not, cond, ◌&&◌, ◌⊎◌, inl, inr, List, [], ◌∷◌, fold, Option, Some, None, refl, sym, ap, subst, ◌∙◌}
-use Rattle.std.specs.Ordering.{is_eq}
-use Rattle.std.specs.Cmp.{tied_itself, Equal-is}
 use Rattle.std.specs.Option.{option_map_or}
 use Rattle.std.specs.FinMap.Entries.{find-put, find-where_key}
 use Rattle.obj_id.specs.declared.ids.ObjectId.{ObjectId}
@@ -15,15 +13,9 @@ use Rattle.private_store.specs.Copies.{is_sealed, is_primary, is_idle}
 use Rattle.private_store.specs.Room.{set_copy, drop_copy, evicted}
 use Rattle.private_store.specs.Change.{settled, doomed}
 use Rattle.private_store.specs.Kept.{has_write}
-use Rattle.obj_id.proofs.SameIds.{id_cmp-IsAntisymmetric, id_cmp-IsTotalOrder}
+use Rattle.obj_id.proofs.SameIds.{id_cmp-IsAntisymmetric, id_cmp-IsTotalOrder, same_id-equal, same_id-itself}
 
 -- ---- ids and tables
-
-pub same_is : (q id : ObjectId) → same_id q id ≡ true → q ≡ id
-same_is q id t = id_cmp-IsAntisymmetric q id ((Equal-is (id_cmp q id)).0 t)
-
-pub same_self : (id : ObjectId) → same_id id id ≡ true
-same_self id = ap is_eq (tied_itself id_cmp-IsTotalOrder id)
 
 pub at-put : {X : Type 0} (table : ById X) (id : ObjectId) (x : X) (q : ObjectId) → at (with_entry table id x) q ≡ cond (same_id q id) (Some x) (at table q)
 at-put table id x q = find-put id_cmp id_cmp-IsTotalOrder q id x table
@@ -32,14 +24,14 @@ pub at-drop : {X : Type 0} (table : ById X) (id q : ObjectId) → at (without_en
 at-drop table id q = find-where_key id_cmp (λ x. not (same_id id x)) q (λ x t. ap (λ y. not (same_id id y)) (sym (id_cmp-IsAntisymmetric q x t))) table
 
 pub at-put_here : {X : Type 0} (table : ById X) (id : ObjectId) (x : X) → at (with_entry table id x) id ≡ Some x
-at-put_here table id x = at-put table id x id ∙ ap (λ b. cond b (Some x) (at table id)) (same_self id)
+at-put_here table id x = at-put table id x id ∙ ap (λ b. cond b (Some x) (at table id)) (same_id-itself id)
 
 -- a fact of each row of a table with an entry put
 pub put_rows : {X : Type 0} (P : ObjectId → Option X → Type 0) (table : ById X) (id : ObjectId) (x : X) → P id (Some x) → ((q : ObjectId) → same_id q id ≡ false → P q (at table q)) → (q : ObjectId) → P q (at (with_entry table id x) q)
 put_rows P table id x here others q =
     subst (P q) (sym (at-put table id x q))
     (elim (same_id q id) as (λ b. same_id q id ≡ b → P q (cond b (Some x) (at table q))) [
-      | true ↦ λ t. subst (λ y. P y (Some x)) (sym (same_is q id t)) here
+      | true ↦ λ t. subst (λ y. P y (Some x)) (sym (same_id-equal q id t)) here
       | false ↦ λ t. others q t
     ] refl)
 

@@ -45,6 +45,7 @@ use Rattle.private_store.specs.Step.{step, is_used, owned, commanded}
 use Rattle.obj_id.specs.declared.commands.Command.{Command}
 use Rattle.obj_id.specs.declared.commands.Command.TheVariants as command
 use Rattle.obj_id.proofs.SameIds.{id_cmp-IsAntisymmetric, id_cmp-IsTotalOrder}
+use Rattle.private_store.proofs.Tests.{true_false}
 
 abbrev pub InOrder : Shape → Type 0
 InOrder store = T (is_sorted id_cmp store.copies)
@@ -65,9 +66,6 @@ stays store h = record { in_order = h; had = λ id e. e }
 
 then_shrinks : {old mid new : ById Copy} → TableShrinks old mid → TableShrinks mid new → TableShrinks old new
 then_shrinks h k = record { in_order = k.in_order; had = λ id e. h.had id (k.had id e) }
-
-true_false : {B : Type 0} → false ≡ true → B
-true_false e = absurd (subst T (sym e) tt)
 
 kept_of : {A : Type 0} (b : Bool) (o : Option A) → is_some (cond b o None) ≡ true → is_some o ≡ true
 kept_of true o e = e

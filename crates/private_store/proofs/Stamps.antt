@@ -15,6 +15,7 @@ use Rattle.obj_id.specs.Ids.{id_cmp, same_id}
 use Rattle.private_store.specs.Tables.{ById, at}
 use Rattle.private_store.specs.Step.{is_used, reordered}
 use Rattle.private_store.specs.Private.{placed, stamps_sorted, by_stamp, restamped}
+use Rattle.private_store.proofs.Tests.{and_left, and_right, less_is, none_some, some_value}
 
 module _ {K : Type 0} where
   -- no stamp of the list is below n
@@ -145,25 +146,6 @@ tied : (r : Ordering) → is_eq r ≡ true → r ≡ Equal
 tied Less e = absurd (subst T (sym e) tt)
 tied Equal e = refl
 tied Greater e = absurd (subst T (sym e) tt)
-
-and_left : (a b : Bool) → T (a && b) → T a
-and_left true b h = tt
-and_left false b h = h
-
-and_right : (a b : Bool) → T (a && b) → T b
-and_right true b h = h
-and_right false b h = absurd h
-
-less_is : (r : Ordering) → T (is_lt r) → r ≡ Less
-less_is Less h = refl
-less_is Equal h = absurd h
-less_is Greater h = absurd h
-
-some_value : {A : Type 0} (x y : A) → Some x ≡ Some y → x ≡ y
-some_value x y e = ap (λ o. unwrap_or o x) e
-
-none_some : {A : Type 0} {B : Type 0} (x : A) → None ≡ Some x → B
-none_some x e = absurd (subst T (ap is_some (sym e)) tt)
 
 module _ {K : Type 0} {R : K → K → Ordering} (o : IsTotalOrder R) (same : IsAntisymmetric R) where
   ties : K → K → Bool

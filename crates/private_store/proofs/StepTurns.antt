@@ -29,19 +29,20 @@ use Rattle.private_store.specs.Events.{begin, requota, end_job_here, written, re
 use Rattle.private_store.specs.Step.{step, owned, commanded, if_live}
 use Rattle.private_store.specs.Kept.{IsShapeKept, has_write, has_extent, is_fetching, is_pulling}
 use Rattle.private_store.proofs.WorksHaveCopies.{works_have_copies}
-use Rattle.private_store.proofs.Tests.{true_false, some_value, none_some, some_or_none, passed}
+use Rattle.private_store.proofs.Tests.{none_here, none_some, passed, some_value, true_false}
 use Rattle.private_store.proofs.Checks.{Fails, checked_past}
 use Rattle.private_store.proofs.Sound.{needing_has}
-use Rattle.private_store.proofs.Rows.{same_self, Quiet, quiet_stays, quiet_put, quiet_set, quiet_drop, quiet_settled}
+use Rattle.private_store.proofs.Rows.{Quiet, quiet_stays, quiet_put, quiet_set, quiet_drop, quiet_settled}
 use Rattle.private_store.proofs.Clearing.{Cleared, SpillsIn, RoomDone, room_done}
 use Rattle.private_store.proofs.CalmSteps.{IsCalm, visible_at, marked, write_calm, read_calm, release_calm, delete_calm, borrow_calm, unpin_calm, give_up_calm, grant_calm, withdraw_calm, peek_calm, withdrawn_calm, end_task_calm, leave_calm}
 use Rattle.private_store.proofs.Turns.{weight, weight_of, weight_less, weight_same, weightless, reads_write, filtered_any, found_any, unwritten, not_written, resident, nowhere, same, Puts, calm, spills, puts, requotas, empties, receives, IsTurn, put_turn, placed_stands, quiet_put_dropped}
+use Rattle.obj_id.proofs.SameIds.{same_id-itself}
 
 -- ---- what a kept shape says of one copy
 
 module _ (store : Shape) (sh : IsShapeKept store) (id : ObjectId) (copy : Copy) (e : at store.copies id ≡ Some copy) where
   away_nowhere : copy.state ≡ Away → copy.offset ≡ None
-  away_nowhere s = some_or_none copy.offset ((sh.each id copy e).resident ∙ ap (λ x. has_extent x copy.fetch) s)
+  away_nowhere s = none_here copy.offset ((sh.each id copy e).resident ∙ ap (λ x. has_extent x copy.fetch) s)
 
   pub fetch_fetching : (fetch : Fetch) → copy.fetch ≡ Some fetch → is_fetching copy.state ≡ true
   fetch_fetching fetch f = sym (sym (ap is_some f) ∙ (sh.each id copy e).in_fetch)
@@ -59,7 +60,7 @@ module _ (store : Shape) (sh : IsShapeKept store) (id : ObjectId) (copy : Copy) 
   -- a fetch that isn't pulled has no extent
   unpulled_nowhere : (fetch : Fetch) → copy.fetch ≡ Some fetch → is_pulling fetch.phase ≡ false → copy.offset ≡ None
   unpulled_nowhere fetch f p =
-      some_or_none copy.offset ((sh.each id copy e).resident ∙ ap (has_extent copy.state) f ∙ by_state copy.state (fetch_fetching fetch f))
+      none_here copy.offset ((sh.each id copy e).resident ∙ ap (has_extent copy.state) f ∙ by_state copy.state (fetch_fetching fetch f))
     where
       by_state : (state : CopyState) → is_fetching state ≡ true → has_extent state (Some fetch) ≡ false
       by_state Created t = true_false t
@@ -148,7 +149,7 @@ module _ (s : ObjectId → Bool) (store : Shape) where
 
 module _ (s : ObjectId → Bool) (store : Shape) (sh : IsShapeKept store) where
   no_copy : (id : ObjectId) → is_some (at store.copies id) ≡ false → at store.copies id ≡ None
-  no_copy id e = some_or_none (at store.copies id) e
+  no_copy id e = none_here (at store.copies id) e
 
   new_weight : (works : List WorkInFlight) (id : ObjectId) (d : Copy) (m : ℕ) → (has_write works id ≡ true → has_write store.works id ≡ true) → at store.copies id ≡ None → d.backed ≡ None → weight works id d ≤ m
   new_weight works id d m writes none unbacked = weightless works id d m unbacked (not_written works store.works id writes (unwritten store.copies store.works id (works_have_copies store sh) none))
@@ -328,7 +329,7 @@ module _ (s : ObjectId → Bool) (store : Shape) (sh : IsShapeKept store) where
       needing_turn s store _ _ _ (λ w is. needing_turn s store _ _ _ (λ copy e.
       let rest = without_work store number in
       elim w.writes as (λ b. w.writes ≡ b → IsTurn s store (cond b (written rest w copy verdict) (erasing rest (done (settled (set_copy rest w.id (read_back copy verdict)) w.id))))) [
-        | true ↦ λ writes. written_turn number w copy verdict e (found_any (λ work. work.number == number) (λ work. same_id w.id work.id && work.writes) store.works w is (ap (λ b. b && w.writes) (same_self w.id) ∙ writes))
+        | true ↦ λ writes. written_turn number w copy verdict e (found_any (λ work. work.number == number) (λ work. same_id w.id work.id && work.writes) store.works w is (ap (λ b. b && w.writes) (same_id-itself w.id) ∙ writes))
         | false ↦ λ reads. record { is = (read_turn number w copy verdict t is reads e).is }
       ] refl))
 

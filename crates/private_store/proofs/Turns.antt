@@ -14,8 +14,9 @@ use Rattle.private_store.specs.Copies.{is_sealed, extent_of, fits_quota}
 use Rattle.private_store.specs.Room.{set_copy, drop_copy}
 use Rattle.private_store.specs.Kept.{has_write, is_placed, are_apart}
 use Rattle.private_store.proofs.Tests.{true_false, none_some, both_left, both_right, or_cases, or_left, or_right, or_false}
-use Rattle.private_store.proofs.Rows.{same_is, at-put, at-put_here, at-drop, Tame, SeenRow, Quiet}
-use Rattle.private_store.proofs.Clearing.{not_same_back, extent_at, Cleared, Spills}
+use Rattle.private_store.proofs.Rows.{at-put, at-put_here, at-drop, Tame, SeenRow, Quiet}
+use Rattle.private_store.proofs.Clearing.{extent_at, Cleared, Spills}
+use Rattle.obj_id.proofs.SameIds.{same_id-equal, same_id-not_back}
 
 -- ---- the device bytes of one copy
 
@@ -77,7 +78,7 @@ pub unwritten : (copies : ById Copy) (works : List WorkInFlight) (id : ObjectId)
 unwritten copies [] id h none = refl
 unwritten copies (w ∷ ws) id h none =
     elim (same_id id w.id) as (λ b. same_id id w.id ≡ b → ((b && w.writes) || has_write ws id) ≡ false) [
-      | true ↦ λ t. true_false (sym (ap is_some (sym (ap (at copies) (same_is id w.id t)) ∙ none)) ∙ both_left (is_some (at copies w.id)) (list_all (λ work. is_some (at copies work.id)) ws) h)
+      | true ↦ λ t. true_false (sym (ap is_some (sym (ap (at copies) (same_id-equal id w.id t)) ∙ none)) ∙ both_left (is_some (at copies w.id)) (list_all (λ work. is_some (at copies work.id)) ws) h)
       | false ↦ λ t. unwritten copies ws id (both_right (is_some (at copies w.id)) (list_all (λ work. is_some (at copies work.id)) ws) h) none
     ] refl
 
@@ -155,7 +156,7 @@ quiet_put_dropped store mid id d h = record {
     gone q = at-drop (with_entry mid.copies id d) id q
         ∙ elim (same_id id q) as (λ b. same_id id q ≡ b → cond (not b) (at (with_entry mid.copies id d) q) None ≡ cond (not b) (at mid.copies q) None) [
           | true ↦ λ _. refl
-          | false ↦ λ t. at-put mid.copies id d q ∙ ap (λ b. cond b (Some d) (at mid.copies q)) (not_same_back id q t)
+          | false ↦ λ t. at-put mid.copies id d q ∙ ap (λ b. cond b (Some d) (at mid.copies q)) (same_id-not_back id q t)
         ] refl
 
     once : (q : ObjectId) (b : Bool) → Tame (at store.copies q) (cond (not b) (at mid.copies q) None)

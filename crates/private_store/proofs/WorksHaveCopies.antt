@@ -7,8 +7,8 @@ use Rattle.obj_id.specs.Ids.{same_id}
 use Rattle.private_store.specs.Tables.{ById, at}
 use Rattle.private_store.specs.Shape.{Copy, Shape, WorkInFlight}
 use Rattle.private_store.specs.Kept.{IsShapeKept, has_work}
-use Rattle.private_store.proofs.KeptCopy.{false_true, both, or_false_left, or_false_right}
-use Rattle.private_store.proofs.KeptRows.{same_itself}
+use Rattle.private_store.proofs.Tests.{both, false_true, or_false_left, or_false_right}
+use Rattle.obj_id.proofs.SameIds.{same_id-itself}
 
 copy_of : (o : Option Copy) → (o ≡ None → true ≡ false) → is_some o ≡ true
 copy_of None k = false_true (k refl)
@@ -17,7 +17,7 @@ copy_of (Some copy) k = refl
 works_among : (copies : ById Copy) (works : List WorkInFlight) → ((id : ObjectId) → at copies id ≡ None → has_work works id ≡ false) → list_all (λ work. is_some (at copies work.id)) works ≡ true
 works_among copies [] h = refl
 works_among copies (w ∷ works) h =
-    both _ _ (copy_of (at copies w.id) (λ e. sym (same_itself w.id) ∙ or_false_left (same_id w.id w.id) (has_work works w.id) (h w.id e)))
+    both _ _ (copy_of (at copies w.id) (λ e. sym (same_id-itself w.id) ∙ or_false_left (same_id w.id w.id) (has_work works w.id) (h w.id e)))
     (works_among copies works (λ id e. or_false_right (same_id id w.id) (has_work works id) (h id e)))
 
 pub works_have_copies : (store : Shape) → IsShapeKept store → IsTrue (list_all (λ work. is_some (at store.copies work.id)) store.works)
