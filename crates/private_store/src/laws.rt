@@ -7,7 +7,7 @@ ghost use Rattle.private_store.specs.declared.inputs.Judged.{Judged};
 ghost use Rattle.private_store.specs.Extents.{first, is_free};
 ghost use Rattle.private_store.specs.Shape.{Shape};
 ghost use Rattle.private_store.specs.Step.{step};
-ghost use Rattle.private_store.specs.Contents.{View};
+ghost use Rattle.private_store.specs.Contents.{View, judge};
 ghost use Rattle.private_store.specs.Private.{view_of, view_step, view_from, view_replies, no_store, store_from, private_replies};
 ghost use Rattle.private_store.specs.Replay.{brief_of, replayed, lines_from, IsReplayed};
 ghost use Rattle.private_store.specs.Refusing.{RefusesCleanly};
@@ -30,9 +30,12 @@ pub fn stamps_are_the_order_of_use()
         → private_replies node (no_store job) xs ≡ view_replies node (view_of (no_store job)) xs }
 {}
 
-/// The journal's lines of a run, which have no contents, replay to the shape and the order of use that
-/// the run ends in, and each line has the answer that the replay gives there.
+/// An input does to a store's shape what the step without contents does with the judged input. So the
+/// journal's lines of a run, which have no contents, replay to the shape and the order of use that the
+/// run ends in, and each line has the answer that the replay gives there.
 pub fn journals_replay()
+    ensures step { (node : ℕ) (view : View) (x : Input)
+        → (view_step node view x).view.shape ≡ (step view.order view.shape (judge node view x)).shape }
     ensures state { (node : ℕ) (view : View) (xs : List Input)
         → replayed (brief_of view) (lines_from node view xs) ≡ brief_of (view_from node view xs) }
     ensures answers { (node : ℕ) (view : View) (xs : List Input) → IsReplayed (brief_of view) (lines_from node view xs) }

@@ -1,5 +1,9 @@
+use Rattle.std.proofs.Common.{refl}
 use Rattle.private_store.proofs.ReplayLemmas.{replayed-lines, IsReplayed-lines}
 use Rattle.private_store.proofs.laws.journals_replay.Goals as goal
+
+pub returns-clause-step : goal.returns-clause-step
+returns-clause-step c node view x = refl
 
 pub returns-clause-state : goal.returns-clause-state
 returns-clause-state c = replayed-lines
