@@ -35,18 +35,17 @@ abbrev pub to_peer : ℕ → PeerMessage → Post
 to_peer node m = (Node node, ToPeer m)
 
 -- one chunk of a copy of n bytes
-abbrev pub chunk_of : View → ObjectId → ℕ → ℕ → ℕ → PeerMessage
-chunk_of view id number n index =
-    Chunk id number index (take (chunk_length n index) (drop (chunk_size * index) (bytes_at view.contents.bytes id)))
+abbrev pub chunk_of : List ℕ → ObjectId → ℕ → ℕ → ℕ → PeerMessage
+chunk_of bytes id number n index = Chunk id number index (take (chunk_length n index) (drop (chunk_size * index) bytes))
 
 -- the chunks that were asked for and that there are, in the order asked
-abbrev pub chunks_asked : View → ℕ → ObjectId → ℕ → ℕ → List ℕ → List Post
-chunks_asked view from id number n indexes =
-    map (λ index. to_peer from (chunk_of view id number n index)) (filter (λ index. nat_lt (chunk_size * index) n) indexes)
+abbrev pub chunks_asked : List ℕ → ObjectId → ℕ → ℕ → List ℕ → List PeerMessage
+chunks_asked bytes id number n indexes = map (chunk_of bytes id number n) (filter (λ index. nat_lt (chunk_size * index) n) indexes)
 
 -- the answer to a Pull, in chunks
 abbrev pub chunk_posts : View → Input → List Post
-chunk_posts view (Arrive (FromPeer from (Pull id number n digest indexes))) = chunks_asked view from id number n indexes
+chunk_posts view (Arrive (FromPeer from (Pull id number n digest indexes))) =
+    map (to_peer from) (chunks_asked (bytes_at view.contents.bytes id) id number n indexes)
 chunk_posts view _ = []
 
 abbrev pub not_here_posts : Input → List Post

@@ -1,0 +1,287 @@
+//! Both ends of a fetch: what the node that fetches an object remembers of it while messages come in any
+//! order, never, or often, and the chunks that a node sends which is asked for them. The bytes lie in the
+//! windows of the two nodes.
+#![tactic(auto)]
+
+ghost use Rattle.std.specs.Prelude.{◌≡◌, ℕ, ◌<◌, ◌*◌, Some, None, true, false, not, if◌then◌else◌, OnOk, OnErr, IfOk, IfSome, IsSome, IsErrOf, length, take, drop, filter, is_some, nat_lt, nat_eq};
+ghost use Rattle.obj_id.specs.declared.refusals.Refusal.TheVariants.{NoMemory, Damaged, Absent};
+ghost use Rattle.private_store.specs.Commands.{counted, chunk_count};
+ghost use Rattle.private_store.specs.Events.{is_missing as is_missing_lem};
+ghost use Rattle.private_store.specs.Contents.{chunk_length, entry_elsewhere, digest_of as digest_of_lem};
+ghost use Rattle.private_store.specs.Private.{chunks_asked as chunks_asked_for};
+ghost use Rattle.fetch_core.specs.Stages.{phase_of};
+ghost use Rattle.fetch_core.specs.Fetching.{begun, missing_of, located as located_lem, pull_begun, chunk_taken, fills_one, is_whole, is_refused_by, failed_with};
+
+use bytes::Bytes;
+use obj_id::{Digest, Location, ObjectId, PeerMessage, Refusal};
+use sha2::{Digest as _, Sha256};
+use std::alloc::{AllocError, Global};
+use std::marker::Model;
+
+/// The bytes of a chunk, but of an object's last one, which has what is left.
+const CHUNK_SIZE: u32 = 65_536;
+
+/// How far a fetch is.
+#[derive(Clone, Copy, Debug, PartialEq, Eq, Drop)]
+pub enum Stage {
+    /// Its source isn't known.
+    Locating,
+    /// The node that has the object; length and digest are known.
+    Sized(u32),
+    /// The node that is asked for chunks.
+    Pulling(u32),
+    /// It is over without a copy: `Absent` or `Damaged`, for the next Get to tell.
+    Failed(Refusal),
+}
+
+/// A fetch at the node that fetches.
+#[derive(Drop)]
+pub struct FetchIn {
+    number: u64,
+    stage: Stage,
+    length: u32,
+    digest: Option<Digest>,
+    // counts while it is Pulling: at most 256 indexes, rising
+    missing: Vec<u32>,
+}
+
+impl Model for FetchIn {
+    ghost use Rattle.fetch_core.specs.Fetching.{Fetching};
+
+    ghost Value = { Fetching };
+
+    ghost use Rattle.fetch_core.specs.Stages.{phase_of};
+
+    ghost view = { λ f. record { number = f.number; phase = phase_of f.stage f.missing.items; length = f.length; digest = f.digest } };
+}
+
+impl FetchIn {
+    /// A fetch of this number, whose source is asked for. Takes no memory.
+    pub fn new(alloc: Global, number: u64) -> FetchIn
+        ensures { result ≡ begun number }
+    {
+        FetchIn {
+            number,
+            stage: Stage::Locating,
+            length: 0,
+            digest: None,
+            missing: Vec::new(alloc),
+        }
+    }
+
+    /// The number that messages of this fetch have.
+    pub fn number(&self) -> u64
+        ensures { result ≡ self.now.number }
+    {
+        self.number
+    }
+
+    /// The object's bytes, as its location told; 0 before that. Nothing is known of its range.
+    pub fn length(&self) -> u32
+        ensures { result ≡ self.now.length }
+    {
+        self.length
+    }
+
+    /// The object's digest, as its location told; none before that and after a failure.
+    pub fn digest(&self) -> Option<Digest>
+        ensures { result ≡ self.now.digest }
+    {
+        self.digest
+    }
+
+    /// How far it is.
+    pub fn stage(&self) -> Stage
+        ensures { phase_of result (missing_of self.now.phase) ≡ self.now.phase }
+    {
+        self.stage
+    }
+
+    /// The indexes of the chunks that are missing while it is Pulling, rising; else none.
+    pub fn missing(&self) -> &[u32]
+        ensures { result.now ≡ missing_of self.now.phase }
+    {
+        match self.stage {
+            Stage::Pulling(_) => &self.missing,
+            _ => &[],
+        }
+    }
+
+    /// The directory's answer at this node, which counts while the source isn't known: the first entry of
+    /// another node is the source. Without one the fetch has failed.
+    pub fn located(&mut self, node: u32, number: u64, entries: &[Location])
+        ensures { self.new ≡ located_lem node number entries.now self.old }
+    {
+        if number != self.number || self.stage != Stage::Locating {
+            return;
+        }
+        match elsewhere(node, entries) {
+            Some(entry) => {
+                self.stage = Stage::Sized(entry.node);
+                self.length = entry.length;
+                self.digest = Some(entry.digest);
+            }
+            None => self.fail(Refusal::Absent),
+        }
+    }
+
+    /// All chunks are missing from now on. Does nothing to a fetch that isn't Sized.
+    ///
+    /// `NoMemory` leaves it as it was. Takes as many steps as the object has chunks.
+    pub fn begin(&mut self, alloc: Global) -> Result<(), Refusal>
+        ensures ok { OnOk result (self.new ≡ pull_begun self.old) }
+        ensures err { OnErr result (self.new ≡ self.old) }
+        ensures memory { (r : Refusal) → IsErrOf result r → r ≡ NoMemory }
+    {
+        let Stage::Sized(source) = self.stage else {
+            return Ok(());
+        };
+        self.missing = all_chunks(alloc, self.length)?;
+        self.stage = Stage::Pulling(source);
+        Ok(())
+    }
+
+    /// A chunk of `length` bytes came: whether it fills a gap, which is then closed, so that its bytes are
+    /// to be written. It must be of this fetch, from its source, missing, and as long as that chunk is.
+    pub fn take_chunk(&mut self, number: u64, from: u32, index: u32, length: usize) -> bool
+        ensures told { result ≡ fills_one number from index length self.old }
+        ensures kept { self.new ≡ chunk_taken number from index length self.old }
+    {
+        let fills = self.fills_one(number, from, index, length);
+        if fills {
+            close_gap(&mut self.missing, index);
+        }
+        fills
+    }
+
+    fn fills_one(&self, number: u64, from: u32, index: u32, length: usize) -> bool
+        ensures { result ≡ fills_one number from index length self.now }
+    {
+        match self.stage {
+            Stage::Pulling(source) => {
+                number == self.number
+                    && from == source
+                    && is_missing(&self.missing, index)
+                    && length == chunk_bytes(self.length, index)
+            }
+            _ => false,
+        }
+    }
+
+    /// Whether these are the object's bytes, by length and digest: asked once none is missing. If they
+    /// aren't, the fetch has failed. Hashes the bytes once.
+    pub fn complete(&mut self, bytes: &[u8]) -> bool
+        ensures told { result ≡ is_whole self.old bytes.now }
+        ensures kept { self.new ≡ (if is_whole self.old bytes.now then self.old else failed_with self.old Damaged) }
+    {
+        let whole = bytes.len() == self.length as usize && self.digest == Some(digest_of(bytes));
+        if !whole {
+            self.fail(Refusal::Damaged);
+        }
+        whole
+    }
+
+    /// A node says that it has no such copy: whether that is the source that was asked. The fetch has then
+    /// failed.
+    pub fn not_here(&mut self, number: u64, from: u32) -> bool
+        ensures told { result ≡ is_refused_by number from self.old }
+        ensures kept { self.new ≡ (if is_refused_by number from self.old then failed_with self.old Absent else self.old) }
+    {
+        let refused = number == self.number && self.stage == Stage::Pulling(from);
+        if refused {
+            self.fail(Refusal::Absent);
+        }
+        refused
+    }
+
+    fn fail(&mut self, refusal: Refusal)
+        ensures { self.new ≡ failed_with self.old refusal }
+    {
+        self.stage = Stage::Failed(refusal);
+        self.digest = None;
+    }
+}
+
+/// The chunks of an object with these bytes that a fetch of this number asked for: one for each index that
+/// the object has, in the order asked, and an index asked twice is sent twice.
+///
+/// `NoMemory` where the messages can't be made. Copies the bytes of each chunk once.
+pub fn chunks_asked(alloc: Global, bytes: &[u8], id: ObjectId, number: u64, indexes: &[u32]) -> Result<Vec<PeerMessage>, Refusal>
+    ensures ok { IfOk result (λ v. v.items ≡ chunks_asked_for bytes.now id number (length bytes.now) indexes.now) }
+    ensures memory { (r : Refusal) → IsErrOf result r → r ≡ NoMemory }
+{
+    let mut sent = Vec::new(alloc);
+    for index in indexes {
+        if let Some(chunk) = chunk_at(bytes, *index) {
+            let payload = Bytes::copy_from_slice(alloc, chunk)?;
+            sent.push(PeerMessage::Chunk(id, number, *index, payload))?;
+        }
+    }
+    Ok(sent)
+}
+
+/// The first entry of another node.
+fn elsewhere(node: u32, entries: &[Location]) -> Option<Location>
+    ensures { result ≡ entry_elsewhere node entries.now }
+{
+    for entry in entries {
+        if entry.node != node {
+            return Some(*entry);
+        }
+    }
+    None
+}
+
+/// The bytes of the chunk of this index, if there is one.
+fn chunk_at(bytes: &[u8], index: u32) -> Option<&[u8]>
+    ensures there { is_some result ≡ nat_lt (65536 * index) (length bytes.now) }
+    ensures bytes { IfSome result (λ r. r.now ≡ take (chunk_length (length bytes.now) index) (drop (65536 * index) bytes.now)) }
+{
+    let start = index as usize * CHUNK_SIZE as usize;
+    if start >= bytes.len() {
+        return None;
+    }
+    let end = (start + CHUNK_SIZE as usize).min(bytes.len());
+    Some(&bytes[start..end])
+}
+
+/// The SHA-256 digest (FIPS 180-4) of the bytes.
+fn digest_of(bytes: &[u8]) -> Digest
+    ensures { result ≡ digest_of_lem bytes.now }
+{
+    Digest(Sha256::digest(bytes))
+}
+
+/// How long the chunk of this index is, in an object of `length` bytes; 0 behind its end.
+fn chunk_bytes(length: u32, index: u32) -> usize
+    ensures { result ≡ chunk_length length index }
+{
+    let start = u64::from(index) * u64::from(CHUNK_SIZE);
+    u64::from(length).saturating_sub(start).min(u64::from(CHUNK_SIZE)) as usize
+}
+
+/// The indexes of all chunks of an object of `length` bytes.
+fn all_chunks(alloc: Global, length: u32) -> Result<Vec<u32>, AllocError>
+    ensures { IfOk result (λ v. v.items ≡ counted 0 (chunk_count length)) }
+{
+    let count = length.div_ceil(CHUNK_SIZE);
+    let mut indexes = Vec::new(alloc);
+    for index in 0..count {
+        indexes.push(index)?;
+    }
+    Ok(indexes)
+}
+
+/// Whether the index is among these.
+fn is_missing(missing: &[u32], index: u32) -> bool
+    ensures { result ≡ is_missing_lem missing.now index }
+{
+    missing.contains(&index)
+}
+
+/// Takes the index out.
+fn close_gap(missing: &mut Vec<u32>, index: u32)
+    ensures { missing.new.items ≡ filter (λ i. not (nat_eq i index)) missing.old.items }
+{
+    missing.retain(|i| *i != index);
+}
