@@ -1,5 +1,5 @@
 -- The indexes of an object's chunks, one after the other.
-use Rattle.std.proofs.Common.{◌≡◌, ℕ, zero, suc, ◌+◌, List, [], ◌∷◌, ◌++◌, refl, sym, ap, subst, ◌∙◌, arith}
+use Rattle.std.proofs.Common.{◌≡◌, ℕ, zero, suc, ◌+◌, [], ◌∷◌, ◌++◌, ap, ◌∙◌, arith}
 use Rattle.private_store.specs.Commands.{counted}
 
 counted-suc : (start n : ℕ) → counted start (suc n) ≡ counted start n ++ (start + n) ∷ []

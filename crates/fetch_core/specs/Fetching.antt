@@ -1,10 +1,10 @@
 -- A fetch as the node that fetches has it, and what becomes of it.
-use Rattle.std.specs.Prelude.{ℕ, Bool, true, false, not, if◌then◌else◌, ◌&&◌, ◌==◌, List, [], ◌∷◌, length, filter, Option, Some, None}
+use Rattle.std.specs.Prelude.{ℕ, Bool, false, not, if◌then◌else◌, ◌&&◌, ◌==◌, List, [], length, filter, Option, Some, None}
 use Rattle.std.specs.Option.{option_map_or}
 use Rattle.obj_id.specs.declared.messages.Digest.{Digest}
 use Rattle.obj_id.specs.declared.messages.Location.{Location}
 use Rattle.obj_id.specs.declared.refusals.Refusal.{Refusal}
-use Rattle.obj_id.specs.declared.refusals.Refusal.TheVariants.{Absent, Damaged}
+use Rattle.obj_id.specs.declared.refusals.Refusal.TheVariants.{Absent}
 use Rattle.private_store.specs.Shape.{Phase, locating, sized, pulling, failed}
 use Rattle.private_store.specs.Commands.{counted, chunk_count}
 use Rattle.private_store.specs.Events.{is_missing}

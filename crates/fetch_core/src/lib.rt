@@ -206,7 +206,13 @@ impl FetchIn {
 /// the object has, in the order asked, and an index asked twice is sent twice.
 ///
 /// `NoMemory` where the messages can't be made. Copies the bytes of each chunk once.
-pub fn chunks_asked(alloc: Global, bytes: &[u8], id: ObjectId, number: u64, indexes: &[u32]) -> Result<Vec<PeerMessage>, Refusal>
+pub fn chunks_asked(
+    alloc: Global,
+    bytes: &[u8],
+    id: ObjectId,
+    number: u64,
+    indexes: &[u32],
+) -> Result<Vec<PeerMessage>, Refusal>
     ensures ok { IfOk result (λ v. v.items ≡ chunks_asked_for bytes.now id number (length bytes.now) indexes.now) }
     ensures memory { (r : Refusal) → IsErrOf result r → r ≡ NoMemory }
 {
@@ -257,7 +263,9 @@ fn chunk_bytes(length: u32, index: u32) -> usize
     ensures { result ≡ chunk_length length index }
 {
     let start = u64::from(index) * u64::from(CHUNK_SIZE);
-    u64::from(length).saturating_sub(start).min(u64::from(CHUNK_SIZE)) as usize
+    u64::from(length)
+        .saturating_sub(start)
+        .min(u64::from(CHUNK_SIZE)) as usize
 }
 
 /// The indexes of all chunks of an object of `length` bytes.

@@ -3,4 +3,6 @@
 #![tactic(auto)]
 
 #[cfg(test)]
+mod fetches;
+#[cfg(test)]
 mod ids;
