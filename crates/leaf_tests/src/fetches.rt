@@ -7,8 +7,11 @@ use std::alloc::Global;
 use std::test::Fail;
 
 const HERE: u32 = 1;
+
 const SOURCE: u32 = 3;
+
 const NUMBER: u64 = 7;
+
 const CHUNK: usize = 65_536;
 
 /// An object of two chunks, the last of ten bytes.
@@ -27,7 +30,7 @@ fn an_id() -> Result<ObjectId, Refusal> {
 fn located_at(node: u32, bytes: &[u8]) -> Location {
     Location {
         node,
-        length: bytes.len() as u32,
+        length: u32::try_from(bytes.len()).unwrap_or(u32::MAX),
         digest: Digest(Sha256::digest(bytes)),
     }
 }
@@ -35,7 +38,11 @@ fn located_at(node: u32, bytes: &[u8]) -> Location {
 /// A fetch that asks the source for both chunks, begun once more where memory was wanting.
 fn pulling(alloc: Global, bytes: &[u8]) -> Result<FetchIn, Refusal> {
     let mut fetch = FetchIn::new(alloc, NUMBER);
-    fetch.located(HERE, NUMBER, &[located_at(HERE, b"stale"), located_at(SOURCE, bytes)]);
+    fetch.located(
+        HERE,
+        NUMBER,
+        &[located_at(HERE, b"stale"), located_at(SOURCE, bytes)],
+    );
     let sized = fetch.stage();
     if fetch.begin(alloc).is_err() {
         if fetch.stage() != sized {
@@ -72,7 +79,15 @@ fn the_first_entry_of_another_node_is_the_source(rt: HostRuntime) {
     assert_eq!(rt; (fetch.length(), fetch.digest()), (0, None));
     fetch.located(HERE, NUMBER - 1, &[located_at(SOURCE, b"one")]);
     assert_eq!(rt; fetch.stage(), Stage::Locating);
-    fetch.located(HERE, NUMBER, &[located_at(HERE, b"mine"), located_at(SOURCE, b"one"), located_at(4, b"two")]);
+    fetch.located(
+        HERE,
+        NUMBER,
+        &[
+            located_at(HERE, b"mine"),
+            located_at(SOURCE, b"one"),
+            located_at(4, b"two"),
+        ],
+    );
     assert_eq!(rt; fetch.stage(), Stage::Sized(SOURCE));
     assert_eq!(rt; fetch.length(), 3);
     assert_eq!(rt; fetch.digest(), Some(Digest(Sha256::digest(b"one"))));
@@ -140,7 +155,11 @@ fn each_asked_chunk_is_sent_in_the_order_asked(rt: HostRuntime) -> Result<(), Fa
     assert_eq!(rt; sent.len(), wanted.len());
     for (message, (index, length)) in sent.iter().zip(wanted) {
         let start = index as usize * CHUNK;
-        assert_eq!(rt; is_chunk(message, index, &bytes[start..start + length])?, true, "{index}");
+        assert_eq!(rt;
+            is_chunk(message, index, &bytes[start..start + length])?,
+            true,
+            "{index}"
+        );
     }
     Ok(())
 }
