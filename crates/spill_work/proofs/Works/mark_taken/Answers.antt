@@ -1,0 +1,9 @@
+use Rattle.std.proofs.Common.{◌≡◌, ◌+◌, ◌≤◌, ◌++◌, ◌∷◌, [], not, filter, rules, refl, sym, ap, subst, ◌∙◌, arith}
+use Rattle.spill_work.specs.Line.{used_by, is_of, marked}
+use Rattle.spill_work.proofs.LineLemmas.{part-marked}
+use Rattle.spill_work.proofs.Works.mark_taken.Goals as goal
+
+pub returns : goal.returns
+returns c =
+    let view = c.self.view_is in
+    rw (c.mark.ensures, ← c.self.view_is) (record { line = refl; same = λ other. part-marked c.args.job c.args.number other c.self.inside.line.items })
