@@ -4,3 +4,9 @@
 
 #[cfg(test)]
 mod ids;
+#[cfg(test)]
+mod pins;
+#[cfg(test)]
+mod states;
+#[cfg(test)]
+mod works;

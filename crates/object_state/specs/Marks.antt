@@ -52,7 +52,8 @@ is_fault DeviceFailed = true
 is_fault Damaged = true
 is_fault _ = false
 
-pub record AreMarksKept (copy : Marks) : Type 0 where
+-- the facts that the marks of every copy keep
+pub record IsMarked (copy : Marks) : Type 0 where
   -- a secondary isn't backed, and what is fetched is a secondary
   pub secondary : is_primary copy.kind ≡ false → copy.backed ≡ None
   pub fetched : is_fetching copy.state ≡ true → is_primary copy.kind ≡ false
@@ -106,21 +107,21 @@ can_restore copy = is_away copy.state && is_none copy.fault
 -- ---- the changes
 
 -- a copy to be written
-abbrev pub created : Kind → ℕ → Marks
-created kind n =
+abbrev pub new_marks : Kind → ℕ → Marks
+new_marks kind n =
     record { state = Created; kind = kind; length = n; digest = None; backed = None; doomed = false; working = None; fault = None }
 
 -- a copy that is on its way from another node, its length not known yet
-abbrev pub fetching : Marks
-fetching = record (created Secondary 0) { state = Fetching }
+abbrev pub fetched_marks : Marks
+fetched_marks = record (new_marks Secondary 0) { state = Fetching }
 
 -- why a copy can't be sealed
 abbrev pub seal_check : Marks → Option Refusal
 seal_check copy = if is_created copy.state then None else Some AlreadySealed
 
 -- the write is over: it backs the copy, unless it failed
-abbrev pub spilled : Marks → ℕ → Bool → Marks
-spilled copy number failed = record copy { working = None; backed = if failed then copy.backed else Some number }
+abbrev pub written : Marks → ℕ → Bool → Marks
+written copy number failed = record copy { working = None; backed = if failed then copy.backed else Some number }
 
 -- the read is over
 abbrev pub read_back : Marks → WorkVerdict → Marks

@@ -9,7 +9,7 @@ ghost use Rattle.obj_id.specs.declared.works.WorkKind.TheVariants.{Write, Read};
 ghost use Rattle.obj_id.specs.declared.commands.CopyState.TheVariants.{Sealed, Restoring, Away};
 ghost use Rattle.private_store.specs.Copies.{is_primary, is_sealed, was_sealed as was_sealed_lem};
 ghost use Rattle.private_store.specs.Kept.{is_fetching, is_restoring};
-ghost use Rattle.object_state.specs.Marks.{Marks, AreMarksKept, is_written, is_idle as is_idle_lem, is_evictable as is_evictable_lem, is_passing as is_passing_lem, is_spillable as is_spillable_lem, is_sized as is_sized_lem, can_spill as can_spill_lem, can_go_away as can_go_away_lem, can_restore as can_restore_lem, created as created_copy, fetching as fetching_copy, seal_check as seal_check_lem, spilled, read_back};
+ghost use Rattle.object_state.specs.Marks.{Marks, IsMarked, is_written, is_idle as is_idle_lem, is_evictable as is_evictable_lem, is_passing as is_passing_lem, is_spillable as is_spillable_lem, is_sized as is_sized_lem, can_spill as can_spill_lem, can_go_away as can_go_away_lem, can_restore as can_restore_lem, new_marks, fetched_marks, seal_check as seal_check_lem, written, read_back};
 
 use obj_id::{CopyState, Digest, Kind, Refusal, WorkKind};
 use private_store::WorkVerdict;
@@ -31,13 +31,13 @@ pub struct ObjectCopy {
 }
 
 impl Model for ObjectCopy {
-    ghost use Rattle.object_state.specs.Marks.{Marks, AreMarksKept};
+    ghost use Rattle.object_state.specs.Marks.{Marks, IsMarked};
 
     ghost Value = { Marks };
 
     ghost view = { λ c. record { state = c.state; kind = c.kind; length = c.len; digest = c.digest; backed = c.backed; doomed = c.doomed; working = c.working; fault = c.fault } };
 
-    ghost invariant = { λ c. AreMarksKept (record { state = c.state; kind = c.kind; length = c.len; digest = c.digest; backed = c.backed; doomed = c.doomed; working = c.working; fault = c.fault }) };
+    ghost invariant = { λ c. IsMarked (record { state = c.state; kind = c.kind; length = c.len; digest = c.digest; backed = c.backed; doomed = c.doomed; working = c.working; fault = c.fault }) };
 
     ghost inverse = { λ m. record { state = m.state; kind = m.kind; len = m.length; digest = m.digest; backed = m.backed; doomed = m.doomed; working = m.working; fault = m.fault } };
 }
@@ -45,7 +45,7 @@ impl Model for ObjectCopy {
 impl ObjectCopy {
     /// A copy of `len` bytes that is to be written.
     pub fn created(kind: Kind, len: u32) -> ObjectCopy
-        ensures { result ≡ created_copy kind len }
+        ensures { result ≡ new_marks kind len }
     {
         ObjectCopy {
             state: CopyState::Created,
@@ -61,7 +61,7 @@ impl ObjectCopy {
 
     /// A secondary on its way from another node, its length not known yet.
     pub fn fetching() -> ObjectCopy
-        ensures { result ≡ fetching_copy }
+        ensures { result ≡ fetched_marks }
     {
         ObjectCopy {
             state: CopyState::Fetching,
@@ -78,7 +78,7 @@ impl ObjectCopy {
     /// Where its bytes are.
     pub fn state(&self) -> CopyState
         ensures state { result ≡ self.now.state }
-        ensures kept { AreMarksKept self.now }
+        ensures kept { IsMarked self.now }
     {
         self.state
     }
@@ -267,7 +267,7 @@ impl ObjectCopy {
     /// The write of this number was answered: it backs the copy, unless it failed.
     pub fn end_spill(&mut self, number: u64, failed: bool)
         requires { is_written self.old ≡ true }
-        ensures { self.new ≡ spilled self.old number failed }
+        ensures { self.new ≡ written self.old number failed }
     {
         self.working = None;
         if !failed {

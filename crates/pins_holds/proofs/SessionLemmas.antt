@@ -1,22 +1,18 @@
 -- Holds by rising session: the map's words and the private store's are the same, and how a change of one
 -- session's number changes the sum.
-use Rattle.std.proofs.Common.{◌≡◌, ◌≢◌, ℕ, ◌+◌, ◌-◌, ◌<◌, ◌≤◌, Bool, true, false, not, cond, ◌&&◌, ◌==◌, List, [], ◌∷◌, filter, Some, None, Option, unwrap_or, refl, sym, ap, subst, ◌∙◌, T, arith}
-use Rattle.std.specs.Prelude.{sum_by, nat_lt, IsTrue, is_some}
-use Rattle.std.specs.List.{list_all}
+use Rattle.std.proofs.Common.{◌≡◌, ℕ, ◌+◌, ◌-◌, ◌<◌, ◌≤◌, Bool, true, false, not, cond, ◌&&◌, ◌==◌, List, [], ◌∷◌, Some, None, unwrap_or, refl, sym, ap, subst, ◌∙◌, T, arith}
 use Rattle.std.specs.declared.cmp.Ordering.{Ordering}
 use Rattle.std.specs.declared.cmp.Ordering.TheVariants.{Less, Equal, Greater}
 use Rattle.std.specs.Ordering.{nat_cmp, is_lt, is_eq, match_ordering}
 use Rattle.std.specs.Cmp.{nat_cmp_total, unsigned_ties}
 use Rattle.std.specs.FinMap.{find, put, is_sorted, nat_cmp-IsAntisymmetric}
 use Rattle.std.specs.FinMap.Entries.{below_all, by_order}
-use Rattle.std.specs.Map.{lookup, remove_entry, set_value}
+use Rattle.std.specs.Map.{remove_entry, set_value}
 use Rattle.std.specs.BTreeMap.{is_at, insert_entry}
 use Rattle.std.proofs.lemmas.List.Sums.{sum_by-cons}
 use Rattle.std.proofs.lemmas.Bool.Decides.{nat_tests}
 use Rattle.obj_id.specs.declared.commands.CopyState.TheVariants.{Sealed}
-use Rattle.private_store.specs.Limits.{most_holds}
 use Rattle.private_store.specs.Commands.{without_session}
-use Rattle.private_store.specs.Kept.{AreHoldsKept}
 use Rattle.private_store.proofs.KeptHolds.{holds_keep}
 use Rattle.private_store.proofs.KeptCopy.{and_left, T_true}
 use Rattle.pins_holds.specs.Sessions.{count_of, with_count, total, AreHolds}
@@ -35,11 +31,6 @@ T_right true b h = h
 T_right false b h = absurd h
 
 -- ---- the map's words
-
--- a look-up in the map is one in the list
-pub lookup-find : (k : ℕ) (es : List (ℕ × ℕ)) → lookup (is_at (nat_cmp k)) es ≡ find nat_cmp k es
-lookup-find k [] = refl
-lookup-find k (e ∷ es) = ap (λ r. cond (is_eq (nat_cmp k e.0)) (Some e.1) r) (lookup-find k es)
 
 -- an insertion into the map is one into the list
 pub insert_entry-put : (k v : ℕ) (es : List (ℕ × ℕ)) → insert_entry nat_cmp es k v ≡ put nat_cmp k v es
@@ -63,7 +54,7 @@ pub set_value-put : (k v : ℕ) (es : List (ℕ × ℕ)) → T (is_sorted nat_cm
 set_value-put k v [] h there = absurd (omega arith)
 set_value-put k v (e ∷ es) h there =
     (elim (nat_cmp k e.0) as (λ r. nat_cmp k e.0 ≡ r → 0 < unwrap_or (cond (is_eq r) (Some e.1) (find nat_cmp k es)) 0
-        → cond (is_eq r) ((e.0, v) ∷ es) (e ∷ set_value (is_at (nat_cmp k)) es v) ≡ by_order r ((k, v) ∷ e ∷ es) ((e.0, v) ∷ es) (e ∷ put nat_cmp k v es)) [
+    → cond (is_eq r) ((e.0, v) ∷ es) (e ∷ set_value (is_at (nat_cmp k)) es v) ≡ by_order r ((k, v) ∷ e ∷ es) ((e.0, v) ∷ es) (e ∷ put nat_cmp k v es)) [
       | Less ↦ λ l some.
           let n : unwrap_or (find nat_cmp k es) 0 ≡ 0 = ap (λ o. unwrap_or o 0) (below_none k e es l (T_left _ _ h)) in
           absurd (omega arith)

@@ -1,10 +1,9 @@
 -- What a change of the line leaves to each job.
-use Rattle.std.proofs.Common.{◌≡◌, ◌≢◌, ℕ, ◌+◌, ◌<◌, ◌≤◌, suc, Bool, true, false, not, cond, ◌&&◌, ◌==◌, List, [], ◌∷◌, ◌++◌, map, filter, length, drop, Option, Some, None, refl, sym, ap, subst, ◌∙◌, add-one, arith}
+use Rattle.std.proofs.Common.{◌≡◌, ℕ, ◌+◌, ◌<◌, ◌≤◌, suc, Bool, true, false, not, cond, ◌&&◌, ◌==◌, List, [], ◌∷◌, ◌++◌, map, filter, length, Option, Some, None, refl, sym, ap, subst, ◌∙◌, arith}
 use Rattle.std.specs.Prelude.{find, if◌then◌else◌, nat_lt, is_some, slice_get, unwrap_or}
 use Rattle.std.specs.Option.{option_map}
 use Rattle.std.proofs.Math.ListN.{set, get_or}
-use Rattle.std.proofs.Math.Seq.{drop-cons}
-use Rattle.std.specs.List.{position, position_or_len}
+use Rattle.std.specs.List.{position_or_len}
 use Rattle.std.proofs.lemmas.Option.{slice_get-get_or, slice_get_past}
 use Rattle.std.proofs.lemmas.Bool.{ltb-true, ltb-false}
 use Rattle.std.proofs.lemmas.Bool.Decides.{nat_tests}
@@ -24,7 +23,7 @@ part-append [] w job =
 part-append (x ∷ xs) w job =
     let rest = part-append xs w job in
     elim (is_of job x) as (λ b. map (λ (q : Queued). shown q.asked) (cond b (x ∷ filter (is_of job) (xs ++ w ∷ [])) (filter (is_of job) (xs ++ w ∷ [])))
-        ≡ map (λ (q : Queued). shown q.asked) (cond b (x ∷ filter (is_of job) xs) (filter (is_of job) xs)) ++ (if is_of job w then shown w.asked ∷ [] else [])) [
+    ≡ map (λ (q : Queued). shown q.asked) (cond b (x ∷ filter (is_of job) xs) (filter (is_of job) xs)) ++ (if is_of job w then shown w.asked ∷ [] else [])) [
       | true ↦ ap (λ r. shown x.asked ∷ r) rest
       | false ↦ rest
     ]
@@ -96,12 +95,12 @@ part-finished job number (x ∷ xs) =
     let rest = part-finished job number xs in
     let left = filter (λ (w : Queued). not (is_at job number w)) xs in
     (elim (is_of job x) as (λ b. is_of job x ≡ b → part (cond (not (b && x.asked.number == number)) (x ∷ filter (λ w. not (is_at job number w)) xs) (filter (λ w. not (is_at job number w)) xs)) job
-        ≡ filter (λ (v : WorkInFlight). not (v.number == number)) (map (λ (q : Queued). shown q.asked) (cond b (x ∷ filter (is_of job) xs) (filter (is_of job) xs)))) [
+    ≡ filter (λ (v : WorkInFlight). not (v.number == number)) (map (λ (q : Queued). shown q.asked) (cond b (x ∷ filter (is_of job) xs) (filter (is_of job) xs)))) [
       | true ↦ λ e. elim (x.asked.number == number) as (λ n. part (cond (not n) (x ∷ filter (λ w. not (is_at job number w)) xs) (filter (λ w. not (is_at job number w)) xs)) job
-            ≡ cond (not n) (shown x.asked ∷ filter (λ (v : WorkInFlight). not (v.number == number)) (part xs job)) (filter (λ (v : WorkInFlight). not (v.number == number)) (part xs job))) [
-        | true ↦ rest
-        | false ↦ ap (λ b. map (λ (q : Queued). shown q.asked) (cond b (x ∷ filter (is_of job) left) (filter (is_of job) left))) e ∙ ap (λ r. shown x.asked ∷ r) rest
-      ]
+          ≡ cond (not n) (shown x.asked ∷ filter (λ (v : WorkInFlight). not (v.number == number)) (part xs job)) (filter (λ (v : WorkInFlight). not (v.number == number)) (part xs job))) [
+            | true ↦ rest
+            | false ↦ ap (λ b. map (λ (q : Queued). shown q.asked) (cond b (x ∷ filter (is_of job) left) (filter (is_of job) left))) e ∙ ap (λ r. shown x.asked ∷ r) rest
+          ]
       | false ↦ λ e. ap (λ b. map (λ (q : Queued). shown q.asked) (cond b (x ∷ filter (is_of job) left) (filter (is_of job) left))) e ∙ rest
     ]) refl
 
@@ -111,12 +110,12 @@ find-part job number [] w at = cc
 find-part job number (x ∷ xs) w at =
     let rest = find-part job number xs w in
     (elim (is_of job x) as (λ b. cond (b && x.asked.number == number) (Some x) (find (is_at job number) xs) ≡ Some w
-        → find (λ (v : WorkInFlight). v.number == number) (map (λ (q : Queued). shown q.asked) (cond b (x ∷ filter (is_of job) xs) (filter (is_of job) xs))) ≡ Some (shown w.asked)) [
+    → find (λ (v : WorkInFlight). v.number == number) (map (λ (q : Queued). shown q.asked) (cond b (x ∷ filter (is_of job) xs) (filter (is_of job) xs))) ≡ Some (shown w.asked)) [
       | true ↦ elim (x.asked.number == number) as (λ n. cond n (Some x) (find (is_at job number) xs) ≡ Some w
-            → cond n (Some (shown x.asked)) (find (λ (v : WorkInFlight). v.number == number) (part xs job)) ≡ Some (shown w.asked)) [
-        | true ↦ λ is. ap (λ o. Some (shown (unwrap_or o x).asked)) is
-        | false ↦ rest
-      ]
+          → cond n (Some (shown x.asked)) (find (λ (v : WorkInFlight). v.number == number) (part xs job)) ≡ Some (shown w.asked)) [
+            | true ↦ λ is. ap (λ o. Some (shown (unwrap_or o x).asked)) is
+            | false ↦ rest
+          ]
       | false ↦ rest
     ]) at
 
@@ -126,30 +125,15 @@ part-marked job number other [] = refl
 part-marked job number other (x ∷ xs) =
     elim (is_at job number x) as (λ b. part (if b then record x { taken = true } ∷ xs else x ∷ marked job number xs) other ≡ part (x ∷ xs) other) [
       | true ↦ elim (is_of other x) as (λ b. map (λ (q : Queued). shown q.asked) (cond b (record x { taken = true } ∷ filter (is_of other) xs) (filter (is_of other) xs))
-            ≡ map (λ (q : Queued). shown q.asked) (cond b (x ∷ filter (is_of other) xs) (filter (is_of other) xs))) [ true ↦ refl | false ↦ refl ]
+          ≡ map (λ (q : Queued). shown q.asked) (cond b (x ∷ filter (is_of other) xs) (filter (is_of other) xs))) [ true ↦ refl | false ↦ refl ]
       | false ↦ elim (is_of other x) as (λ b. map (λ (q : Queued). shown q.asked) (cond b (x ∷ filter (is_of other) (marked job number xs)) (filter (is_of other) (marked job number xs)))
-            ≡ map (λ (q : Queued). shown q.asked) (cond b (x ∷ filter (is_of other) xs) (filter (is_of other) xs))) [
-        | true ↦ ap (λ r. shown x.asked ∷ r) (part-marked job number other xs)
-        | false ↦ part-marked job number other xs
-      ]
+          ≡ map (λ (q : Queued). shown q.asked) (cond b (x ∷ filter (is_of other) xs) (filter (is_of other) xs))) [
+            | true ↦ ap (λ r. shown x.asked ∷ r) (part-marked job number other xs)
+            | false ↦ part-marked job number other xs
+          ]
     ]
 
 -- ---- places
-
--- the count of what stands before a work goes on past another work
-pub past : (p : Queued → Bool) (works : List Queued) (i : ℕ) (d : Queued) → i < length works → p (get_or works i d) ≡ false
-    → i + position_or_len p (drop i works) ≡ (i + 1) + position_or_len p (drop (i + 1) works)
-past p works i d within other =
-    let rest = position_or_len p (drop (suc i) works) in
-    let here : position_or_len p (drop i works) ≡ 1 + rest =
-        ap (position_or_len p) (drop-cons works i d within) ∙ ap (λ b. cond (not b) (1 + rest) 0) other in
-    let next : position_or_len p (drop (i + 1) works) ≡ rest = ap (λ k. position_or_len p (drop k works)) (add-one i) in
-    omega arith
-
--- and ends at it
-pub met : (p : Queued → Bool) (works : List Queued) (i : ℕ) (d : Queued) → i < length works → p (get_or works i d) ≡ true → position_or_len p (drop i works) ≡ 0
-met p works i d within this =
-    ap (position_or_len p) (drop-cons works i d within) ∙ ap (λ b. cond (not b) (1 + position_or_len p (drop (suc i) works)) 0) this
 
 -- what stands before the place of a work stays, and the work there is taken
 pub set-marked : (job : JobNo) (number : ℕ) (works : List Queued) (i : ℕ) (d : Queued) → position_or_len (is_at job number) works ≡ i → i < length works
@@ -158,7 +142,7 @@ set-marked job number [] i d at within = absurd (omega arith)
 set-marked job number (x ∷ xs) i d at within =
     let j = position_or_len (is_at job number) xs in
     (elim (is_at job number x) as (λ b. cond (not b) (1 + position_or_len (is_at job number) xs) 0 ≡ i
-        → set (x ∷ xs) i (record (get_or (x ∷ xs) i d) { taken = true }) ≡ (if b then record x { taken = true } ∷ xs else x ∷ marked job number xs)) [
+    → set (x ∷ xs) i (record (get_or (x ∷ xs) i d) { taken = true }) ≡ (if b then record x { taken = true } ∷ xs else x ∷ marked job number xs)) [
       | true ↦ λ e. subst (λ k. set (x ∷ xs) k (record (get_or (x ∷ xs) k d) { taken = true }) ≡ record x { taken = true } ∷ xs) e refl
       | false ↦ λ e.
           let next : suc j ≡ i = omega arith in
@@ -171,7 +155,7 @@ pub marked-none : (job : JobNo) (number : ℕ) (works : List Queued) → length 
 marked-none job number [] none = refl
 marked-none job number (x ∷ xs) none =
     (elim (is_at job number x) as (λ b. length (x ∷ xs) ≤ cond (not b) (1 + position_or_len (is_at job number) xs) 0
-        → (if b then record x { taken = true } ∷ xs else x ∷ marked job number xs) ≡ x ∷ xs) [
+    → (if b then record x { taken = true } ∷ xs else x ∷ marked job number xs) ≡ x ∷ xs) [
       | true ↦ λ h. absurd (omega arith)
       | false ↦ λ h. ap (λ r. x ∷ r) (marked-none job number xs (omega arith))
     ]) none

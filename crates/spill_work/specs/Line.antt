@@ -3,7 +3,6 @@ use Rattle.std.specs.Prelude.{◌≡◌, ℕ, ◌+◌, ◌==◌, nat_le, Bool, t
 use Rattle.std.specs.Option.{option_map}
 use Rattle.std.specs.Map.{lookup}
 use Rattle.obj_id.specs.declared.ids.JobNo.{JobNo}
-use Rattle.obj_id.specs.declared.ids.ObjectId.{ObjectId}
 use Rattle.obj_id.specs.declared.works.WorkKind.{WorkKind}
 use Rattle.obj_id.specs.declared.works.WorkKind.TheVariants.{Write, Read}
 use Rattle.obj_id.specs.declared.refusals.Refusal.{Refusal}
@@ -89,7 +88,7 @@ marked job number (work ∷ works) =
     if is_at job number work then record work { taken = true } ∷ works else work ∷ marked job number works
 
 -- a work is marked as taken, and no job sees that
-pub record Marks (old : WorkLine) (job : JobNo) (number : ℕ) (new : WorkLine) : Type 0 where
+pub record MarksTaken (old : WorkLine) (job : JobNo) (number : ℕ) (new : WorkLine) : Type 0 where
   pub line : new ≡ record old { works = marked job number old.works }
   pub same : (other : JobNo) → works_of new other ≡ works_of old other
 

@@ -6,14 +6,13 @@
 ghost use Rattle.std.specs.Prelude.{◌≡◌, ◌≢◌, ◌+◌, [], Some, None, IfOk, OnOk, OnErr, IsOk, IsErrOf};
 ghost use Rattle.obj_id.specs.declared.refusals.Refusal.{Refusal};
 ghost use Rattle.obj_id.specs.declared.refusals.Refusal.TheVariants.{NoMemory};
-ghost use Rattle.spill_work.specs.Line.{WorkLine, same_job, used_by, in_flight as in_flight_lem, room_for as room_for_lem, ask_check as ask_check_lem, Asks, front_of, Takes, Marks, finish_check as finish_check_lem, Finishes, Drops};
+ghost use Rattle.spill_work.specs.Line.{WorkLine, same_job, used_by, in_flight as in_flight_lem, room_for as room_for_lem, ask_check as ask_check_lem, Asks, front_of, Takes, MarksTaken, finish_check as finish_check_lem, Finishes, Drops};
 
 mod queue;
 
-pub use queue::{Asked, Queued};
-
 use indexmap::IndexMap;
 use obj_id::{JobNo, ObjectId, Refusal, WorkKind};
+pub use queue::{Asked, Queued};
 use std::alloc::{AllocError, Global};
 use std::marker::Model;
 
@@ -120,7 +119,7 @@ impl Works {
 
     /// Marks a job's work as taken, if there is one under the number. Takes no memory.
     pub fn mark_taken(&mut self, job: JobNo, number: u64)
-        ensures { Marks self.old job number self.new }
+        ensures { MarksTaken self.old job number self.new }
     {
         queue::mark(&mut self.line, job, number);
     }

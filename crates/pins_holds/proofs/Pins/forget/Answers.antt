@@ -1,4 +1,3 @@
-use Rattle.std.proofs.Common.{◌≡◌, ◌+◌, ◌≤◌, ◌++◌, ◌∷◌, [], not, filter, rules, refl, sym, ap, subst, ◌∙◌, arith}
 use Rattle.pins_holds.proofs.TaskLemmas.{without_keeps}
 use Rattle.pins_holds.proofs.Pins.forget.Goals as goal
 

@@ -1,4 +1,4 @@
-use Rattle.std.proofs.Common.{◌≡◌, ◌+◌, ◌≤◌, ◌++◌, ◌∷◌, [], not, filter, rules, refl, sym, ap, subst, ◌∙◌, arith}
+use Rattle.std.proofs.Common.{◌≡◌, ◌∷◌, [], not, refl, ap, ◌∙◌}
 use Rattle.std.specs.Prelude.{false, true, Bool, List}
 use Rattle.std.proofs.Common.{ℕ}
 use Rattle.private_store.specs.Kept.{are_held}

@@ -1,4 +1,4 @@
-use Rattle.std.proofs.Common.{◌≡◌, ◌+◌, ◌≤◌, ◌++◌, ◌∷◌, [], not, filter, rules, refl, sym, ap, subst, ◌∙◌, arith}
+use Rattle.std.proofs.Common.{◌∙◌}
 use Rattle.pins_holds.proofs.SessionLemmas.{insert_entry-put}
 use Rattle.pins_holds.proofs.holds.insert_into.Goals as goal
 

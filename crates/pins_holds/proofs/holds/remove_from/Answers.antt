@@ -1,4 +1,4 @@
-use Rattle.std.proofs.Common.{◌≡◌, ◌+◌, ◌≤◌, ◌++◌, ◌∷◌, [], not, filter, rules, refl, sym, ap, subst, ◌∙◌, arith}
+use Rattle.std.proofs.Common.{◌∙◌}
 use Rattle.pins_holds.proofs.SessionLemmas.{remove_entry-without}
 use Rattle.private_store.proofs.KeptCopy.{T_true}
 use Rattle.pins_holds.proofs.holds.remove_from.Goals as goal

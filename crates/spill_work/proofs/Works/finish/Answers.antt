@@ -1,4 +1,4 @@
-use Rattle.std.proofs.Common.{◌≡◌, sym, subst, ◌∙◌}
+use Rattle.std.proofs.Common.{sym, subst, ◌∙◌}
 use Rattle.spill_work.specs.Line.{WorkLine, Finishes}
 use Rattle.spill_work.proofs.LineLemmas.{finishes}
 use Rattle.spill_work.proofs.Works.finish.Goals as goal

@@ -1,5 +1,4 @@
-use Rattle.std.proofs.Common.{◌≡◌, ◌+◌, ◌≤◌, ◌++◌, ◌∷◌, [], not, filter, rules, refl, sym, ap, subst, ◌∙◌, arith}
-use Rattle.spill_work.specs.Line.{used_by, is_of, marked}
+use Rattle.std.proofs.Common.{refl}
 use Rattle.spill_work.proofs.LineLemmas.{part-marked}
 use Rattle.spill_work.proofs.Works.mark_taken.Goals as goal
 

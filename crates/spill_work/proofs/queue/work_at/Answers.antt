@@ -1,5 +1,5 @@
-use Rattle.std.proofs.Common.{sym, ◌∙◌, ap, ◌≡◌, ◌≤◌, arith}
-use Rattle.std.specs.Prelude.{slice_get, is_some, nat_lt, length}
+use Rattle.std.proofs.Common.{sym, ◌∙◌, ◌≤◌, arith}
+use Rattle.std.specs.Prelude.{slice_get}
 use Rattle.std.specs.Option.{option_copied}
 use Rattle.std.proofs.lemmas.List.Folds.{find_at}
 use Rattle.spill_work.specs.Line.{is_at}

@@ -1,7 +1,7 @@
-use Rattle.std.proofs.Common.{◌≡◌, ◌+◌, ◌≤◌, ◌++◌, ◌∷◌, [], not, filter, rules, refl, sym, ap, subst, ◌∙◌, arith}
+use Rattle.std.proofs.Common.{◌++◌, ◌∷◌, [], ap, ◌∙◌}
 use Rattle.std.specs.List.{list_any}
 use Rattle.obj_id.specs.Ids.{same_task}
-use Rattle.pins_holds.proofs.TaskLemmas.{any_task, insert_key-new}
+use Rattle.pins_holds.proofs.TaskLemmas.{insert_key-new}
 use Rattle.pins_holds.proofs.borrowers.Borrowers.add.Goals as goal
 
 pub returns-clause-ok : goal.returns-clause-ok

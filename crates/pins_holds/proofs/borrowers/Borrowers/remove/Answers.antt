@@ -1,4 +1,4 @@
-use Rattle.std.proofs.Common.{◌≡◌, ◌+◌, ◌≤◌, ◌++◌, ◌∷◌, [], not, filter, rules, refl, sym, ap, subst, ◌∙◌, arith}
+use Rattle.std.proofs.Common.{not, filter, ap, ◌∙◌}
 use Rattle.obj_id.specs.Ids.{same_task}
 use Rattle.pins_holds.proofs.TaskLemmas.{remove_key-filter}
 use Rattle.pins_holds.proofs.borrowers.Borrowers.remove.Goals as goal

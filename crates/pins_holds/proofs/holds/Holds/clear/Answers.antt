@@ -1,4 +1,4 @@
-use Rattle.std.proofs.Common.{◌≡◌, ◌+◌, ◌≤◌, ◌++◌, ◌∷◌, [], not, filter, rules, refl, sym, ap, subst, ◌∙◌, arith}
+use Rattle.std.proofs.Common.{sym, ap, ◌∙◌}
 use Rattle.pins_holds.proofs.SessionLemmas.{cleared}
 use Rattle.pins_holds.specs.Sessions.{count_of}
 use Rattle.pins_holds.proofs.holds.Holds.clear.Goals as goal

@@ -1,4 +1,4 @@
-use Rattle.std.proofs.Common.{◌≡◌, ◌+◌, ◌≤◌, ◌++◌, ◌∷◌, [], not, filter, rules, refl, sym, ap, subst, ◌∙◌, arith}
+use Rattle.std.proofs.Common.{◌≤◌, sym, ap, subst, ◌∙◌}
 use Rattle.pins_holds.specs.Sessions.{count_of, total}
 use Rattle.pins_holds.proofs.SessionLemmas.{count-total}
 use Rattle.pins_holds.proofs.holds.Holds.of.Goals as goal

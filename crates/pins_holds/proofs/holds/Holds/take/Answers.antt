@@ -1,4 +1,4 @@
-use Rattle.std.proofs.Common.{◌≡◌, ◌<◌, sym, ap, ◌∙◌, arith}
+use Rattle.std.proofs.Common.{◌<◌, sym, ap, ◌∙◌, arith}
 use Rattle.pins_holds.specs.Sessions.{count_of}
 use Rattle.pins_holds.proofs.SessionLemmas.{lowered}
 use Rattle.pins_holds.proofs.holds.Holds.take.Goals as goal
