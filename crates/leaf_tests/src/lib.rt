@@ -6,3 +6,9 @@
 mod fetches;
 #[cfg(test)]
 mod ids;
+#[cfg(test)]
+mod pins;
+#[cfg(test)]
+mod states;
+#[cfg(test)]
+mod works;

@@ -1,0 +1,12 @@
+use Rattle.std.proofs.Common.{◌<◌, sym, ap, ◌∙◌, arith}
+use Rattle.pins_holds.specs.Sessions.{count_of}
+use Rattle.pins_holds.proofs.SessionLemmas.{lowered}
+use Rattle.pins_holds.proofs.holds.Holds.take.Goals as goal
+
+pub invariant_of-self : goal.invariant_of-self
+invariant_of-self c =
+    let i = c.self.inside in
+    let some : 1 < c.of-held.result = omega arith in
+    lowered c.args.session c.of-held.result i.all i.by_session.entries c.set_in.new.by_session.entries c.self.invariant.0 c.self.invariant.1
+    (c.of-held.ensures.of ∙ ap (λ es. count_of es c.args.session) (sym c.self.view_is))
+    some c.set_in.ensures

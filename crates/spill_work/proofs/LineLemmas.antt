@@ -1,0 +1,202 @@
+-- What a change of the line leaves to each job.
+use Rattle.std.proofs.Common.{◌≡◌, ℕ, ◌+◌, ◌<◌, ◌≤◌, suc, Bool, true, false, not, cond, ◌&&◌, ◌==◌, List, [], ◌∷◌, ◌++◌, map, filter, length, Option, Some, None, refl, sym, ap, subst, ◌∙◌, arith}
+use Rattle.std.specs.Prelude.{find, if◌then◌else◌, nat_lt, is_some, slice_get, unwrap_or}
+use Rattle.std.specs.Option.{option_map}
+use Rattle.std.proofs.Math.ListN.{set, get_or}
+use Rattle.std.specs.List.{position_or_len}
+use Rattle.std.proofs.lemmas.Option.{slice_get-get_or, slice_get_past}
+use Rattle.std.proofs.lemmas.Bool.{ltb-true, ltb-false}
+use Rattle.std.proofs.lemmas.Bool.Decides.{nat_tests}
+use Rattle.obj_id.specs.declared.ids.JobNo.{JobNo}
+use Rattle.private_store.specs.Shape.{WorkInFlight}
+use Rattle.spill_work.specs.declared.queue.Asked.{Asked}
+use Rattle.spill_work.specs.declared.queue.Queued.{Queued}
+use Rattle.spill_work.specs.Line.{WorkLine, same_job, is_of, is_at, shown, marked, used_by, Asks, Finishes, Drops}
+
+-- the job's part of the line
+abbrev pub part : List Queued → JobNo → List WorkInFlight
+part works job = map (λ work. shown work.asked) (filter (is_of job) works)
+
+pub part-append : (works : List Queued) (w : Queued) (job : JobNo) → part (works ++ w ∷ []) job ≡ part works job ++ (if is_of job w then shown w.asked ∷ [] else [])
+part-append [] w job =
+    elim (is_of job w) as (λ b. map (λ (q : Queued). shown q.asked) (cond b (w ∷ []) []) ≡ (if b then shown w.asked ∷ [] else [])) [ true ↦ refl | false ↦ refl ]
+part-append (x ∷ xs) w job =
+    let rest = part-append xs w job in
+    elim (is_of job x) as (λ b. map (λ (q : Queued). shown q.asked) (cond b (x ∷ filter (is_of job) (xs ++ w ∷ [])) (filter (is_of job) (xs ++ w ∷ [])))
+    ≡ map (λ (q : Queued). shown q.asked) (cond b (x ∷ filter (is_of job) xs) (filter (is_of job) xs)) ++ (if is_of job w then shown w.asked ∷ [] else [])) [
+      | true ↦ ap (λ r. shown x.asked ∷ r) rest
+      | false ↦ rest
+    ]
+
+itself : (n : ℕ) → (n == n) ≡ true
+itself n = grind (arith, nat_tests)
+
+-- to the job that asks, the work comes last
+pub part-own : (works : List Queued) (asked : Asked) → part (works ++ record { asked = asked; taken = false } ∷ []) asked.job ≡ part works asked.job ++ shown asked ∷ []
+part-own works asked =
+    part-append works (record { asked = asked; taken = false }) asked.job
+    ∙ ap (λ b. part works asked.job ++ (if b then shown asked ∷ [] else [])) (itself asked.job.0)
+
+eqb_symmetric : (a k : ℕ) → (a == k) ≡ (k == a)
+eqb_symmetric a k = grind (arith, nat_tests)
+
+append_nothing : {X : Type 0} (xs : List X) → xs ++ [] ≡ xs
+append_nothing [] = refl
+append_nothing (x ∷ xs) = ap (λ r. x ∷ r) (append_nothing xs)
+
+-- to another job it is not there
+pub part-other : (works : List Queued) (asked : Asked) (job : JobNo) → same_job asked.job job ≡ false → part (works ++ record { asked = asked; taken = false } ∷ []) job ≡ part works job
+part-other works asked job apart =
+    part-append works (record { asked = asked; taken = false }) job
+    ∙ ap (λ b. part works job ++ (if b then shown asked ∷ [] else [])) (eqb_symmetric job.0 asked.job.0 ∙ apart)
+    ∙ append_nothing (part works job)
+
+-- what a job has stays under a filter that keeps its works
+pub part-filter : (p : Queued → Bool) (job : JobNo) (works : List Queued) → ((w : Queued) → is_of job w ≡ true → p w ≡ true) → part (filter p works) job ≡ part works job
+part-filter p job [] keeps = refl
+part-filter p job (x ∷ xs) keeps =
+    let rest = part-filter p job xs keeps in
+    (elim (is_of job x) as (λ b. is_of job x ≡ b → part (cond (p x) (x ∷ filter p xs) (filter p xs)) job ≡ map (λ (q : Queued). shown q.asked) (cond b (x ∷ filter (is_of job) xs) (filter (is_of job) xs))) [
+      | true ↦ λ e. ap (λ b. part (cond b (x ∷ filter p xs) (filter p xs)) job) (keeps x e)
+          ∙ ap (λ b. map (λ (q : Queued). shown q.asked) (cond b (x ∷ filter (is_of job) (filter p xs)) (filter (is_of job) (filter p xs)))) e
+          ∙ ap (λ r. shown x.asked ∷ r) rest
+      | false ↦ λ e. elim (p x) as (λ b. part (cond b (x ∷ filter p xs) (filter p xs)) job ≡ part xs job) [
+        | true ↦ ap (λ b. map (λ (q : Queued). shown q.asked) (cond b (x ∷ filter (is_of job) (filter p xs)) (filter (is_of job) (filter p xs)))) e ∙ rest
+        | false ↦ rest
+      ]
+    ]) refl
+
+numbers_apart : (a b c : ℕ) → (b == c) ≡ true → (a == b) ≡ false → (a == c) ≡ false
+numbers_apart a b c same apart = grind (arith, nat_tests)
+
+-- to another job nothing leaves
+pub part-finished_other : (job other : JobNo) (number : ℕ) (works : List Queued) → same_job job other ≡ false → part (filter (λ w. not (is_at job number w)) works) other ≡ part works other
+part-finished_other job other number works apart =
+    part-filter (λ w. not (is_at job number w)) other works
+    (λ w of. ap (λ b. not (b && w.asked.number == number)) (numbers_apart job.0 other.0 w.asked.job.0 of apart))
+
+pub part-dropped_other : (job other : JobNo) (works : List Queued) → same_job job other ≡ false → part (filter (λ w. not (is_of job w)) works) other ≡ part works other
+part-dropped_other job other works apart =
+    part-filter (λ w. not (is_of job w)) other works (λ w of. ap not (numbers_apart job.0 other.0 w.asked.job.0 of apart))
+
+-- of the job that ends nothing stays
+pub part-dropped : (job : JobNo) (works : List Queued) → part (filter (λ w. not (is_of job w)) works) job ≡ []
+part-dropped job [] = refl
+part-dropped job (x ∷ xs) =
+    (elim (is_of job x) as (λ b. is_of job x ≡ b → part (cond (not b) (x ∷ filter (λ w. not (is_of job w)) xs) (filter (λ w. not (is_of job w)) xs)) job ≡ []) [
+      | true ↦ λ _. part-dropped job xs
+      | false ↦ λ e. ap (λ b. map (λ (q : Queued). shown q.asked) (cond b (x ∷ filter (is_of job) (filter (λ w. not (is_of job w)) xs)) (filter (is_of job) (filter (λ w. not (is_of job w)) xs)))) e ∙ part-dropped job xs
+    ]) refl
+
+-- the job's work leaves the job's part
+pub part-finished : (job : JobNo) (number : ℕ) (works : List Queued) → part (filter (λ w. not (is_at job number w)) works) job ≡ filter (λ (v : WorkInFlight). not (v.number == number)) (part works job)
+part-finished job number [] = refl
+part-finished job number (x ∷ xs) =
+    let rest = part-finished job number xs in
+    let left = filter (λ (w : Queued). not (is_at job number w)) xs in
+    (elim (is_of job x) as (λ b. is_of job x ≡ b → part (cond (not (b && x.asked.number == number)) (x ∷ filter (λ w. not (is_at job number w)) xs) (filter (λ w. not (is_at job number w)) xs)) job
+    ≡ filter (λ (v : WorkInFlight). not (v.number == number)) (map (λ (q : Queued). shown q.asked) (cond b (x ∷ filter (is_of job) xs) (filter (is_of job) xs)))) [
+      | true ↦ λ e. elim (x.asked.number == number) as (λ n. part (cond (not n) (x ∷ filter (λ w. not (is_at job number w)) xs) (filter (λ w. not (is_at job number w)) xs)) job
+          ≡ cond (not n) (shown x.asked ∷ filter (λ (v : WorkInFlight). not (v.number == number)) (part xs job)) (filter (λ (v : WorkInFlight). not (v.number == number)) (part xs job))) [
+            | true ↦ rest
+            | false ↦ ap (λ b. map (λ (q : Queued). shown q.asked) (cond b (x ∷ filter (is_of job) left) (filter (is_of job) left))) e ∙ ap (λ r. shown x.asked ∷ r) rest
+          ]
+      | false ↦ λ e. ap (λ b. map (λ (q : Queued). shown q.asked) (cond b (x ∷ filter (is_of job) left) (filter (is_of job) left))) e ∙ rest
+    ]) refl
+
+-- the work that is found in the line is found in the job's part
+pub find-part : (job : JobNo) (number : ℕ) (works : List Queued) (w : Queued) → find (is_at job number) works ≡ Some w → find (λ (v : WorkInFlight). v.number == number) (part works job) ≡ Some (shown w.asked)
+find-part job number [] w at = cc
+find-part job number (x ∷ xs) w at =
+    let rest = find-part job number xs w in
+    (elim (is_of job x) as (λ b. cond (b && x.asked.number == number) (Some x) (find (is_at job number) xs) ≡ Some w
+    → find (λ (v : WorkInFlight). v.number == number) (map (λ (q : Queued). shown q.asked) (cond b (x ∷ filter (is_of job) xs) (filter (is_of job) xs))) ≡ Some (shown w.asked)) [
+      | true ↦ elim (x.asked.number == number) as (λ n. cond n (Some x) (find (is_at job number) xs) ≡ Some w
+          → cond n (Some (shown x.asked)) (find (λ (v : WorkInFlight). v.number == number) (part xs job)) ≡ Some (shown w.asked)) [
+            | true ↦ λ is. ap (λ o. Some (shown (unwrap_or o x).asked)) is
+            | false ↦ rest
+          ]
+      | false ↦ rest
+    ]) at
+
+-- marking a work as taken shows to no job
+pub part-marked : (job : JobNo) (number : ℕ) (other : JobNo) (works : List Queued) → part (marked job number works) other ≡ part works other
+part-marked job number other [] = refl
+part-marked job number other (x ∷ xs) =
+    elim (is_at job number x) as (λ b. part (if b then record x { taken = true } ∷ xs else x ∷ marked job number xs) other ≡ part (x ∷ xs) other) [
+      | true ↦ elim (is_of other x) as (λ b. map (λ (q : Queued). shown q.asked) (cond b (record x { taken = true } ∷ filter (is_of other) xs) (filter (is_of other) xs))
+          ≡ map (λ (q : Queued). shown q.asked) (cond b (x ∷ filter (is_of other) xs) (filter (is_of other) xs))) [ true ↦ refl | false ↦ refl ]
+      | false ↦ elim (is_of other x) as (λ b. map (λ (q : Queued). shown q.asked) (cond b (x ∷ filter (is_of other) (marked job number xs)) (filter (is_of other) (marked job number xs)))
+          ≡ map (λ (q : Queued). shown q.asked) (cond b (x ∷ filter (is_of other) xs) (filter (is_of other) xs))) [
+            | true ↦ ap (λ r. shown x.asked ∷ r) (part-marked job number other xs)
+            | false ↦ part-marked job number other xs
+          ]
+    ]
+
+-- ---- places
+
+-- what stands before the place of a work stays, and the work there is taken
+pub set-marked : (job : JobNo) (number : ℕ) (works : List Queued) (i : ℕ) (d : Queued) → position_or_len (is_at job number) works ≡ i → i < length works
+    → set works i (record (get_or works i d) { taken = true }) ≡ marked job number works
+set-marked job number [] i d at within = absurd (omega arith)
+set-marked job number (x ∷ xs) i d at within =
+    let j = position_or_len (is_at job number) xs in
+    (elim (is_at job number x) as (λ b. cond (not b) (1 + position_or_len (is_at job number) xs) 0 ≡ i
+    → set (x ∷ xs) i (record (get_or (x ∷ xs) i d) { taken = true }) ≡ (if b then record x { taken = true } ∷ xs else x ∷ marked job number xs)) [
+      | true ↦ λ e. subst (λ k. set (x ∷ xs) k (record (get_or (x ∷ xs) k d) { taken = true }) ≡ record x { taken = true } ∷ xs) e refl
+      | false ↦ λ e.
+          let next : suc j ≡ i = omega arith in
+          let inside : j < length xs = omega arith in
+          subst (λ k. set (x ∷ xs) k (record (get_or (x ∷ xs) k d) { taken = true }) ≡ x ∷ marked job number xs) next (ap (λ r. x ∷ r) (set-marked job number xs j d refl inside))
+    ]) at
+
+-- where there is none, all stays
+pub marked-none : (job : JobNo) (number : ℕ) (works : List Queued) → length works ≤ position_or_len (is_at job number) works → marked job number works ≡ works
+marked-none job number [] none = refl
+marked-none job number (x ∷ xs) none =
+    (elim (is_at job number x) as (λ b. length (x ∷ xs) ≤ cond (not b) (1 + position_or_len (is_at job number) xs) 0
+    → (if b then record x { taken = true } ∷ xs else x ∷ marked job number xs) ≡ x ∷ xs) [
+      | true ↦ λ h. absurd (omega arith)
+      | false ↦ λ h. ap (λ r. x ∷ r) (marked-none job number xs (omega arith))
+    ]) none
+
+pub is_some-map : {A B : Type 0} (f : A → B) (o : Option A) → is_some (option_map f o) ≡ is_some o
+is_some-map f None = refl
+is_some-map f (Some x) = refl
+
+-- what a read at a place gives, by what it says of itself
+pub read_at : (read : Option Queued) (works : List Queued) (i : ℕ) → is_some read ≡ nat_lt i (length works) → ((d : Queued) → unwrap_or read d ≡ get_or works i d)
+    → read ≡ slice_get works i
+read_at None works i there value = sym (slice_get_past works i (ltb-false i (length works) (sym there)))
+read_at (Some w) works i there value = ap Some (value w) ∙ sym (slice_get-get_or works i w (ltb-true i (length works) (sym there)))
+
+-- ---- the changes of the line
+
+pub asks : (old new : WorkLine) (asked : Asked) → asked.number ≡ used_by old asked.job + 1 → new.works ≡ old.works ++ record { asked = asked; taken = false } ∷ []
+    → used_by new asked.job ≡ asked.number → ((job : JobNo) → same_job asked.job job ≡ false → used_by new job ≡ used_by old job) → Asks old asked new
+asks old new asked number works own others = record {
+  number = number;
+  works = works;
+  own_works = ap (λ ws. part ws asked.job) works ∙ part-own old.works asked;
+  own_used = own;
+  others = λ job apart. record { works = ap (λ ws. part ws job) works ∙ part-other old.works asked job apart; used = others job apart };
+}
+
+pub finishes : (old new : WorkLine) (job : JobNo) (number : ℕ) (w : Queued) → find (is_at job number) old.works ≡ Some w → w.taken ≡ true
+    → new ≡ record old { works = filter (λ v. not (is_at job number v)) old.works } → Finishes old job number w.asked new
+finishes old new job number w at taken is = record {
+  found = at ∙ ap (λ t. Some (record w { taken = t })) taken;
+  line = is;
+  own_work = find-part job number old.works w at;
+  own_works = ap (λ l. part l.works job) is ∙ part-finished job number old.works;
+  others = λ other apart. ap (λ l. part l.works other) is ∙ part-finished_other job other number old.works apart;
+}
+
+pub drops : (old new : WorkLine) (job : JobNo) → new.works ≡ filter (λ v. not (is_of job v)) old.works → used_by new job ≡ 0
+    → ((other : JobNo) → same_job job other ≡ false → used_by new other ≡ used_by old other) → Drops old job new
+drops old new job works own others = record {
+  works = works;
+  own_works = ap (λ ws. part ws job) works ∙ part-dropped job old.works;
+  own_used = own;
+  others = λ other apart. record { works = ap (λ ws. part ws other) works ∙ part-dropped_other job other old.works apart; used = others other apart };
+}

@@ -1,0 +1,131 @@
+-- The device works of all jobs of a node in one line, and what a job sees of it.
+use Rattle.std.specs.Prelude.{◌≡◌, ℕ, ◌+◌, ◌==◌, nat_le, Bool, true, false, not, ◌&&◌, if◌then◌else◌, List, [], ◌∷◌, ◌++◌, length, map, filter, find, Option, Some, None, unwrap_or}
+use Rattle.std.specs.Option.{option_map}
+use Rattle.std.specs.Map.{lookup}
+use Rattle.obj_id.specs.declared.ids.JobNo.{JobNo}
+use Rattle.obj_id.specs.declared.works.WorkKind.{WorkKind}
+use Rattle.obj_id.specs.declared.works.WorkKind.TheVariants.{Write, Read}
+use Rattle.obj_id.specs.declared.refusals.Refusal.{Refusal}
+use Rattle.obj_id.specs.declared.refusals.Refusal.TheVariants.{Busy, TooMany, Stale}
+use Rattle.private_store.specs.Limits.{most_works, has_numbers}
+use Rattle.private_store.specs.Shape.{WorkInFlight}
+use Rattle.spill_work.specs.declared.queue.Asked.{Asked}
+use Rattle.spill_work.specs.declared.queue.Queued.{Queued}
+
+pub record WorkLine : Type 0 where
+  -- of all jobs, in the order asked
+  pub works : List Queued
+  -- for each job the last number that a work of it had
+  pub used : List (JobNo × ℕ)
+
+-- ---- what a job sees
+
+abbrev pub same_job : JobNo → JobNo → Bool
+same_job a b = a.0 == b.0
+
+abbrev pub is_of : JobNo → Queued → Bool
+is_of job work = same_job job work.asked.job
+
+-- the work of the job under the number
+abbrev pub is_at : JobNo → ℕ → Queued → Bool
+is_at job number work = is_of job work && work.asked.number == number
+
+abbrev pub is_write : WorkKind → Bool
+is_write Write = true
+is_write Read = false
+
+-- a work as the job's own store has it
+abbrev pub shown : Asked → WorkInFlight
+shown asked = record { number = asked.number; id = asked.id; writes = is_write asked.kind }
+
+-- the job's works in flight, as its own store has them
+abbrev pub works_of : WorkLine → JobNo → List WorkInFlight
+works_of line job = map (λ work. shown work.asked) (filter (is_of job) line.works)
+
+abbrev pub in_flight : WorkLine → JobNo → ℕ
+in_flight line job = length (works_of line job)
+
+-- the last number that a work of the job had
+abbrev pub used_by : WorkLine → JobNo → ℕ
+used_by line job = unwrap_or (lookup (same_job job) line.used) 0
+
+-- to the job, both lines are the same
+pub record IsSameFor (job : JobNo) (old new : WorkLine) : Type 0 where
+  pub works : works_of new job ≡ works_of old job
+  pub used : used_by new job ≡ used_by old job
+
+-- ---- asking
+
+-- whether n works more may be asked for
+abbrev pub room_for : WorkLine → JobNo → ℕ → Bool
+room_for line job n = nat_le (in_flight line job + n) most_works && has_numbers (used_by line job) n
+
+-- why a work can't be asked for
+abbrev pub ask_check : WorkLine → JobNo → Option Refusal
+ask_check line job =
+    if nat_le most_works (in_flight line job) then Some Busy else
+    (if has_numbers (used_by line job) 1 then None else Some TooMany)
+
+-- a work comes last, under the job's next number
+pub record Asks (old : WorkLine) (asked : Asked) (new : WorkLine) : Type 0 where
+  pub number : asked.number ≡ used_by old asked.job + 1
+  pub works : new.works ≡ old.works ++ record { asked = asked; taken = false } ∷ []
+  -- the job's own part
+  pub own_works : works_of new asked.job ≡ works_of old asked.job ++ shown asked ∷ []
+  pub own_used : used_by new asked.job ≡ asked.number
+  pub others : (job : JobNo) → same_job asked.job job ≡ false → IsSameFor job old new
+
+-- ---- handing out
+
+-- the first that nobody has taken
+abbrev pub front_of : List Queued → Option Asked
+front_of works = option_map (λ work. work.asked) (find (λ work. not work.taken) works)
+
+-- the work of the job under the number is taken
+abbrev pub marked : JobNo → ℕ → List Queued → List Queued
+marked job number [] = []
+marked job number (work ∷ works) =
+    if is_at job number work then record work { taken = true } ∷ works else work ∷ marked job number works
+
+-- a work is marked as taken, and no job sees that
+pub record MarksTaken (old : WorkLine) (job : JobNo) (number : ℕ) (new : WorkLine) : Type 0 where
+  pub line : new ≡ record old { works = marked job number old.works }
+  pub same : (other : JobNo) → works_of new other ≡ works_of old other
+
+-- the front is taken, if there is one
+abbrev pub taken_front : WorkLine → Option Asked → WorkLine
+taken_front line None = line
+taken_front line (Some asked) = record line { works = marked asked.job asked.number line.works }
+
+pub record Takes (old : WorkLine) (told : Option Asked) (new : WorkLine) : Type 0 where
+  pub told_is : told ≡ front_of old.works
+  pub line : new ≡ taken_front old told
+  pub same : (job : JobNo) → works_of new job ≡ works_of old job
+
+-- ---- answering
+
+abbrev pub work_at : WorkLine → JobNo → ℕ → Option Queued
+work_at line job number = find (is_at job number) line.works
+
+-- why a work can't end: there is none, or nobody took it
+abbrev pub finish_check : WorkLine → JobNo → ℕ → Option Refusal
+finish_check line job number =
+    elim (work_at line job number) [ None ↦ Some Stale | Some work ↦ if work.taken then None else Some Stale ]
+
+-- the work leaves the line
+pub record Finishes (old : WorkLine) (job : JobNo) (number : ℕ) (asked : Asked) (new : WorkLine) : Type 0 where
+  pub found : work_at old job number ≡ Some (record { asked = asked; taken = true })
+  pub line : new ≡ record old { works = filter (λ work. not (is_at job number work)) old.works }
+  -- the job's own part
+  pub own_work : find (λ work. work.number == number) (works_of old job) ≡ Some (shown asked)
+  pub own_works : works_of new job ≡ filter (λ work. not (work.number == number)) (works_of old job)
+  pub others : (other : JobNo) → same_job job other ≡ false → works_of new other ≡ works_of old other
+
+-- ---- the end of a job
+
+-- the job's works leave the line, and its numbers are forgotten
+pub record Drops (old : WorkLine) (job : JobNo) (new : WorkLine) : Type 0 where
+  pub works : new.works ≡ filter (λ work. not (is_of job work)) old.works
+  pub own_works : works_of new job ≡ []
+  pub own_used : used_by new job ≡ 0
+  pub others : (other : JobNo) → same_job job other ≡ false → IsSameFor other old new

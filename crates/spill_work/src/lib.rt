@@ -1,0 +1,178 @@
+//! The device works of all jobs of a node: numbered for each job, handed out in the order in which they
+//! were asked for, and answered. A contract sees them as the line of all works and the numbers used by
+//! each job; what one job sees of it is told beside, and what the others see stays.
+#![tactic(auto)]
+
+ghost use Rattle.std.specs.Prelude.{◌≡◌, ◌≢◌, ◌+◌, [], Some, None, IfOk, OnOk, OnErr, IsOk, IsErrOf};
+ghost use Rattle.obj_id.specs.declared.refusals.Refusal.{Refusal};
+ghost use Rattle.obj_id.specs.declared.refusals.Refusal.TheVariants.{NoMemory};
+ghost use Rattle.spill_work.specs.Line.{WorkLine, same_job, used_by, in_flight as in_flight_lem, room_for as room_for_lem, ask_check as ask_check_lem, Asks, front_of, Takes, MarksTaken, finish_check as finish_check_lem, Finishes, Drops};
+
+mod queue;
+
+use indexmap::IndexMap;
+use obj_id::{JobNo, ObjectId, Refusal, WorkKind};
+pub use queue::{Asked, Queued};
+use std::alloc::{AllocError, Global};
+use std::marker::Model;
+
+/// How many works of a job may be in flight.
+const MOST_WORKS: u64 = 8;
+
+/// The works in flight of all jobs.
+#[derive(Drop)]
+pub struct Works {
+    // in the order asked
+    line: Vec<Queued>,
+    // the last number that a work of the job had
+    used: IndexMap<JobNo, u64>,
+}
+
+impl Model for Works {
+    ghost use Rattle.spill_work.specs.Line.{WorkLine};
+
+    ghost Value = { WorkLine };
+
+    ghost view = { λ w. record { works = w.line.items; used = w.used.entries } };
+}
+
+impl Works {
+    /// No works.
+    pub fn new(alloc: Global) -> Works
+        ensures { result ≡ record { works = []; used = [] } }
+    {
+        Works {
+            line: Vec::new(alloc),
+            used: IndexMap::new(alloc),
+        }
+    }
+
+    /// How many works of the job are in flight. Takes a scan of the line, which has at most 8 works of
+    /// each job.
+    pub fn in_flight(&self, job: JobNo) -> usize
+        ensures { result ≡ in_flight_lem self.now job }
+    {
+        queue::count_of(&self.line, job)
+    }
+
+    /// The last number that a work of the job had, or 0.
+    pub fn asked(&self, job: JobNo) -> u64
+        ensures { result ≡ used_by self.now job }
+    {
+        self.used.get(&job).copied().unwrap_or(0)
+    }
+
+    /// Whether `n` works more of the job may be asked for.
+    pub fn room_for(&self, job: JobNo, n: u32) -> bool
+        ensures { result ≡ room_for_lem self.now job n }
+    {
+        let n = u64::from(n);
+        n <= MOST_WORKS
+            && self.in_flight(job) as u64 <= MOST_WORKS - n
+            && self.asked(job) <= u64::MAX - n
+    }
+
+    /// Asks for a work of the job on the object, under the job's next number, which it gives. `Busy` at
+    /// 8 works in flight, `TooMany` where no number is left, `NoMemory` last. A refusal uses no number
+    /// and changes nothing.
+    pub fn ask(&mut self, job: JobNo, id: ObjectId, kind: WorkKind) -> Result<u64, Refusal>
+        ensures ok { IfOk result (λ number. Asks self.old (record { job = job; number = number; id = id; kind = kind }) self.new) }
+        ensures passed { IsOk result → ask_check_lem self.old job ≡ None }
+        ensures refused { (r : Refusal) → r ≢ NoMemory → IsErrOf result r → ask_check_lem self.old job ≡ Some r }
+        ensures memory { IsErrOf result NoMemory → ask_check_lem self.old job ≡ None }
+        ensures err { OnErr result (self.new ≡ self.old) }
+    {
+        if let Some(refusal) = self.ask_check(job) {
+            return Err(refusal);
+        }
+        let number = self.asked(job) + 1;
+        let asked = Asked {
+            job,
+            number,
+            id,
+            kind,
+        };
+        self.append(asked)?;
+        Ok(number)
+    }
+
+    /// Why no work of the job can be asked for: `Busy`, `TooMany`, or nothing.
+    pub fn ask_check(&self, job: JobNo) -> Option<Refusal>
+        ensures { result ≡ ask_check_lem self.now job }
+    {
+        if self.in_flight(job) as u64 >= MOST_WORKS {
+            return Some(Refusal::Busy);
+        }
+        if self.asked(job) < u64::MAX {
+            None
+        } else {
+            Some(Refusal::TooMany)
+        }
+    }
+
+    /// The work that is handed out next: of all jobs' the first that nobody has taken.
+    pub fn front(&self) -> Option<Asked>
+        ensures { result ≡ front_of self.now.works }
+    {
+        queue::front(&self.line)
+    }
+
+    /// Marks a job's work as taken, if there is one under the number. Takes no memory.
+    pub fn mark_taken(&mut self, job: JobNo, number: u64)
+        ensures { MarksTaken self.old job number self.new }
+    {
+        queue::mark(&mut self.line, job, number);
+    }
+
+    /// Hands out the front and marks it as taken. Takes no memory.
+    pub fn take(&mut self) -> Option<Asked>
+        ensures { Takes self.old result self.new }
+    {
+        let asked = self.front()?;
+        self.mark_taken(asked.job, asked.number);
+        Some(asked)
+    }
+
+    /// A worker answered the work: it leaves the line. `Stale` where the job has no such work in flight
+    /// or nobody took it, and then nothing changes. Takes no memory.
+    pub fn finish(&mut self, job: JobNo, number: u64) -> Result<Asked, Refusal>
+        ensures ok { IfOk result (λ asked. Finishes self.old job number asked self.new) }
+        ensures passed { IsOk result → finish_check_lem self.old job number ≡ None }
+        ensures refused { (r : Refusal) → IsErrOf result r → finish_check_lem self.old job number ≡ Some r }
+        ensures err { OnErr result (self.new ≡ self.old) }
+    {
+        match queue::work_at(&self.line, job, number) {
+            Some(work) if work.taken => {
+                queue::take_out(&mut self.line, job, number);
+                Ok(work.asked)
+            }
+            _ => Err(Refusal::Stale),
+        }
+    }
+
+    /// The job ends: its works leave the line, and its numbers are forgotten. Takes no memory.
+    pub fn drop_job(&mut self, job: JobNo)
+        ensures { Drops self.old job self.new }
+    {
+        queue::take_out_all(&mut self.line, job);
+        self.used.shift_remove(&job);
+    }
+
+    /// The work comes last in the line, and its number is the job's last. A failure changes nothing.
+    fn append(&mut self, asked: Asked) -> Result<(), AllocError>
+        requires { asked.number ≡ used_by self.old asked.job + 1 }
+        ensures ok { OnOk result (Asks self.old asked self.new) }
+        ensures err { OnErr result (self.new ≡ self.old) }
+    {
+        // all growth comes first, so that the push can't fail
+        self.line.reserve(1)?;
+        self.used.insert(asked.job, asked.number)?;
+        self.line
+            .push(Queued {
+                asked,
+                taken: false,
+            })
+            .unwrap();
+        Ok(())
+    }
+}
