@@ -14,8 +14,8 @@ use Rattle.std.proofs.lemmas.Bool.Decides.{nat_tests}
 use Rattle.obj_id.specs.declared.commands.CopyState.TheVariants.{Sealed}
 use Rattle.private_store.specs.Commands.{without_session}
 use Rattle.private_store.proofs.KeptHolds.{holds_keep}
-use Rattle.private_store.proofs.KeptCopy.{and_left, T_true}
 use Rattle.pins_holds.specs.Sessions.{count_of, with_count, total, AreHolds}
+use Rattle.private_store.proofs.Tests.{T_true, both_left}
 
 less_is : (r : Ordering) → T (is_lt r) → r ≡ Less
 less_is Less h = refl
@@ -122,7 +122,7 @@ total-without k es h = ap (λ xs. total xs + count_of es k) (sym (remove_entry-w
 -- ---- what always holds
 
 pub rising : (es : List (ℕ × ℕ)) → AreHolds es → T (is_sorted nat_cmp es)
-rising es h = T_true _ (and_left _ _ h.sessions)
+rising es h = T_true _ (both_left _ _ h.sessions)
 
 not_none : (n : ℕ) → 0 < n → (n == 0) ≡ false
 not_none n some = grind (arith, nat_tests)
