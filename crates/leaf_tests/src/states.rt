@@ -80,6 +80,7 @@ fn a_write_backs_a_copy_unless_it_fails(rt: HostRuntime) -> Result<(), Fail> {
     assert_eq!(rt; copy.working(), None);
     assert!(rt; !copy.can_spill());
     copy = sealed(Kind::Primary)?;
+    assert!(rt; copy.can_spill());
     copy.begin_spill();
     copy.end_spill(6, true);
     assert_eq!(rt; copy.backed(), None);
@@ -137,6 +138,7 @@ fn what_may_go_is_idle(rt: HostRuntime) -> Result<(), Fail> {
     assert!(rt; doomed.doomed());
     assert!(rt; !doomed.is_spillable(false, false));
     let mut written = primary;
+    assert!(rt; written.can_spill());
     written.begin_spill();
     assert!(rt; written.is_passing(true, false, false));
     assert!(rt; !written.is_passing(true, true, false));

@@ -5,6 +5,7 @@ use std::process::Abort;
 use std::test::Fail;
 
 const ONE: JobNo = JobNo(1);
+
 const TWO: JobNo = JobNo(2);
 
 fn object(job: JobNo, index: u32) -> Result<ObjectId, Refusal> {
@@ -79,7 +80,11 @@ fn a_work_is_finished_once_and_only_when_taken(rt: HostRuntime) -> Result<(), Fa
     assert_eq!(rt; name(Some(work)), Some((ONE, 1)));
     assert_eq!(rt; works.finish(ONE, 1), Err(Refusal::Stale));
     assert_eq!(rt; works.in_flight(ONE), 0);
-    assert_eq!(rt; ask(&rt, &mut works, ONE, 1), Ok(2), "no number comes again");
+    assert_eq!(rt;
+        ask(&rt, &mut works, ONE, 1),
+        Ok(2),
+        "no number comes again"
+    );
     Ok(())
 }
 
