@@ -1,0 +1,3 @@
+pub mod CacheOrders
+pub mod AllOrders
+pub mod Reorders
