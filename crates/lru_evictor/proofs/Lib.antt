@@ -1,3 +1,6 @@
 pub mod CacheOrders
 pub mod AllOrders
 pub mod Reorders
+pub mod Free
+pub mod Shortest
+pub mod Needed

@@ -3,9 +3,12 @@
 //! the asking job's copies, which it looks up one at a time.
 #![tactic(auto)]
 
+mod facts;
 mod job_order;
 mod laws;
+mod search;
 mod use_order;
 
+pub use facts::{CopyFacts, CopyLookup, DeviceRoom, Plan};
 pub use laws::orders_follow_the_steps;
 pub use use_order::{Order, UseOrder};
