@@ -1,12 +1,15 @@
 -- How many have to go.
-use Rattle.std.proofs.Common.{◌≡◌, ℕ, ◌+◌, ◌-◌, ◌<◌, ◌≤◌, Bool, true, false, List, [], ◌∷◌, ◌++◌, take, drop, length, Option, Some, None, refl, sym, ap, subst, ◌∙◌, arith, append_assoc, ⊎_elim, length-append, length-drop, append-nil}
+use Rattle.std.proofs.Common.{◌≡◌, ℕ, ◌+◌, ◌-◌, ◌<◌, ◌≤◌, Bool, true, false, List, [], ◌∷◌, ◌++◌, take, drop, length, Option, Some, None, refl, sym, ap, subst, ◌∙◌, arith, cond, append_assoc, ⊎_elim, length-append, length-drop, append-nil}
+use Rattle.std.specs.Prelude.{IfSome, IfNone}
+use Rattle.std.specs.Option.{option_map}
 use Rattle.std.proofs.lemmas.Bool.{cases_lt}
 use Rattle.std.proofs.Math.Seq.{take-append-add}
-use Rattle.std.proofs.lemmas.List.{take-append-drop, take-take, take_all, drop_all, take-append-le, length-take, drop-take}
+use Rattle.std.proofs.lemmas.List.{take-append-drop, take-take, take_all, drop_all, take-append-le, drop-append-le, length-take, drop-take}
 use Rattle.obj_id.specs.declared.ids.ObjectId.{ObjectId}
 use Rattle.job_region.specs.Region.{Region}
 use Rattle.private_store.specs.Room.{shortest}
-use Rattle.lru_evictor.specs.Facts.{Looked, fits_without, AreNeeded}
+use Rattle.lru_evictor.specs.declared.facts.Choice.{Choice}
+use Rattle.lru_evictor.specs.Facts.{Looked, passes_at, chosen, fits_without, AreNeeded}
 use Rattle.lru_evictor.proofs.Free.{fits-more}
 use Rattle.lru_evictor.proofs.Shortest.{shortest-found, shortest-none}
 
@@ -89,3 +92,43 @@ module _ (window : Region) (facts : Looked) (n : ℕ) (base : List ObjectId) whe
           let big : length base + j ≤ length (base ++ all) = omega (arith, length-append base all, le) in
           let every : fits_without window facts n (take (length (base ++ all)) (base ++ all)) ≡ false = ap (fits_without window facts n) (take_all (length (base ++ all)) (base ++ all) (omega arith) ∙ sym is) ∙ bad in
           ap (fits_without window facts n) (at j) ∙ fewer_fail window facts n (base ++ all) (length (base ++ all)) (length base + j) big every
+
+-- one more is chosen
+module _ (base ids new : List ObjectId) (id : ObjectId) (pushed : new ≡ ids ++ id ∷ []) (room : length base ≤ length ids) where
+  pub length-pushed : length new ≡ length ids + 1
+  length-pushed = ap length pushed ∙ length-append ids (id ∷ [])
+
+  pub front-pushed : take (length base) ids ≡ base → take (length base) new ≡ base
+  front-pushed front = ap (take (length base)) pushed ∙ take-append-le (length base) ids (id ∷ []) room ∙ front
+
+  pub take-pushed : (k : ℕ) → k ≤ length ids → take k new ≡ take k ids
+  take-pushed k le = ap (take k) pushed ∙ take-append-le k ids (id ∷ []) le
+
+  pub behind-pushed : (facts : Looked) (choice : Choice) (left next all : List ObjectId) → left ≡ id ∷ next → passes_at facts choice id ≡ true
+      → drop (length base) ids ++ chosen facts choice left ≡ all → drop (length base) new ++ chosen facts choice next ≡ all
+  behind-pushed facts choice left next all step passed behind =
+      let here : chosen facts choice left ≡ id ∷ chosen facts choice next = ap (chosen facts choice) step ∙ ap (λ b. cond b (id ∷ chosen facts choice next) (chosen facts choice next)) passed in
+      ap (λ xs. drop (length base) xs ++ chosen facts choice next) pushed
+      ∙ ap (λ xs. xs ++ chosen facts choice next) (drop-append-le (length base) ids (id ∷ []) room)
+      ∙ append_assoc (drop (length base) ids) (id ∷ []) (chosen facts choice next)
+      ∙ ap (λ xs. drop (length base) ids ++ xs) (sym here)
+      ∙ behind
+
+-- what the last test says, when the walk is at its end
+module _ (window : Region) (facts : Looked) (n : ℕ) (base ids rest all : List ObjectId) (front : take (length base) ids ≡ base) (behind : drop (length base) ids ++ rest ≡ all) where
+  whole_of : rest ≡ [] → ids ≡ base ++ all
+  whole_of done = sym (take-append-drop (length base) ids) ∙ (λ i. front i ++ (sym (append-nil (drop (length base) ids)) ∙ ap (λ xs. drop (length base) ids ++ xs) (sym done) ∙ behind) i)
+
+  module _ (few : ℕ) (low : length base ≤ few) (bad : fits_without window facts n (take few ids) ≡ false) where
+    pub found-last : (r : Option ℕ) → IfSome r (AreNeeded window facts n ids) → IfNone r (fits_without window facts n ids ≡ false) → rest ≡ []
+        → option_map (λ k. drop (length base) (take k ids)) r ≡ shortest (λ out. fits_without window facts n (base ++ out)) all
+    found-last None some none done = found_none window facts n base ids all (whole_of done) none
+    found-last (Some k) some none done = found_here window facts n ids base rest all front behind k (omega (arith, low, above_few window facts n ids few k bad some)) some
+
+    pub within-last : (r : Option ℕ) → IfSome r (AreNeeded window facts n ids) → IfSome r (λ k. (length base ≤ k) × (k ≤ length ids))
+    within-last None some = tt
+    within-last (Some k) some = (omega (arith, low, above_few window facts n ids few k bad some), some.within)
+
+  pub all-last : (r : Option ℕ) → rest ≡ [] → IfNone r (ids ≡ base ++ all)
+  all-last None done = whole_of done
+  all-last (Some k) done = tt

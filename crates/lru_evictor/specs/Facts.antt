@@ -33,9 +33,13 @@ gone_of facts out = filter_map (λ id. option_and_then (λ copy. copy.extent) (f
 abbrev pub fits_without : Region → Looked → ℕ → List ObjectId → Bool
 fits_without window facts n out = is_some (first (extents_of (without (gone_of facts out) window.placed)) window.quota n)
 
--- the device bytes that spilling these copies takes
+-- the device bytes that spilling a copy takes
+abbrev pub bytes_at : Looked → ObjectId → ℕ
+bytes_at facts id = option_map_or (λ copy. copy.bytes) (facts id) 0
+
+-- those that spilling these copies takes
 abbrev pub device_bytes : Looked → List ObjectId → ℕ
-device_bytes facts ids = sum (map (λ id. option_map_or (λ copy. copy.bytes) (facts id) 0) ids)
+device_bytes facts ids = sum (map (bytes_at facts) ids)
 
 -- the first k of these copies have to go for n bytes to fit, and no more of them
 pub record AreNeeded (window : Region) (facts : Looked) (n : ℕ) (ids : List ObjectId) (k : ℕ) : Type 0 where

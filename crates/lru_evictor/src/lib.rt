@@ -6,6 +6,7 @@
 mod facts;
 mod job_order;
 mod laws;
+mod plans;
 mod search;
 mod use_order;
 

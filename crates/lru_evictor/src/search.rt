@@ -178,5 +178,6 @@ pub(crate) fn shortest<C: CopyLookup>(
             left = few - always;
         }
     }
-    needed(alloc, window, copies, ids, few, len)
+    let count = needed(alloc, window, copies, ids, few, len)?;
+    Ok(count)
 }
