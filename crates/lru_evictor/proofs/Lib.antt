@@ -4,3 +4,4 @@ pub mod Reorders
 pub mod Free
 pub mod Shortest
 pub mod Needed
+pub mod Described
