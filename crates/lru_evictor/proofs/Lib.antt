@@ -5,3 +5,4 @@ pub mod Free
 pub mod Shortest
 pub mod Needed
 pub mod Described
+pub mod Planned
