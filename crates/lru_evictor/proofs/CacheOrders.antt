@@ -1,5 +1,5 @@
 -- What a cache's entries, the most recently used first, say of the order of use.
-use Rattle.std.proofs.Common.{◌≡◌, ℕ, ◌-◌, ◌≤◌, Bool, true, false, not, ◌||◌, List, [], ◌∷◌, ◌++◌, length, take, filter, reverse, Option, Some, None, refl, sym, ap, subst, ◌∙◌, is_some, cond}
+use Rattle.std.proofs.Common.{◌≡◌, ◌-◌, ◌≤◌, Bool, true, false, not, ◌||◌, List, [], ◌∷◌, ◌++◌, length, take, filter, reverse, Option, Some, None, refl, sym, ap, subst, ◌∙◌, is_some, cond}
 use Rattle.std.specs.List.{list_any, IsDistinct, AllByRecursion}
 use Rattle.std.specs.Map.{lookup_entry, remove_entry, keys_of}
 use Rattle.std.specs.Option.{option_map_or}
@@ -8,7 +8,7 @@ use Rattle.std.proofs.lemmas.List.Elements.{filter-append}
 use Rattle.std.proofs.lemmas.List.Folds.{list_any-append}
 use Rattle.std.proofs.lemmas.Map.Keys.{IsDistinct-head, IsDistinct-tail}
 use Rattle.lru.specs.LruCache.{LruCache, promoted, put_entries}
-use Rattle.obj_id.specs.Ids.{id_eq, same_id}
+use Rattle.obj_id.specs.Ids.{id_eq}
 use Rattle.obj_id.specs.declared.ids.ObjectId.{ObjectId}
 use Rattle.obj_id.proofs.SameIds.{same_id-id_eq, id_eq-equal}
 use Rattle.private_store.specs.Tables.{is_among}

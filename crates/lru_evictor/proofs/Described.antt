@@ -1,13 +1,12 @@
 -- What the window and the facts of copies say of the store that they describe.
-use Rattle.std.proofs.Common.{◌≡◌, ℕ, ◌+◌, Bool, true, false, not, ◌&&◌, ◌||◌, List, [], ◌∷◌, ◌++◌, Option, Some, None, refl, sym, ap, subst, ◌∙◌, cond, nat_eq, is_some, length, filter, T, Contains, sum, map}
-use Rattle.std.specs.Prelude.{◌↔◌, nat_le, filter_map, nat_lt}
-use Rattle.std.specs.List.{list_any, list_all, AllByRecursion, AllPass}
+use Rattle.std.proofs.Common.{◌≡◌, ℕ, ◌+◌, Bool, true, false, not, ◌&&◌, ◌||◌, List, [], ◌∷◌, Option, Some, None, refl, sym, ap, subst, ◌∙◌, cond, nat_eq, is_some, filter, Contains, sum, map}
+use Rattle.std.specs.Prelude.{◌↔◌, nat_le, filter_map}
+use Rattle.std.specs.List.{list_all, AllByRecursion}
 use Rattle.std.specs.List.{cons_option}
 use Rattle.std.specs.Option.{option_map, option_map_or, option_and_then}
 use Rattle.std.specs.Ordering.{is_eq, is_lt, ordering_reverse}
 use Rattle.std.specs.declared.cmp.Ordering.{Ordering}
 use Rattle.std.specs.declared.cmp.Ordering.TheVariants.{Less, Equal, Greater}
-use Rattle.std.specs.FinMap.{find}
 use Rattle.std.specs.FinMap.Entries.{below_all, is_sorted}
 use Rattle.std.specs.Cmp.{tied_itself}
 use Rattle.std.proofs.lemmas.Bool.Decides.{nat_tests}
@@ -19,12 +18,11 @@ use Rattle.obj_id.specs.declared.works.Extent.{Extent}
 use Rattle.obj_id.specs.Ids.{id_cmp, same_id}
 use Rattle.obj_id.proofs.SameIds.{id_cmp-IsTotalOrder, same_id-equal}
 use Rattle.private_store.specs.Tables.{ById, at, is_among}
-use Rattle.private_store.specs.Extents.{rounded, end_of, is_apart, is_free, first}
+use Rattle.private_store.specs.Extents.{rounded, is_apart, first}
 use Rattle.private_store.specs.Shape.{Copy, Shape}
 use Rattle.private_store.specs.Copies.{extent_of, is_evictable, is_passing, is_spillable}
 use Rattle.private_store.specs.Room.{in_order, offset_without, bytes_of_copies}
 use Rattle.job_region.specs.Region.{Region, extents_of, without}
-use Rattle.lru_evictor.specs.declared.facts.CopyFacts.{CopyFacts}
 use Rattle.lru_evictor.specs.declared.facts.DeviceRoom.{DeviceRoom}
 use Rattle.lru_evictor.specs.declared.facts.Choice.{Choice}
 use Rattle.lru_evictor.specs.declared.facts.Choice.TheVariants.{Evictable, Passing, Spillable}

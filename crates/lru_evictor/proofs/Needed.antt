@@ -1,10 +1,10 @@
 -- How many have to go.
-use Rattle.std.proofs.Common.{◌≡◌, ℕ, ◌+◌, ◌-◌, ◌<◌, ◌≤◌, Bool, true, false, List, [], ◌∷◌, ◌++◌, take, drop, length, Option, Some, None, refl, sym, ap, subst, ◌∙◌, arith, cond, append_assoc, ⊎_elim, length-append, length-drop, append-nil}
+use Rattle.std.proofs.Common.{◌≡◌, ℕ, ◌+◌, ◌-◌, ◌<◌, ◌≤◌, Bool, true, false, List, [], ◌∷◌, ◌++◌, take, drop, length, Option, Some, None, refl, sym, ap, ◌∙◌, arith, cond, append_assoc, ⊎_elim, length-append, length-drop, append-nil}
 use Rattle.std.specs.Prelude.{IfSome, IfNone}
 use Rattle.std.specs.Option.{option_map}
 use Rattle.std.proofs.lemmas.Bool.{cases_lt}
 use Rattle.std.proofs.Math.Seq.{take-append-add}
-use Rattle.std.proofs.lemmas.List.{take-append-drop, take-take, take_all, drop_all, take-append-le, drop-append-le, length-take, drop-take}
+use Rattle.std.proofs.lemmas.List.{take-append-drop, take-take, take_all, drop_all, take-append-le, drop-append-le, drop-take}
 use Rattle.obj_id.specs.declared.ids.ObjectId.{ObjectId}
 use Rattle.job_region.specs.Region.{Region}
 use Rattle.private_store.specs.Room.{shortest}

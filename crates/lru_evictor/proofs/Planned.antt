@@ -1,16 +1,16 @@
 -- The searches' answers are the plan of the rule of room.
-use Rattle.std.proofs.Common.{◌≡◌, ℕ, ◌+◌, ◌-◌, ◌==◌, List, [], ◌∷◌, ◌++◌, Option, Some, None, refl, sym, ap, ◌∙◌, is_some, take, drop, length}
+use Rattle.std.proofs.Common.{◌≡◌, ℕ, ◌+◌, ◌-◌, ◌==◌, List, [], ◌∷◌, ◌++◌, Option, Some, None, sym, ap, ◌∙◌, is_some, take, drop, length}
 use Rattle.std.specs.Option.{option_map}
 use Rattle.std.specs.Prelude.{nat_lt, if◌then◌else◌}
 use Rattle.obj_id.specs.declared.ids.ObjectId.{ObjectId}
 use Rattle.private_store.specs.Limits.{most_works}
 use Rattle.private_store.specs.Shape.{Shape}
-use Rattle.private_store.specs.Copies.{device_used, is_spillable}
-use Rattle.private_store.specs.Room.{Plan, fits, wait, full, busy, evict, spill, plan, victims, spilled, spill_plan, shortest, offset_without, bytes_of_copies, in_order}
+use Rattle.private_store.specs.Copies.{is_spillable}
+use Rattle.private_store.specs.Room.{Plan, fits, wait, full, busy, evict, spill, plan, victims, spilled, spill_plan, shortest, offset_without, in_order}
 use Rattle.job_region.specs.Region.{Region}
 use Rattle.lru_evictor.specs.declared.facts.DeviceRoom.{DeviceRoom}
 use Rattle.lru_evictor.specs.declared.facts.Choice.TheVariants.{Evictable, Passing, Spillable}
-use Rattle.lru_evictor.specs.Facts.{Looked, chosen, fits_without, device_bytes}
+use Rattle.lru_evictor.specs.Facts.{Looked, chosen, fits_without}
 use Rattle.lru_evictor.specs.Plans.{IsDescribed, evict_here, spill_here}
 use Rattle.lru_evictor.proofs.Described.{fits-described, chosen-evictable, chosen-passing, chosen-spillable, device_bytes-described}
 

@@ -1,6 +1,5 @@
 -- An order of use after a step that used one copy, removed one, or did neither.
 use Rattle.std.proofs.Common.{◌≡◌, Bool, true, false, not, ◌&&◌, List, [], ◌∷◌, ◌++◌, filter, Option, Some, None, refl, sym, ap, ◌∙◌, cond, is_some}
-use Rattle.std.specs.Prelude.{option_to_list}
 use Rattle.std.specs.List.{list_all}
 use Rattle.obj_id.specs.declared.ids.ObjectId.{ObjectId}
 use Rattle.obj_id.specs.Ids.{id_cmp, same_id}

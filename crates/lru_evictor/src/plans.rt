@@ -1,6 +1,6 @@
 //! The plan for room.
 ghost use Rattle.std.specs.Prelude.{◌≡◌, ◌+◌, ◌<◌, ◌≤◌, ◌++◌, List, Some, None, take, drop, length, nat_lt, IfOk, IfErr};
-ghost use Rattle.obj_id.specs.declared.ids.ObjectId.{ObjectId};
+ghost use Rattle.obj_id.specs.declared.refusals.Refusal.{Refusal};
 ghost use Rattle.private_store.specs.Shape.{Shape};
 ghost use Rattle.private_store.specs.Room.{plan as room_plan};
 ghost use Rattle.lru_evictor.specs.Orders.{order_of};
@@ -11,15 +11,15 @@ use crate::facts::{Choice, CopyLookup, DeviceRoom, Plan};
 use crate::search::{gather, shortest};
 use crate::use_order::UseOrder;
 use job_region::Window;
-use obj_id::{Items, JobNo, ObjectId};
-use std::alloc::{AllocError, Global};
+use obj_id::{Items, JobNo, ObjectId, Refusal};
+use std::alloc::Global;
 
 /// As many device works as a job may have in flight.
 const MOST_WORKS: usize = 8;
 
 impl UseOrder {
     /// How room for an object of `len` bytes is made in the job's window, by the rule of room over the
-    /// job's copies alone. Changes nothing; fails for want of memory alone.
+    /// job's copies alone. `NoMemory` alone; changes nothing.
     ///
     /// Takes one search of the window where there is room. Else it walks the job's order until enough
     /// copies are found, one look-up each, and searches the window as often as twice the logarithm of how
@@ -32,13 +32,22 @@ impl UseOrder {
         device: DeviceRoom,
         window: &Window,
         copies: &C,
-    ) -> Result<Plan, AllocError>
-        ensures { IfOk result (λ p. (store : Shape) → IsDescribed store window.now device (C.facts copies.now)
+    ) -> Result<Plan, Refusal>
+        ensures plan { IfOk result (λ p. (store : Shape) → IsDescribed store window.now device (C.facts copies.now)
             → shown p ≡ room_plan (order_of job.0 self.now) store len) }
+        ensures memory { (r : Refusal) → result ≡ Err r → r ≡ Refusal.NoMemory }
     {
         let mut ids = Vec::new(alloc);
         let order = self.order(job);
-        let evicted = shortest(alloc, order, Choice::Evictable, window, copies, len, &mut ids)?;
+        let evicted = shortest(
+            alloc,
+            order,
+            Choice::Evictable,
+            window,
+            copies,
+            len,
+            &mut ids,
+        )?;
         if let Some(count) = evicted {
             ids.truncate(count);
             return Ok(eviction(ids));
@@ -46,7 +55,15 @@ impl UseOrder {
         gather(self.order(job), Choice::Passing, copies, &mut ids)?;
         let passing = ids.len();
         let order = self.order(job);
-        match shortest(alloc, order, Choice::Spillable, window, copies, len, &mut ids)? {
+        match shortest(
+            alloc,
+            order,
+            Choice::Spillable,
+            window,
+            copies,
+            len,
+            &mut ids,
+        )? {
             None => Ok(Plan::Full),
             Some(count) => {
                 ids.truncate(count);

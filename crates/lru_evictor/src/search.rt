@@ -12,7 +12,7 @@ use job_region::Window;
 use obj_id::{Extent, ObjectId, Refusal};
 use std::alloc::{AllocError, Global};
 
-/// The place among copies of one that a walk chooses.
+/// Whether a walk chooses the copy of the id, if there is one.
 fn chooses<C: CopyLookup>(choice: Choice, copies: &C, id: &ObjectId) -> bool
     ensures { result ≡ passes_at (C.facts copies.now) choice id.now }
 {

@@ -91,7 +91,9 @@ impl UseOrder {
         ensures { result ≡ order_of job.0 self.now }
     {
         match self.jobs.get(&job) {
-            Some(order) => Order { entries: Some(order.iter()) },
+            Some(order) => Order {
+                entries: Some(order.iter()),
+            },
             None => Order { entries: None },
         }
     }

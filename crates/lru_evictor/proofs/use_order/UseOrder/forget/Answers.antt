@@ -1,4 +1,4 @@
-use Rattle.std.proofs.Common.{refl, sym, ap, subst, ◌∙◌, length, nat_lt}
+use Rattle.std.proofs.Common.{refl, sym, ap, subst, ◌∙◌}
 use Rattle.std.specs.Map.{remove_entry}
 use Rattle.lru_evictor.specs.Orders.{without_id, EachHasCopies}
 use Rattle.lru_evictor.proofs.AllOrders.{same_job, kept_write, changed_write, some_left, none_left, kept_removed, changed_emptied}

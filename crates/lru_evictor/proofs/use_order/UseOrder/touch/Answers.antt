@@ -1,4 +1,4 @@
-use Rattle.std.proofs.Common.{refl, sym, ap, ◌∙◌, length, nat_lt}
+use Rattle.std.proofs.Common.{refl, ap, ◌∙◌, length, nat_lt}
 use Rattle.lru_evictor.specs.Orders.{touched}
 use Rattle.lru_evictor.proofs.AllOrders.{kept_write, some_had, changed_write, some_touched}
 use Rattle.lru_evictor.proofs.use_order.UseOrder.touch.Goals as goal
