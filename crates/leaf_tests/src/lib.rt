@@ -3,4 +3,7 @@
 #![tactic(auto)]
 
 #[cfg(test)]
+mod evictor;
+
+#[cfg(test)]
 mod ids;

@@ -38,10 +38,10 @@ impl UseOrder {
         ensures memory { (r : Refusal) → result ≡ Err r → r ≡ Refusal.NoMemory }
     {
         let mut ids = Vec::new(alloc);
-        let order = self.order(job);
+        let least_used = self.order(job);
         let evicted = shortest(
             alloc,
-            order,
+            least_used,
             Choice::Evictable,
             window,
             copies,
