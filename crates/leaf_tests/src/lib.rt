@@ -7,3 +7,6 @@ mod evictor;
 
 #[cfg(test)]
 mod ids;
+
+#[cfg(test)]
+mod windows;
