@@ -112,7 +112,10 @@ fn object(index: u32) -> Result<ObjectId, Refusal> {
 /// Whether these are the ids of these indexes.
 fn are(ids: &[ObjectId], indexes: &[u32]) -> bool {
     ids.len() == indexes.len()
-        && ids.iter().zip(indexes).all(|(id, index)| id.index() == *index)
+        && ids
+            .iter()
+            .zip(indexes)
+            .all(|(id, index)| id.index() == *index)
 }
 
 fn evicts(plan: &Plan, indexes: &[u32]) -> bool {
@@ -242,7 +245,12 @@ fn the_shortest_beginning_is_evicted(rt: HostRuntime) -> Result<(), Fail> {
 #[test]
 fn a_held_copy_stays_and_an_old_one_goes_in_vain(rt: HostRuntime) -> Result<(), Fail> {
     let alloc = rt.alloc();
-    let held = [(16, EVICTABLE), (16, STAYS), (16, EVICTABLE), (16, EVICTABLE)];
+    let held = [
+        (16, EVICTABLE),
+        (16, STAYS),
+        (16, EVICTABLE),
+        (16, EVICTABLE),
+    ];
     assert!(rt; evicts(&plan(alloc, 64, &held, 32, DEVICE)?, &[1, 3, 4]));
     assert!(rt; matches!(&plan(alloc, 64, &held, 48, DEVICE)?, Plan::Full));
     Ok(())
@@ -267,13 +275,25 @@ fn all_that_would_be_spilled_must_fit_the_device(rt: HostRuntime) -> Result<(), 
     assert!(rt; spills(&plan(alloc, 64, &two, 33, DEVICE)?, &[1, 2]));
     let one_left = DeviceRoom { works: 7, ..DEVICE };
     assert!(rt; spills(&plan(alloc, 64, &two, 33, one_left)?, &[1]));
-    let small = DeviceRoom { quota: 79, works: 7, ..DEVICE };
+    let small = DeviceRoom {
+        quota: 79,
+        works: 7,
+        ..DEVICE
+    };
     assert!(rt; matches!(&plan(alloc, 64, &two, 33, small)?, Plan::Full));
     let none_left = DeviceRoom { works: 8, ..DEVICE };
     assert!(rt; matches!(&plan(alloc, 64, &two, 33, none_left)?, Plan::Busy));
-    let neither = DeviceRoom { quota: 79, works: 8, ..DEVICE };
+    let neither = DeviceRoom {
+        quota: 79,
+        works: 8,
+        ..DEVICE
+    };
     assert!(rt; matches!(&plan(alloc, 64, &two, 33, neither)?, Plan::Full));
-    let last = DeviceRoom { quota: u64::MAX, used: u64::MAX, works: 0 };
+    let last = DeviceRoom {
+        quota: u64::MAX,
+        used: u64::MAX,
+        works: 0,
+    };
     assert!(rt; matches!(&plan(alloc, 64, &two, 33, last)?, Plan::Full));
     let young = [(16, SPILLABLE), (16, EVICTABLE), (32, STAYS)];
     assert!(rt; spills(&plan(alloc, 64, &young, 32, DEVICE)?, &[1]));

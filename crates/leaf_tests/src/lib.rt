@@ -4,9 +4,7 @@
 
 #[cfg(test)]
 mod evictor;
-
 #[cfg(test)]
 mod ids;
-
 #[cfg(test)]
 mod windows;

