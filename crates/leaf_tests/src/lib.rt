@@ -3,6 +3,8 @@
 #![tactic(auto)]
 
 #[cfg(test)]
+mod evictor;
+#[cfg(test)]
 mod fetches;
 #[cfg(test)]
 mod ids;
@@ -10,5 +12,7 @@ mod ids;
 mod pins;
 #[cfg(test)]
 mod states;
+#[cfg(test)]
+mod windows;
 #[cfg(test)]
 mod works;

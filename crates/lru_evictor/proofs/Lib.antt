@@ -1,0 +1,8 @@
+pub mod CacheOrders
+pub mod AllOrders
+pub mod Reorders
+pub mod Free
+pub mod Shortest
+pub mod Needed
+pub mod Described
+pub mod Planned

@@ -1,0 +1,79 @@
+//! What a plan for room reads, and what it may be.
+ghost use Rattle.std.specs.Prelude.{◌≡◌, Option};
+ghost use Rattle.obj_id.specs.declared.ids.ObjectId.{ObjectId};
+ghost use Rattle.lru_evictor.specs.Facts.{passes};
+
+use obj_id::{Extent, Items, ObjectId};
+
+/// What the plan reads of a copy.
+#[derive(Clone, Copy, Debug)]
+pub struct CopyFacts {
+    /// Where it lies in the window, if it is resident.
+    pub extent: Option<Extent>,
+    /// Its length in bytes, rounded up to 16: what spilling it takes of the device.
+    pub bytes: u64,
+    /// Sealed, idle, and a secondary or backed: it may be evicted.
+    pub evictable: bool,
+    /// Resident and working, neither held nor granted: it may be evicted once its work has ended.
+    pub passing: bool,
+    /// A sealed primary that is idle, not backed and not doomed: it may be spilled.
+    pub spillable: bool,
+}
+
+/// The copies of one job, looked up by their ids.
+pub trait CopyLookup {
+    ghost use Rattle.lru_evictor.specs.declared.facts.CopyFacts.{CopyFacts};
+
+    ghost facts: { Self → ObjectId → Option CopyFacts };
+
+    /// What the plan reads of the copy of the id, or `None` where there is none.
+    fn facts(&self, id: &ObjectId) -> Option<CopyFacts>
+        ensures { result ≡ facts self.now id.now };
+}
+
+/// What the device has of a job.
+#[derive(Clone, Copy, Debug)]
+pub struct DeviceRoom {
+    /// The bytes that the job may have there.
+    pub quota: u64,
+    /// The bytes that it has there, those that are being written among them.
+    pub used: u64,
+    /// How many of its works are in flight.
+    pub works: usize,
+}
+
+/// How room is made.
+#[derive(Debug, Drop)]
+pub enum Plan {
+    /// It is there.
+    Fits,
+    /// These copies are to be evicted, in this order.
+    Evict(Items<ObjectId>),
+    /// Once the works in flight have ended there is room.
+    Wait,
+    /// There is none, or no device bytes for what would have to be spilled.
+    Full,
+    /// As many works are in flight as may be.
+    Busy,
+    /// These copies are to be spilled, in this order.
+    Spill(Items<ObjectId>),
+}
+
+/// Which copies a walk chooses.
+#[derive(Clone, Copy, Debug)]
+pub(crate) enum Choice {
+    Evictable,
+    Passing,
+    Spillable,
+}
+
+/// Whether a walk chooses the copy.
+pub(crate) fn is_chosen(choice: Choice, facts: CopyFacts) -> bool
+    ensures { result ≡ passes choice facts }
+{
+    match choice {
+        Choice::Evictable => facts.evictable,
+        Choice::Passing => facts.passing,
+        Choice::Spillable => facts.spillable,
+    }
+}

@@ -1,0 +1,15 @@
+//! The order of use of the copies of all jobs, and the plan for room in a job's window. A contract sees
+//! an order of use as the ids of each job, least recently used first; the plan is the rule of room over
+//! the asking job's copies, which it looks up one at a time.
+#![tactic(auto)]
+
+mod facts;
+mod job_order;
+mod laws;
+mod plans;
+mod search;
+mod use_order;
+
+pub use facts::{CopyFacts, CopyLookup, DeviceRoom, Plan};
+pub use laws::orders_follow_the_steps;
+pub use use_order::{Order, UseOrder};
