@@ -18,7 +18,7 @@ use Rattle.job_admission.specs.declared.Live.{Live}
 use Rattle.job_admission.specs.Admissions.{Admissions, same_job, live_at, window_of, lives_of, windows, resize_check}
 
 -- a number compared either way
-turned : (a b : ℕ) → (a == b) ≡ nat_eq b a
+pub turned : (a b : ℕ) → (a == b) ≡ nat_eq b a
 turned a b = grind (arith, nat_tests)
 
 module _ (job : JobNo) where

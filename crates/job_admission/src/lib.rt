@@ -116,10 +116,10 @@ impl Admission {
         ensures refused { (r : Refusal) → IsErrOf result r → r ≡ NotAdmitted }
         ensures err { OnErr result (self.new ≡ self.old) }
     {
-        match self.live.shift_remove(&job) {
-            Some(_) => Ok(()),
-            None => Err(Refusal::NotAdmitted),
+        if self.live.shift_remove(&job).is_none() {
+            return Err(Refusal::NotAdmitted);
         }
+        Ok(())
     }
 
     /// Why the job can't have this quota, as far as the node's memory goes: `NotAdmitted`, `BadSize`,

@@ -3,4 +3,6 @@
 #![tactic(auto)]
 
 #[cfg(test)]
+mod admission;
+#[cfg(test)]
 mod ids;

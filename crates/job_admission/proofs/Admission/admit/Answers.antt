@@ -1,7 +1,8 @@
 use Rattle.std.proofs.Common.{rules, ap, sym, ◌∙◌, nat_eq}
 use Rattle.indexmap.proofs.CallerLemmas.{insert_entry-new}
 use Rattle.job_admission.specs.declared.Live.{Live}
-use Rattle.job_admission.specs.Admissions.{Admissions, place_for, admit_check, admitted, same_job}
+use Rattle.job_admission.specs.Admissions.{Admissions, place_for, admit_check, admitted, same_job, lives_of}
+use Rattle.job_admission.proofs.Neighbours.{lives_of-admitted}
 use Rattle.job_admission.proofs.Admitted.{absent, admitted_is, admitted_kept}
 use Rattle.job_admission.proofs.Admission.admit.Goals as goal
 
@@ -25,3 +26,7 @@ returns-in-Ok-clause-ok c =
     let entries = c.in-Ok.ensures.entries ∙ insert_entry-new same_job c.self.inside.live c.args.job x none in
     admitted_is a c.args.job c.args.quota c.args.key c.in_ok-offset.offset c.self.invariant passed found c.insert.new.self.entries entries
     ∙ ap (λ b. admitted b c.args.job c.args.quota c.args.key) c.self.view_is
+
+pub returns-in-Ok-clause-lives : goal.returns-in-Ok-clause-lives
+returns-in-Ok-clause-lives c =
+    ap (λ (b : Admissions). lives_of b.live) (returns-in-Ok-clause-ok c) ∙ lives_of-admitted c.args.self.now c.args.job c.args.quota c.args.key

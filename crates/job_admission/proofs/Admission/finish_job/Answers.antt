@@ -1,11 +1,12 @@
-use Rattle.std.proofs.Common.{arith, ◌≡◌, true, ap, sym, ◌∙◌}
-use Rattle.std.specs.List.{list_all}
-use Rattle.job_admission.specs.Admissions.{is_live_kept, same_job}
+use Rattle.std.proofs.Common.{arith, ap, not, filter, ◌∙◌}
+use Rattle.job_admission.specs.Admissions.{Admissions, lives_of, is_live_kept, same_job}
+use Rattle.private_store.specs.Shared.{job_is}
+use Rattle.job_admission.proofs.Neighbours.{lives_of-finished}
 use Rattle.job_admission.proofs.AllKept.{all_removed, apart_removed}
 use Rattle.job_admission.proofs.Admission.finish_job.Goals as goal
 
-pub invariant_of-self : goal.invariant_of-self
-invariant_of-self c =
+pub invariant_of-self-2 : goal.invariant_of-self-2
+invariant_of-self-2 c =
     let kept = is_live_kept c.self.inside.memory c.self.inside.greatest in
     record {
       memory = c.self.invariant.memory;
@@ -14,3 +15,8 @@ invariant_of-self c =
       distinct = c.shift_remove.ensures.unique;
       few = omega (arith, c.shift_remove.ensures.len, c.self.invariant.few);
     }
+
+pub returns-clause-lives : goal.returns-clause-lives
+returns-clause-lives c =
+    ap lives_of c.shift_remove.ensures.entries ∙ lives_of-finished c.args.job c.self.inside.live.entries c.self.invariant.distinct
+    ∙ ap (λ (a : Admissions). filter (λ live. not (job_is c.args.job.0 live)) (lives_of a.live)) c.self.view_is

@@ -1,10 +1,12 @@
-use Rattle.std.proofs.Common.{ap, is_some, sym, ◌∙◌, arith}
+use Rattle.std.proofs.Common.{ap, map, is_some, sym, ◌∙◌, arith}
 use Rattle.std.specs.Option.{option_copied_mut}
 use Rattle.private_store.specs.Extents.{is_apart}
 use Rattle.private_store.proofs.Tests.{both_left, both_right}
 use Rattle.job_admission.specs.declared.Live.{Live}
-use Rattle.job_admission.specs.Admissions.{Admissions, live_at, same_job, is_live_kept, window_of, resize_check}
+use Rattle.job_admission.specs.Admissions.{Admissions, lives_of, live_at, same_job, is_live_kept, window_of, resize_check}
 use Rattle.job_admission.proofs.Lookups.{check_absent, check_passed, same_refusal}
+use Rattle.private_store.specs.Shared.{widened}
+use Rattle.job_admission.proofs.Neighbours.{lives_of-resized}
 use Rattle.job_admission.proofs.AllKept.{all_set, apart_put, other_found, kept_resized}
 use Rattle.job_admission.proofs.Admission.resize.Goals as goal
 
@@ -33,3 +35,12 @@ invariant_of-self-2 c =
       distinct = wrote.4;
       few = omega (arith, wrote.2, c.self.invariant.few);
     }
+
+pub returns-clause-lives : goal.returns-clause-lives
+returns-clause-lives c =
+    let x = c.in-Some-get_mut.live.now in
+    let new : Live = record { quota = c.args.quota; key = x.key; offset = x.offset } in
+    let found = sym c.get_mut.ensures.value ∙ ap option_copied_mut c.in-Some-get_mut.is in
+    let wrote = c.get_mut.follows.holds new in
+    ap lives_of wrote.0 ∙ lives_of-resized c.args.job x c.args.quota c.self.inside.live.entries c.self.invariant.distinct found
+    ∙ ap (λ (a : Admissions). map (widened c.args.job.0 c.args.quota.window) (lives_of a.live)) c.self.view_is
