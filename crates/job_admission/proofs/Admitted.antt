@@ -14,7 +14,8 @@ use Rattle.private_store.specs.Extents.{rounded, is_apart, is_free}
 use Rattle.private_store.proofs.FirstFit.{first-free, first-units}
 use Rattle.private_store.proofs.Tests.{both_left, both_right}
 use Rattle.job_admission.specs.declared.Live.{Live}
-use Rattle.job_admission.specs.Admissions.{Admissions, same_job, live_at, window_of, windows, place_for, admit_check, admitted, is_live_kept, AreKept}
+use Rattle.private_store.specs.Jobs.{same_job}
+use Rattle.job_admission.specs.Admissions.{Admissions, live_at, window_of, windows, place_for, admit_check, admitted, is_live_kept, AreKept}
 use Rattle.job_admission.proofs.Search.{at, free_is}
 use Rattle.job_admission.proofs.AllKept.{window_is, all_raised, all_more, absent_above, admit_passed, kept_new, apart_put, each_found}
 

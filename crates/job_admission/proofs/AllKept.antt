@@ -17,7 +17,8 @@ use Rattle.private_store.specs.Shared.{windows_without}
 use Rattle.private_store.proofs.Tests.{true_false, none_some, some_value, both_left, both_right, both_are, or_swaps}
 use Rattle.job_admission.specs.declared.Live.{Live}
 use Rattle.obj_id.specs.declared.refusals.Refusal.TheVariants.{BadId, BadSize, Exists, NoRoom}
-use Rattle.job_admission.specs.Admissions.{Admissions, largest_memory, admit_check, place_for, same_job, live_at, window_of, lives_of, windows, is_live_kept, AreKept}
+use Rattle.private_store.specs.Jobs.{same_job}
+use Rattle.job_admission.specs.Admissions.{Admissions, largest_memory, admit_check, place_for, live_at, window_of, lives_of, windows, is_live_kept, AreKept}
 use Rattle.job_admission.proofs.Lookups.{length-lives_of, without_more}
 
 -- ---- of one

@@ -15,7 +15,8 @@ use Rattle.private_store.specs.Extents.{end_of, is_apart}
 use Rattle.private_store.specs.Shared.{LiveJob, job_is, windows_without}
 use Rattle.private_store.proofs.Tests.{none_some, some_value}
 use Rattle.job_admission.specs.declared.Live.{Live}
-use Rattle.job_admission.specs.Admissions.{Admissions, same_job, live_at, window_of, lives_of, windows, resize_check}
+use Rattle.private_store.specs.Jobs.{same_job}
+use Rattle.job_admission.specs.Admissions.{Admissions, live_at, window_of, lives_of, windows, resize_check}
 
 -- a number compared either way
 pub turned : (a b : ℕ) → (a == b) ≡ nat_eq b a

@@ -15,7 +15,8 @@ use Rattle.private_store.specs.Shared.{LiveJob, job_is, widened}
 use Rattle.private_store.specs.Shared as shared
 use Rattle.private_store.proofs.Tests.{none_some, some_value}
 use Rattle.job_admission.specs.declared.Live.{Live}
-use Rattle.job_admission.specs.Admissions.{Admissions, same_job, live_at, window_of, lives_of, place_for, admitted, resized}
+use Rattle.private_store.specs.Jobs.{same_job}
+use Rattle.job_admission.specs.Admissions.{Admissions, live_at, window_of, lives_of, place_for, admitted, resized}
 use Rattle.job_admission.proofs.Lookups.{turned}
 
 laws : IsEquivalence same_job

@@ -1,5 +1,5 @@
 -- The live jobs of a node, and their windows in its memory.
-use Rattle.std.specs.Prelude.{◌≡◌, ℕ, ◌+◌, ◌≤◌, ◌==◌, nat_le, nat_lt, nat_eq, Bool, true, false, not, ◌||◌, ◌&&◌, List, [], ◌∷◌, ◌++◌, length, map, Option, Some, None, is_none}
+use Rattle.std.specs.Prelude.{◌≡◌, ℕ, ◌+◌, ◌≤◌, ◌==◌, nat_le, nat_lt, Bool, true, false, not, ◌||◌, ◌&&◌, List, [], ◌∷◌, ◌++◌, length, map, Option, Some, None, is_none}
 use Rattle.std.specs.Option.{option_map_or}
 use Rattle.std.specs.List.{list_all, list_any, IsDistinct}
 use Rattle.std.specs.Map.{keys_of, lookup, set_value, remove_entry}
@@ -9,6 +9,7 @@ use Rattle.obj_id.specs.declared.refusals.Refusal.TheVariants.{NotAdmitted, BadI
 use Rattle.obj_id.specs.declared.works.Extent.{Extent}
 use Rattle.obj_id.specs.declared.works.JobKey.{JobKey}
 use Rattle.obj_id.specs.declared.works.Quota.{Quota}
+use Rattle.private_store.specs.Jobs.{same_job}
 use Rattle.private_store.specs.Limits.{is_quota, most_live_jobs}
 use Rattle.private_store.specs.Extents.{is_apart, first}
 use Rattle.private_store.specs.Kept.{is_placed}
@@ -25,9 +26,6 @@ pub record Admissions : Type 0 where
 -- the bytes of the largest memory of a node
 abbrev pub largest_memory : ℕ
 largest_memory = 17179869184
-
-abbrev pub same_job : JobNo → JobNo → Bool
-same_job a b = nat_eq a.0 b.0
 
 -- the job, where it is live
 abbrev pub live_at : Admissions → JobNo → Option Live

@@ -10,7 +10,8 @@ ghost use Rattle.obj_id.specs.declared.refusals.Refusal.TheVariants.{NotAdmitted
 ghost use Rattle.private_store.specs.Limits.{is_window, is_quota as is_quota_lem};
 ghost use Rattle.private_store.specs.Extents.{is_apart as is_apart_lem, end_of};
 ghost use Rattle.private_store.specs.Shared.{job_is, widened, admitted as admitted_lem, windows_without};
-ghost use Rattle.job_admission.specs.Admissions.{largest_memory, same_job, live_at, window_of, lives_of, windows, place_for, admit_check as admit_check_lem, admitted, resize_check as resize_check_lem, resized, finished, AreKept};
+ghost use Rattle.private_store.specs.Jobs.{same_job};
+ghost use Rattle.job_admission.specs.Admissions.{largest_memory, live_at, window_of, lives_of, windows, place_for, admit_check as admit_check_lem, admitted, resize_check as resize_check_lem, resized, finished, AreKept};
 
 use indexmap::IndexMap;
 use obj_id::{Extent, JobKey, JobNo, Quota, Refusal};

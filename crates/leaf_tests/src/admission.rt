@@ -67,11 +67,22 @@ fn admissions_are_refused_in_their_order(rt: HostRuntime) -> Result<(), Fail> {
     ];
     for (job, window, device, refusal) in rows {
         let asked = Quota { window, device };
-        assert_eq!(rt; node.admit_check(JobNo(job), asked), Some(refusal), "{job}, {window}");
-        assert_eq!(rt; node.admit(JobNo(job), asked, KEY), Err(refusal), "{job}, {window}");
+        assert_eq!(rt;
+            node.admit_check(JobNo(job), asked),
+            Some(refusal),
+            "{job}, {window}"
+        );
+        assert_eq!(rt;
+            node.admit(JobNo(job), asked, KEY),
+            Err(refusal),
+            "{job}, {window}"
+        );
     }
     node.finish_job(JobNo(5))?;
-    assert_eq!(rt; node.admit_check(JobNo(5), quota(16)), Some(Refusal::Exists));
+    assert_eq!(rt;
+        node.admit_check(JobNo(5), quota(16)),
+        Some(Refusal::Exists)
+    );
     assert_eq!(rt; node.admit_check(JobNo(6), quota(16)), None);
     assert_eq!(rt; admitted(&mut node, 6, 16), Ok(()));
     assert_eq!(rt; admitted(&mut node, u32::MAX, 16), Ok(()));
@@ -109,8 +120,16 @@ fn a_quota_changes_where_the_window_lies(rt: HostRuntime) -> Result<(), Fail> {
     ];
     for (job, window, refusal) in rows {
         let asked = quota(window);
-        assert_eq!(rt; node.resize_check(JobNo(job), asked), refusal, "{job}, {window}");
-        assert_eq!(rt; node.resize(JobNo(job), asked).err(), refusal, "{job}, {window}");
+        assert_eq!(rt;
+            node.resize_check(JobNo(job), asked),
+            refusal,
+            "{job}, {window}"
+        );
+        assert_eq!(rt;
+            node.resize(JobNo(job), asked).err(),
+            refusal,
+            "{job}, {window}"
+        );
     }
     assert_eq!(rt; node.window(JobNo(1)), extent(0, 16));
     assert_eq!(rt; node.window(JobNo(2)), extent(1024, 3072));

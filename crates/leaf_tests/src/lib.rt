@@ -5,4 +5,6 @@
 #[cfg(test)]
 mod admission;
 #[cfg(test)]
+mod directory;
+#[cfg(test)]
 mod ids;

@@ -1,7 +1,8 @@
 use Rattle.std.proofs.Common.{rules, ap, sym, ◌∙◌, nat_eq}
 use Rattle.indexmap.proofs.CallerLemmas.{insert_entry-new}
 use Rattle.job_admission.specs.declared.Live.{Live}
-use Rattle.job_admission.specs.Admissions.{Admissions, place_for, admit_check, admitted, same_job, lives_of}
+use Rattle.private_store.specs.Jobs.{same_job}
+use Rattle.job_admission.specs.Admissions.{Admissions, place_for, admit_check, admitted, lives_of}
 use Rattle.job_admission.proofs.Neighbours.{lives_of-admitted}
 use Rattle.job_admission.proofs.Admitted.{absent, admitted_is, admitted_kept}
 use Rattle.job_admission.proofs.Admission.admit.Goals as goal

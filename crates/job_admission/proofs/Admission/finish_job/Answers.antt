@@ -1,5 +1,6 @@
 use Rattle.std.proofs.Common.{arith, ap, not, filter, ◌∙◌}
-use Rattle.job_admission.specs.Admissions.{Admissions, lives_of, is_live_kept, same_job}
+use Rattle.private_store.specs.Jobs.{same_job}
+use Rattle.job_admission.specs.Admissions.{Admissions, lives_of, is_live_kept}
 use Rattle.private_store.specs.Shared.{job_is}
 use Rattle.job_admission.proofs.Neighbours.{lives_of-finished}
 use Rattle.job_admission.proofs.AllKept.{all_removed, apart_removed}

@@ -3,7 +3,8 @@ use Rattle.std.specs.Option.{option_copied_mut}
 use Rattle.private_store.specs.Extents.{is_apart}
 use Rattle.private_store.proofs.Tests.{both_left, both_right}
 use Rattle.job_admission.specs.declared.Live.{Live}
-use Rattle.job_admission.specs.Admissions.{Admissions, lives_of, live_at, same_job, is_live_kept, window_of, resize_check}
+use Rattle.private_store.specs.Jobs.{same_job}
+use Rattle.job_admission.specs.Admissions.{Admissions, lives_of, live_at, is_live_kept, window_of, resize_check}
 use Rattle.job_admission.proofs.Lookups.{check_absent, check_passed, same_refusal}
 use Rattle.private_store.specs.Shared.{widened}
 use Rattle.job_admission.proofs.Neighbours.{lives_of-resized}
