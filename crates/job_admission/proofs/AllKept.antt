@@ -1,14 +1,12 @@
 -- What is kept of all live jobs.
-use Rattle.std.proofs.Common.{◌≡◌, ℕ, ◌+◌, ◌≤◌, ◌<◌, ◌^◌, ◌%◌, Bool, true, false, not, ◌&&◌, ◌||◌, ◌==◌, cond, List, [], ◌∷◌, ◌++◌, Option, Some, None, is_some, is_none, length, map, filter, nat_eq, refl, sym, ap, subst, ◌∙◌, arith}
+use Rattle.std.proofs.Common.{◌≡◌, ℕ, ◌+◌, ◌≤◌, ◌<◌, ◌^◌, ◌%◌, Bool, true, false, not, ◌&&◌, ◌||◌, ◌==◌, cond, List, [], ◌∷◌, ◌++◌, Option, Some, None, is_none, length, map, refl, sym, ap, subst, ◌∙◌, arith}
 use Rattle.std.specs.Prelude.{nat_le, nat_lt}
 use Rattle.std.specs.List.{list_all}
 use Rattle.std.specs.Map.{lookup, remove_entry, set_value}
-use Rattle.std.proofs.lemmas.Bool.{leb-true}
 use Rattle.std.proofs.lemmas.Bool.Decides.{nat_tests}
 use Rattle.std.proofs.lemmas.List.Folds.{list_all-append}
 use Rattle.obj_id.specs.declared.ids.JobNo.{JobNo}
 use Rattle.obj_id.specs.declared.works.Extent.{Extent}
-use Rattle.obj_id.specs.declared.works.JobKey.{JobKey}
 use Rattle.obj_id.specs.declared.works.Quota.{Quota}
 use Rattle.private_store.specs.Limits.{is_quota, is_window, widest_window, most_live_jobs}
 use Rattle.private_store.specs.Extents.{rounded, end_of, is_apart}
@@ -18,7 +16,7 @@ use Rattle.private_store.proofs.Tests.{true_false, none_some, some_value, both_l
 use Rattle.job_admission.specs.declared.Live.{Live}
 use Rattle.obj_id.specs.declared.refusals.Refusal.TheVariants.{BadId, BadSize, Exists, NoRoom}
 use Rattle.private_store.specs.Jobs.{same_job}
-use Rattle.job_admission.specs.Admissions.{Admissions, largest_memory, admit_check, place_for, live_at, window_of, lives_of, windows, is_live_kept, AreKept}
+use Rattle.job_admission.specs.Admissions.{Admissions, largest_memory, admit_check, place_for, window_of, lives_of, windows, is_live_kept}
 use Rattle.job_admission.proofs.Lookups.{length-lives_of, without_more}
 
 -- ---- of one

@@ -1,5 +1,5 @@
 -- The live jobs by number, and as their neighbours may know them.
-use Rattle.std.proofs.Common.{◌≡◌, ℕ, suc, ◌+◌, ◌≤◌, Bool, true, false, not, ◌&&◌, ◌||◌, ◌==◌, cond, List, [], ◌∷◌, ◌++◌, Option, Some, None, is_some, length, map, filter, nat_eq, refl, sym, ap, subst, ◌∙◌, arith}
+use Rattle.std.proofs.Common.{◌≡◌, ℕ, suc, Bool, true, false, not, ◌&&◌, ◌||◌, ◌==◌, cond, List, [], ◌∷◌, Option, Some, None, is_some, length, map, filter, nat_eq, refl, sym, ap, ◌∙◌, arith}
 use Rattle.std.specs.Prelude.{nat_le, find, IsErrOf, Err}
 use Rattle.std.specs.List.{list_all, list_any}
 use Rattle.std.specs.Map.{lookup}
@@ -13,10 +13,10 @@ use Rattle.obj_id.specs.declared.refusals.Refusal.TheVariants.{NotAdmitted, BadS
 use Rattle.private_store.specs.Limits.{is_quota}
 use Rattle.private_store.specs.Extents.{end_of, is_apart}
 use Rattle.private_store.specs.Shared.{LiveJob, job_is, windows_without}
-use Rattle.private_store.proofs.Tests.{none_some, some_value}
+use Rattle.private_store.proofs.Tests.{none_some}
 use Rattle.job_admission.specs.declared.Live.{Live}
 use Rattle.private_store.specs.Jobs.{same_job}
-use Rattle.job_admission.specs.Admissions.{Admissions, live_at, window_of, lives_of, windows, resize_check}
+use Rattle.job_admission.specs.Admissions.{Admissions, live_at, window_of, lives_of, resize_check}
 
 -- a number compared either way
 pub turned : (a b : ℕ) → (a == b) ≡ nat_eq b a

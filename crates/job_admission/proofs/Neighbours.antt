@@ -1,5 +1,5 @@
 -- What an admission, another quota and an end are to a job's neighbours.
-use Rattle.std.proofs.Common.{◌≡◌, ℕ, Bool, true, false, not, ◌==◌, cond, List, [], ◌∷◌, ◌++◌, Option, Some, None, map, filter, refl, sym, ap, subst, ◌∙◌}
+use Rattle.std.proofs.Common.{◌≡◌, ℕ, Bool, true, false, not, cond, List, [], ◌∷◌, ◌++◌, Option, Some, None, map, filter, refl, sym, ap, ◌∙◌}
 use Rattle.std.specs.List.{IsDistinct}
 use Rattle.std.specs.Map.{keys_of, lookup, set_value, remove_entry}
 use Rattle.std.specs.Option.{option_map_or}
@@ -13,10 +13,10 @@ use Rattle.obj_id.specs.declared.works.JobKey.{JobKey}
 use Rattle.obj_id.specs.declared.works.Quota.{Quota}
 use Rattle.private_store.specs.Shared.{LiveJob, job_is, widened}
 use Rattle.private_store.specs.Shared as shared
-use Rattle.private_store.proofs.Tests.{none_some, some_value}
+use Rattle.private_store.proofs.Tests.{some_value}
 use Rattle.job_admission.specs.declared.Live.{Live}
 use Rattle.private_store.specs.Jobs.{same_job}
-use Rattle.job_admission.specs.Admissions.{Admissions, live_at, window_of, lives_of, place_for, admitted, resized}
+use Rattle.job_admission.specs.Admissions.{Admissions, window_of, lives_of, place_for, admitted}
 use Rattle.job_admission.proofs.Lookups.{turned}
 
 laws : IsEquivalence same_job

@@ -1,12 +1,12 @@
 -- The search for the place of a window: behind what is in the way.
-use Rattle.std.proofs.Common.{◌≡◌, ℕ, ◌+◌, ◌*◌, ◌/◌, ◌%◌, ◌<◌, ◌≤◌, Bool, true, false, not, ◌&&◌, ◌||◌, cond, List, [], ◌∷◌, Option, Some, None, refl, sym, ap, subst, ◌∙◌, arith, ⊎_elim}
+use Rattle.std.proofs.Common.{◌≡◌, ℕ, ◌+◌, ◌*◌, ◌/◌, ◌%◌, ◌<◌, ◌≤◌, Bool, true, false, not, ◌&&◌, cond, List, [], ◌∷◌, Option, Some, None, refl, sym, ap, subst, ◌∙◌, arith, ⊎_elim}
 use Rattle.std.specs.Prelude.{nat_le, find}
 use Rattle.std.specs.List.{list_all}
 use Rattle.std.proofs.lemmas.Bool.{cases_lt, leb-true}
 use Rattle.std.proofs.lemmas.Bool.Decides.{nat_tests}
 use Rattle.obj_id.specs.declared.works.Extent.{Extent}
 use Rattle.private_store.specs.Extents.{rounded, end_of, is_apart, is_free, first}
-use Rattle.private_store.proofs.FirstFit.{first-free, first-units, first-least}
+use Rattle.private_store.proofs.FirstFit.{first-free, first-least}
 use Rattle.private_store.proofs.Tests.{true_false, some_value, none_some, both_left, both_right, both_are}
 
 -- what is found passes

@@ -278,10 +278,7 @@ fn is_quota(quota: Quota) -> bool
     ensures { result ≡ is_quota_lem quota }
 {
     let window = quota.window;
-    window >= 16
-        && window <= 268_435_456
-        && window % 16 == 0
-        && quota.device <= 1_099_511_627_776
+    window >= 16 && window <= 268_435_456 && window % 16 == 0 && quota.device <= 1_099_511_627_776
 }
 
 /// Whether no byte lies in both.

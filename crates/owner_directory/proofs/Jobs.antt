@@ -1,5 +1,5 @@
 -- A message applied to its job's row.
-use Rattle.std.proofs.Common.{◌≡◌, Bool, true, false, cond, List, [], ◌∷◌, Option, Some, None, refl, sym, ap, subst, ◌∙◌, arith}
+use Rattle.std.proofs.Common.{◌≡◌, true, cond, [], Some, None, refl, sym, ap, ◌∙◌, arith}
 use Rattle.std.specs.Prelude.{unwrap_or, OnErr, Ok, Err}
 use Rattle.std.specs.declared.result.Result.{Result}
 use Rattle.std.specs.Map.{lookup}
@@ -27,7 +27,7 @@ module _ (job : JobNo) where
       → Applies old new job message
   applied old new message before row was after updated = record {
     own = ap (λ o. unwrap_or o []) (updated job ∙ ap (λ b. cond b (Some row) (lookup (same_job job) old)) (itself job))
-    ∙ after ∙ sym (ap (λ t. locations_after t message) was);
+        ∙ after ∙ sym (ap (λ t. locations_after t message) was);
     others = λ other differ. ap (λ o. unwrap_or o []) (updated other ∙ ap (λ b. cond b (Some row) (lookup (same_job other) old)) differ);
   }
 

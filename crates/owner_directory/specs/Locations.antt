@@ -1,5 +1,5 @@
 -- The locations of all jobs, and what a message of one job does to them.
-use Rattle.std.specs.Prelude.{◌≡◌, ℕ, Bool, true, false, List, [], ◌∷◌, unwrap_or}
+use Rattle.std.specs.Prelude.{◌≡◌, Bool, true, false, List, [], ◌∷◌, unwrap_or}
 use Rattle.std.specs.Map.{lookup}
 use Rattle.obj_id.specs.declared.ids.JobNo.{JobNo}
 use Rattle.obj_id.specs.declared.messages.Location.{Location}

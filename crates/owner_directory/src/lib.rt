@@ -60,7 +60,11 @@ impl Directory {
 
     /// Applies a message of a job to that job's locations, and answers it. `NoMemory` changes nothing; only
     /// `AddLocation` and `Locate` take memory.
-    pub fn apply(&mut self, job: JobNo, message: DirectoryMessage) -> Result<DirectoryReply, Refusal>
+    pub fn apply(
+        &mut self,
+        job: JobNo,
+        message: DirectoryMessage,
+    ) -> Result<DirectoryReply, Refusal>
         ensures locations { OnOk result (Applies self.old self.new job message) }
         ensures posts { IfOk result (λ reply. posts_of reply ≡ directory_posts (locations_of self.old job) message) }
         ensures refused { (r : Refusal) → IsErrOf result r → r ≡ NoMemory }

@@ -77,13 +77,15 @@ impl Row {
     pub fn end_at(&mut self, node: u32)
         ensures { self.new ≡ without_entries_at node self.old }
     {
-        self.objects.retain(|_, entries|
-            ensures left { entries.new ≡ without_node node entries.old }
-            ensures some { IsTrue result ↔ (entries.new ≢ []) }
-        {
-            entries.remove(node);
-            !entries.is_empty()
-        });
+        self.objects.retain(
+            |_, entries|
+                ensures left { entries.new ≡ without_node node entries.old }
+                ensures some { IsTrue result ↔ (entries.new ≢ []) }
+            {
+                entries.remove(node);
+                !entries.is_empty()
+            },
+        );
     }
 
     /// A copy of the object's entries.

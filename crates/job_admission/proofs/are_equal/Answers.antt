@@ -1,4 +1,4 @@
-use Rattle.std.proofs.Common.{below_more, ap, arith, get_or, sym, ◌∙◌, eqb-true}
+use Rattle.std.proofs.Common.{below_more, ap, arith, get_or, sym, ◌∙◌}
 use Rattle.std.proofs.lemmas.Grind.{same_number_lists}
 use Rattle.std.proofs.lemmas.Bool.Decides.{nat_tests}
 use Rattle.job_admission.proofs.Keys.{no_difference, same_byte}
@@ -13,5 +13,5 @@ loop-i-preserved c = record {
 pub returns : goal.returns
 returns c = (
   λ t. same_number_lists c.args.key.now c.args.shown.now (c.told-key ∙ sym c.told-shown) (λ k lt. c.loop-i.invariant.none (grind (arith, nat_tests, t)) k (omega (arith, lt, c.told-key))),
-  λ e. let zero = c.loop-i.invariant.same e in grind (arith, nat_tests, zero)
+  λ e. let zero = c.loop-i.invariant.same e in grind (arith, nat_tests, zero),
 )

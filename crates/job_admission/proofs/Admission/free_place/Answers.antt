@@ -1,6 +1,4 @@
-use Rattle.std.proofs.Common.{◌≡◌, true, None, Some, ap, sym, subst, ◌∙◌, arith}
-use Rattle.std.specs.Prelude.{find}
-use Rattle.std.specs.List.{list_all}
+use Rattle.std.proofs.Common.{ap, sym, subst, ◌∙◌, arith}
 use Rattle.job_admission.specs.Admissions.{Admissions, AreKept, windows}
 use Rattle.job_admission.proofs.Search.{at, is_in_the_way, place_found, place_none, passed_over, found_has, ends_behind}
 use Rattle.job_admission.proofs.AllKept.{is_laid, all_laid, laid_end, window_is}

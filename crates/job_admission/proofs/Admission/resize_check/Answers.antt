@@ -1,6 +1,6 @@
-use Rattle.std.proofs.Common.{◌≡◌, true, ap, sym, ◌∙◌, arith, subst}
+use Rattle.std.proofs.Common.{ap, sym, ◌∙◌, arith}
 use Rattle.std.specs.Option.{option_copied}
-use Rattle.job_admission.specs.Admissions.{AreKept, live_at}
+use Rattle.job_admission.specs.Admissions.{live_at}
 use Rattle.job_admission.proofs.Lookups.{check_absent, check_size, check_room}
 use Rattle.job_admission.proofs.AllKept.{quota_ends}
 use Rattle.job_admission.proofs.Admission.resize_check.Goals as goal

@@ -1,4 +1,4 @@
-use Rattle.std.proofs.Common.{◌≡◌, map, ap, sym, ◌∙◌}
+use Rattle.std.proofs.Common.{map, ap, sym, ◌∙◌}
 use Rattle.std.specs.Prelude.{find}
 use Rattle.std.specs.List.{list_all}
 use Rattle.private_store.specs.Kept.{is_placed}
@@ -12,9 +12,9 @@ loop-live-init c =
     let values = c.into_iter-live-iterator.ensures.into_iter_gives ∙ c.values-live-items.ensures.rest in
     record {
       rest = ap (λ lives. find (is_in_the_way c.args.bytes) (map window_of lives)) values
-      ∙ ap (find (is_in_the_way c.args.bytes)) (windows-values c.self.inside.live.entries)
-      ∙ ap (λ a. find (is_in_the_way c.args.bytes) (windows a.live)) c.self.view_is;
+          ∙ ap (find (is_in_the_way c.args.bytes)) (windows-values c.self.inside.live.entries)
+          ∙ ap (λ a. find (is_in_the_way c.args.bytes) (windows a.live)) c.self.view_is;
       placed = ap (list_all (λ live. is_placed c.args.self.now.memory (window_of live))) values
-      ∙ ap (λ (a : Admissions). list_all (λ live. is_placed a.memory (window_of live)) (map (λ e. e.1) c.self.inside.live.entries)) (sym c.self.view_is)
-      ∙ values_placed c.self.inside.memory c.self.inside.greatest c.self.inside.live.entries c.self.invariant.each;
+          ∙ ap (λ (a : Admissions). list_all (λ live. is_placed a.memory (window_of live)) (map (λ e. e.1) c.self.inside.live.entries)) (sym c.self.view_is)
+          ∙ values_placed c.self.inside.memory c.self.inside.greatest c.self.inside.live.entries c.self.invariant.each;
     }
