@@ -2,7 +2,7 @@
 //! sees them in the order of their admission, each with the offset of its window.
 #![tactic(auto)]
 
-ghost use Rattle.std.specs.Prelude.{◌≡◌, ◌≢◌, ◌↔◌, ℕ, ◌+◌, ◌*◌, ◌%◌, ◌^◌, ◌<◌, ◌≤◌, ◌&&◌, List, [], ◌∷◌, Some, None, true, false, not, nat_le, find, IfOk, IfErr, OnOk, OnErr, IsErrOf, IsOk, is_ok, IsTrue, IsSomeAnd, is_some, option_map, length, map, filter};
+ghost use Rattle.std.specs.Prelude.{◌≡◌, ◌≢◌, ◌↔◌, ◌^◌, ◌<◌, ◌≤◌, ◌&&◌, [], Some, None, true, false, not, nat_le, find, IfOk, IfErr, OnOk, OnErr, IsErrOf, IsOk, is_ok, IsTrue, IsSomeAnd, is_some, option_map, length, map, filter};
 ghost use Rattle.std.specs.List.{list_all};
 ghost use Rattle.obj_id.specs.declared.ids.JobNo.{JobNo};
 ghost use Rattle.obj_id.specs.declared.refusals.Refusal.{Refusal};
@@ -10,7 +10,6 @@ ghost use Rattle.obj_id.specs.declared.refusals.Refusal.TheVariants.{NotAdmitted
 ghost use Rattle.private_store.specs.Limits.{is_window, is_quota as is_quota_lem};
 ghost use Rattle.private_store.specs.Extents.{is_apart as is_apart_lem, end_of};
 ghost use Rattle.private_store.specs.Shared.{job_is, widened, admitted as admitted_lem, windows_without};
-ghost use Rattle.private_store.specs.Jobs.{same_job};
 ghost use Rattle.job_admission.specs.Admissions.{largest_memory, live_at, window_of, lives_of, windows, place_for, admit_check as admit_check_lem, admitted, resize_check as resize_check_lem, resized, finished, AreKept};
 
 use indexmap::IndexMap;

@@ -1,5 +1,5 @@
 //! The entries of one object.
-ghost use Rattle.std.specs.Prelude.{◌≡◌, ◌↔◌, ◌==◌, [], IfOk, OnOk, OnErr, IsTrue};
+ghost use Rattle.std.specs.Prelude.{◌≡◌, ◌↔◌, [], IfOk, OnOk, OnErr, IsTrue};
 ghost use Rattle.private_store.specs.Directory.{entry_placed, without_node};
 
 use obj_id::{Items, Location};
