@@ -3,6 +3,10 @@
 #![tactic(auto)]
 
 #[cfg(test)]
+mod admission;
+#[cfg(test)]
+mod directory;
+#[cfg(test)]
 mod evictor;
 #[cfg(test)]
 mod fetches;

@@ -19,3 +19,4 @@ pub mod Replay
 pub mod Frames
 pub mod Kept
 pub mod Refusing
+pub mod Jobs

@@ -1,0 +1,3 @@
+pub mod Objects
+pub mod Placing
+pub mod Jobs

@@ -1,0 +1,80 @@
+//! The entries of one object.
+ghost use Rattle.std.specs.Prelude.{◌≡◌, ◌↔◌, [], IfOk, OnOk, OnErr, IsTrue};
+ghost use Rattle.private_store.specs.Directory.{entry_placed, without_node};
+
+use obj_id::{Items, Location};
+use std::alloc::{AllocError, Global};
+use std::marker::Model;
+
+/// The entries of one object, by rising node and one a node. A contract sees the list.
+#[derive(Drop)]
+pub struct Entries {
+    items: Vec<Location>,
+}
+
+impl Model for Entries {
+    ghost use Rattle.std.specs.Prelude.{List};
+    ghost use Rattle.obj_id.specs.declared.messages.Location.{Location};
+
+    ghost Value = { List Location };
+
+    ghost view = { λ e. e.items.items };
+}
+
+impl Entries {
+    /// No entries. Takes no memory.
+    pub fn new(alloc: Global) -> Entries
+        ensures { result ≡ [] }
+    {
+        Entries {
+            items: Vec::new(alloc),
+        }
+    }
+
+    /// Puts the entry in its place among those of other nodes, or in that of its node's own.
+    pub fn put(&mut self, entry: Location) -> Result<(), AllocError>
+        ensures ok { OnOk result (self.new ≡ entry_placed entry self.old) }
+        ensures err { OnErr result (self.new ≡ self.old) }
+    {
+        put_entry(&mut self.items, entry)
+    }
+
+    /// Takes out the node's entry. Takes no memory.
+    pub fn remove(&mut self, node: u32)
+        ensures { self.new ≡ without_node node self.old }
+    {
+        self.items.retain(|entry| entry.node != node);
+    }
+
+    /// Whether there are none.
+    pub fn is_empty(&self) -> bool
+        ensures { IsTrue result ↔ (self.now ≡ []) }
+    {
+        self.items.is_empty()
+    }
+
+    /// A copy of the entries.
+    pub fn to_items(&self, alloc: Global) -> Result<Items<Location>, AllocError>
+        ensures { IfOk result (λ items. items ≡ self.now) }
+    {
+        let items = Vec::from_slice(alloc, &self.items)?;
+        Ok(Items::from_vec(items))
+    }
+}
+
+/// Puts the entry in its place.
+fn put_entry(entries: &mut Vec<Location>, entry: Location) -> Result<(), AllocError>
+    ensures ok { OnOk result (entries.new.items ≡ entry_placed entry entries.old.items) }
+    ensures err { OnErr result (entries.new.items ≡ entries.old.items) }
+{
+    let mut at = 0;
+    while at < entries.len() && entries[at].node < entry.node {
+        at += 1;
+    }
+    if at < entries.len() && entries[at].node == entry.node {
+        entries[at] = entry;
+        return Ok(());
+    }
+    entries.insert(at, entry)?;
+    Ok(())
+}

@@ -1,0 +1,161 @@
+//! The directory of owners: for each job, where sealed copies of its objects are. A contract sees the
+//! locations of each job number, and nothing of one job depends on another's.
+#![tactic(auto)]
+
+ghost use Rattle.std.specs.Prelude.{◌≡◌, [], false, IfOk, OnOk, OnErr, IsErrOf, IsOk};
+ghost use Rattle.obj_id.specs.declared.messages.DirectoryMessage.TheVariants.{AddLocation, RemoveLocation, Free, EndJob, Locate};
+ghost use Rattle.obj_id.specs.declared.refusals.Refusal.{Refusal};
+ghost use Rattle.obj_id.specs.declared.refusals.Refusal.TheVariants.{NoMemory};
+ghost use Rattle.private_store.specs.Directory.{directory_posts, entries_at};
+ghost use Rattle.owner_directory.specs.Locations.{locations_of, Applies, posts_of, needs_memory};
+
+mod entries;
+mod row;
+
+use crate::row::Row;
+use indexmap::IndexMap;
+use obj_id::{DirectoryMessage, Items, JobNo, Location, ObjectId, Refusal};
+use std::alloc::Global;
+use std::marker::Model;
+
+/// What the directory answers a message.
+#[derive(Debug, Drop)]
+pub enum DirectoryReply {
+    /// Nothing is sent.
+    Nothing,
+    /// To the node that asked: the object, the number of its fetch, and all entries by rising node.
+    Located {
+        to: u32,
+        id: ObjectId,
+        number: u64,
+        entries: Items<Location>,
+    },
+}
+
+/// The locations of all jobs.
+#[derive(Drop)]
+pub struct Directory {
+    alloc: Global,
+    rows: IndexMap<JobNo, Row>,
+}
+
+impl Model for Directory {
+    ghost use Rattle.owner_directory.specs.Locations.{Rows};
+
+    ghost Value = { Rows };
+
+    ghost view = { λ d. d.rows.entries };
+}
+
+impl Directory {
+    /// A directory that knows no object. Takes no memory.
+    pub fn new(alloc: Global) -> Directory
+        ensures { result ≡ [] }
+    {
+        Directory {
+            alloc,
+            rows: IndexMap::new(alloc),
+        }
+    }
+
+    /// Applies a message of a job to that job's locations, and answers it. `NoMemory` changes nothing; only
+    /// `AddLocation` and `Locate` take memory.
+    pub fn apply(
+        &mut self,
+        job: JobNo,
+        message: DirectoryMessage,
+    ) -> Result<DirectoryReply, Refusal>
+        ensures locations { OnOk result (Applies self.old self.new job message) }
+        ensures posts { IfOk result (λ reply. posts_of reply ≡ directory_posts (locations_of self.old job) message) }
+        ensures refused { (r : Refusal) → IsErrOf result r → r ≡ NoMemory }
+        ensures succeeds { needs_memory message ≡ false → IsOk result }
+        ensures err { OnErr result (self.new ≡ self.old) }
+    {
+        match message {
+            DirectoryMessage::AddLocation(id, entry) => {
+                self.add(job, id, entry)?;
+                Ok(DirectoryReply::Nothing)
+            }
+            DirectoryMessage::RemoveLocation(id, node) => {
+                self.remove(job, id, node);
+                Ok(DirectoryReply::Nothing)
+            }
+            DirectoryMessage::Free(id) => {
+                self.free(job, id);
+                Ok(DirectoryReply::Nothing)
+            }
+            DirectoryMessage::EndJob(node) => {
+                self.end_at(job, node);
+                Ok(DirectoryReply::Nothing)
+            }
+            DirectoryMessage::Locate(id, to, number) => {
+                let entries = self.located(job, id)?;
+                Ok(DirectoryReply::Located {
+                    to,
+                    id,
+                    number,
+                    entries,
+                })
+            }
+        }
+    }
+
+    /// Sets the entry of its node.
+    fn add(&mut self, job: JobNo, id: ObjectId, entry: Location) -> Result<(), Refusal>
+        ensures ok { OnOk result (Applies self.old self.new job (AddLocation id entry)) }
+        ensures refused { (r : Refusal) → IsErrOf result r → r ≡ NoMemory }
+        ensures err { OnErr result (self.new ≡ self.old) }
+    {
+        if let Some(row) = self.rows.get_mut(&job) {
+            row.set(self.alloc, id, entry)?;
+            return Ok(());
+        }
+        let mut row = Row::new(self.alloc);
+        row.set(self.alloc, id, entry)?;
+        match self.rows.insert(job, row) {
+            Err(_) => Err(Refusal::NoMemory),
+            Ok(_) => Ok(()),
+        }
+    }
+
+    /// Takes out the node's entry of the object.
+    fn remove(&mut self, job: JobNo, id: ObjectId, node: u32)
+        ensures { Applies self.old self.new job (RemoveLocation id node) }
+    {
+        let Some(row) = self.rows.get_mut(&job) else {
+            return;
+        };
+        row.remove(id, node);
+    }
+
+    /// Takes out all entries of the object.
+    fn free(&mut self, job: JobNo, id: ObjectId)
+        ensures { Applies self.old self.new job (Free id) }
+    {
+        let Some(row) = self.rows.get_mut(&job) else {
+            return;
+        };
+        row.free(id);
+    }
+
+    /// Takes out all entries of the node.
+    fn end_at(&mut self, job: JobNo, node: u32)
+        ensures { Applies self.old self.new job (EndJob node) }
+    {
+        let Some(row) = self.rows.get_mut(&job) else {
+            return;
+        };
+        row.end_at(node);
+    }
+
+    /// A copy of the object's entries.
+    fn located(&self, job: JobNo, id: ObjectId) -> Result<Items<Location>, Refusal>
+        ensures ok { IfOk result (λ entries. entries ≡ entries_at (locations_of self.now job) id) }
+        ensures refused { (r : Refusal) → IsErrOf result r → r ≡ NoMemory }
+    {
+        match self.rows.get(&job) {
+            Some(row) => Ok(row.located(self.alloc, id)?),
+            None => Ok(Items::new(self.alloc)),
+        }
+    }
+}
