@@ -1,9 +1,11 @@
 -- What the line of an answer begins with.
-use Rattle.std.specs.Prelude.{ℕ, List, ◌++◌, codes, decimal}
+use Rattle.std.specs.Prelude.{ℕ, List, ◌++◌, codes, decimal, Option, Some, None}
 use Rattle.private_store.specs.declared.schedules.Event.{Event}
 use Rattle.private_store.specs.declared.schedules.Event.TheVariants as event
 use Rattle.private_store.specs.declared.schedules.Step.{Step}
 use Rattle.private_store.specs.declared.schedules.Step.TheVariants as «step»
+use Rattle.schedule_text.specs.declared.line.Line.{Line}
+use Rattle.schedule_text.specs.declared.line.Line.TheVariants as line
 use Rattle.schedule_text.specs.declared.prefixes.Prefix.{Prefix}
 use Rattle.schedule_text.specs.declared.prefixes.Prefix.TheVariants.{Operator, Session, Device, Network}
 
@@ -20,6 +22,12 @@ prefix_at node (event.Call job session command) = Session node job session
 abbrev pub prefix_of : Step → Prefix
 prefix_of («step».At node event) = prefix_at node event
 prefix_of («step».Deliver job sender receiver number damaged) = Network
+
+-- and of each line
+abbrev pub line_prefix : Line → Option Prefix
+line_prefix line.Skipped = None
+line_prefix (line.Step step) = Some (prefix_of step)
+line_prefix (line.Finish node job number outcome) = Some (Device node)
 
 abbrev pub prefix_text : Prefix → List ℕ
 prefix_text (Operator node) = codes "n" ++ decimal node ++ codes " op"

@@ -3,9 +3,16 @@
 //! bytes it is.
 #![tactic(auto)]
 
+mod commands;
+mod fields;
 mod items;
+mod line;
+mod lines;
 mod prefixes;
 mod printing;
+mod words;
 
+pub use line::{Line, Outcome};
+pub use lines::read_line;
 pub use prefixes::Prefix;
 pub use printing::{answer_line, answer_text};
