@@ -115,7 +115,8 @@ pub(crate) fn id_bytes(
     fields: &[&str],
     job: JobNo,
 ) -> Result<Option<((ObjectId, u32), Bytes)>, AllocError>
-    ensures { IfOk result (λ read. Reads read (IsIdBytes job.0 (map (λ field. field.now) fields.now))) }
+    ensures { IfOk result (λ read. Reads read
+        (IsIdBytes job.0 (map (λ field. field.now) fields.now))) }
 {
     let [id, offset, digits] = fields else {
         return Ok(None)
@@ -183,7 +184,8 @@ fn as_printed(alloc: Global, bytes: Vec<u8>, field: &str) -> Result<Option<Bytes
 /// Whether the field is what is printed for the bytes, and they are some.
 fn is_printed(alloc: Global, bytes: &[u8], field: &str) -> Result<bool, AllocError>
     ensures bytes { (i : ℕ) → slice_index bytes.now i < 256 }
-    ensures same { IfOk result (λ same. IsTrue same ↔ ((0 < length field.now) × (encode_lower bytes.now ≡ field.now))) }
+    ensures same { IfOk result (λ same.
+        IsTrue same ↔ ((0 < length field.now) × (encode_lower bytes.now ≡ field.now))) }
 {
     let printed = hex::encode(alloc, bytes)?;
     Ok(!field.is_empty() && printed.as_str() == field)

@@ -1,6 +1,6 @@
-//! The text of schedules, both ways: the line that is printed for an answered step, and the step that
-//! a line of a schedule spells. It knows no node. A contract says of what is printed exactly which
-//! bytes it is.
+//! The text of schedules, both ways: the line that is printed for an answered step, and the step
+//! that a line spells. It knows no node. Contracts say exactly which bytes are printed; and of
+//! reading, that what is read is what the line spells, and that nothing that is spelled is missed.
 #![tactic(auto)]
 
 mod commands;

@@ -13,8 +13,8 @@ pub enum Line {
     Skipped,
     /// A step as it stands.
     Step(Step),
-    /// A device worker finishes the job's work of this number at the node. What it hands in is known
-    /// once the device was called, or wasn't.
+    /// A device worker finishes the job's work of this number at the node. What it hands in is
+    /// known once the device was called, or wasn't.
     Finish {
         node: u32,
         job: JobNo,

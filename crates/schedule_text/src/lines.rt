@@ -46,14 +46,16 @@ fn is_skipped(text: &str) -> bool
 
 /// What stands between the spaces.
 fn fields_of(alloc: Global, text: &str) -> Result<Vec<&str>, AllocError>
-    ensures { IfOk result (λ fields. map (λ field. field.now) fields.items ≡ fields_of_lem text.now) }
+    ensures { IfOk result (λ fields.
+        map (λ field. field.now) fields.items ≡ fields_of_lem text.now) }
 {
     text.split(' ').collect(alloc)
 }
 
 /// The step that fields spell.
 fn step_line(alloc: Global, fields: &[&str], nodes: u32) -> Result<Option<Line>, AllocError>
-    ensures { IfOk result (λ line. Reads line (IsStepLine nodes (map (λ field. field.now) fields.now))) }
+    ensures { IfOk result (λ line. Reads line
+        (IsStepLine nodes (map (λ field. field.now) fields.now))) }
 {
     let [first, fields @ ..] = fields else {
         return Ok(None)
@@ -71,7 +73,8 @@ fn step_of(
     fields: &[&str],
     nodes: u32,
 ) -> Result<Option<Line>, AllocError>
-    ensures { IfOk result (λ line. Reads line (IsStep nodes verb (map (λ field. field.now) fields.now))) }
+    ensures { IfOk result (λ line. Reads line
+        (IsStep nodes verb (map (λ field. field.now) fields.now))) }
 {
     match verb {
         Verb::Admit => Ok(job_quota(fields, nodes).map(|(at, quota)| admit(at, quota))),
@@ -173,7 +176,8 @@ fn session_of(at: &str, name: &str, session: &str, nodes: u32) -> Option<Speaker
 
 /// `NODE JOB SESSION` and a command.
 fn call(alloc: Global, fields: &[&str], nodes: u32) -> Result<Option<Line>, AllocError>
-    ensures { IfOk result (λ line. Reads line (IsCallLine nodes (map (λ field. field.now) fields.now))) }
+    ensures { IfOk result (λ line. Reads line
+        (IsCallLine nodes (map (λ field. field.now) fields.now))) }
 {
     let [node, job, session, first, fields @ ..] = fields else {
         return Ok(None)
