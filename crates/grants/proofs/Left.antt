@@ -159,3 +159,24 @@ module _ (test : Hand → Bool) where
         let f = h.few giver in
         omega (arith, l, f);
   }
+
+  -- of what ends by itself nothing stands
+  none_from : (all gone hs : List Hand) → ended_from test gone hs ≡ all → filter test (filter (keep all) hs) ≡ []
+  none_from all gone [] is = refl
+  none_from all gone (h ∷ hs) is =
+      let rest = none_from all (grown gone h) hs is in
+      let left = filter (keep all) hs in
+      (elim (keep all h) as (λ k. keep all h ≡ k → filter test (cond k (h ∷ left) left) ≡ []) [
+        | true ↦ λ k.
+            let stands : test h ≡ false =
+            refuted (test h) (λ t.
+            let here : list_any (same_hand h) (grown gone h) ≡ true =
+            ap (λ e. list_any (same_hand h) (if e then gone ++ h ∷ [] else gone)) (or_left (test h) (list_any (hangs_on h) gone) t)
+            ∙ any_after (same_hand h) gone (h ∷ []) (or_left (same_hand h h) false (same_itself h)) in
+            sym (ap not (ap (λ l. list_any (same_hand h) l) (sym is) ∙ stays_gone (same_hand h) (grown gone h) hs here)) ∙ k) in
+            ap (λ t. cond t (h ∷ filter test left) (filter test left)) stands ∙ rest
+        | false ↦ λ k. rest
+      ]) refl
+
+  pub none_left : (hands : List Hand) → filter test (hands_left test hands) ≡ []
+  none_left hands = none_from (ended_from test [] hands) [] hands refl

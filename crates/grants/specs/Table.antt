@@ -4,7 +4,8 @@ use Rattle.std.specs.List.{list_any}
 use Rattle.obj_id.specs.declared.ids.ObjectId.{ObjectId}
 use Rattle.obj_id.specs.declared.refusals.Refusal.{Refusal}
 use Rattle.obj_id.specs.declared.refusals.Refusal.TheVariants.{BadId, NotGranted, Exists, TooMany}
-use Rattle.obj_id.specs.Ids.{same_id}
+use Rattle.std.specs.Ordering.{is_lt}
+use Rattle.obj_id.specs.Ids.{id_cmp, same_id}
 use Rattle.private_store.specs.Limits.{most_hands, greatest_depth}
 use Rattle.private_store.specs.Hands.{Hand, same_hand, ground, hangs_on, is_withdrawn, is_of_task, is_given_by}
 use Rattle.grants.specs.declared.endings.Ending.{Ending}
@@ -27,6 +28,21 @@ given_by job hands = filter (is_given_by job) hands
 -- the hands to the job, oldest first
 abbrev pub given_to : ℕ → List Hand → List Hand
 given_to job hands = filter (λ hand. hand.taker == job) hands
+
+-- the first hand of each object, by rising id: the hand has its place unless an older one of the object is there
+abbrev pub with_seen : Hand → List Hand → List Hand
+with_seen hand [] = hand ∷ []
+with_seen hand (older ∷ hands) =
+    if same_id older.id hand.id then older ∷ hands else
+    (if is_lt (id_cmp older.id hand.id) then older ∷ with_seen hand hands else hand ∷ older ∷ hands)
+
+abbrev pub seen_from : List Hand → List Hand → List Hand
+seen_from seen [] = seen
+seen_from seen (hand ∷ hands) = seen_from (with_seen hand seen) hands
+
+-- of each object that the job sees the oldest hand, by rising id
+abbrev pub seen_list : ℕ → List Hand → List Hand
+seen_list job hands = seen_from [] (given_to job hands)
 
 -- ---- granting
 

@@ -1,10 +1,10 @@
 //! A hand, and what is asked of a table of them.
-ghost use Rattle.std.specs.Prelude.{◌≡◌, ◌==◌, Some, None, find, filter, length, IfOk};
+ghost use Rattle.std.specs.Prelude.{◌≡◌, ◌==◌, Some, None, find, filter, length, IfOk, OnOk};
 ghost use Rattle.std.specs.List.{list_any};
 ghost use Rattle.std.specs.Ordering.{is_lt};
-ghost use Rattle.obj_id.specs.Ids.{same_id as same_id_lem, same_task as same_task_lem};
+ghost use Rattle.obj_id.specs.Ids.{id_cmp, same_id as same_id_lem, same_task as same_task_lem};
 ghost use Rattle.private_store.specs.Hands.{ground as ground_lem, same_hand as same_hand_lem, hangs_on as hangs_on_lem, hand_cmp, is_withdrawn as is_withdrawn_lem, is_given_by as is_given_by_lem};
-ghost use Rattle.grants.specs.Table.{shows as shows_lem, is_first as is_first_lem, given_by as given_by_lem, given_to as given_to_lem};
+ghost use Rattle.grants.specs.Table.{shows as shows_lem, is_first as is_first_lem, given_by as given_by_lem, given_to as given_to_lem, with_seen, seen_list};
 ghost use Rattle.grants.specs.Back.{number_of};
 ghost use Rattle.std.specs.Option.{option_map};
 
@@ -149,6 +149,13 @@ impl Hand {
             }
     }
 
+    /// Whether its object's id is less than that of the other's.
+    fn is_before(&self, other: &Hand) -> bool
+        ensures { result ≡ is_lt (id_cmp self.now.id other.now.id) }
+    {
+        self.id.cmp(&other.id).is_lt()
+    }
+
     /// Whether its end is told before the other's: by depth, object, giver and taker.
     pub(crate) fn is_told_before(&self, other: &Hand) -> bool
         ensures { result ≡ is_lt (hand_cmp self.now other.now) }
@@ -234,4 +241,32 @@ pub(crate) fn given_to(
         }
     }
     Ok(given)
+}
+
+/// Puts a hand among the oldest of each object, by rising id, unless an older one of its object is there.
+fn put_seen(seen: &mut Vec<Hand>, hand: Hand) -> Result<(), AllocError>
+    ensures { OnOk result (seen.new.items ≡ with_seen hand seen.old.items) }
+{
+    let mut at = 0;
+    while at < seen.len() && seen[at].is_before(&hand) {
+        at += 1;
+    }
+    if at < seen.len() && same_id(&seen[at].id, &hand.id) {
+        return Ok(());
+    }
+    seen.insert(at, hand)?;
+    Ok(())
+}
+
+/// Of each object that the job sees the oldest hand, by rising id.
+pub(crate) fn seen(alloc: Global, hands: &Vec<Hand>, job: JobNo) -> Result<Vec<Hand>, AllocError>
+    ensures { IfOk result (λ seen. seen.items ≡ seen_list job.0 hands.now.items) }
+{
+    let mut seen = Vec::new(alloc);
+    for hand in hands {
+        if hand.is_to(job) {
+            put_seen(&mut seen, *hand)?;
+        }
+    }
+    Ok(seen)
 }

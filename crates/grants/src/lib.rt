@@ -6,14 +6,14 @@
 //! scans it; a call that ends hands looks, for each hand, through those that have ended already.
 #![tactic(auto)]
 
-ghost use Rattle.std.specs.Prelude.{◌≡◌, ◌≢◌, ◌↔◌, ◌<◌, ℕ, List, [], Some, None, find, IfOk, OnOk, OnErr, IsErrOf, IsOk, MatchResult};
+ghost use Rattle.std.specs.Prelude.{◌≡◌, ◌≢◌, ◌↔◌, ◌<◌, ◌≤◌, ℕ, filter, length, List, [], Some, None, find, IfOk, OnOk, OnErr, IsErrOf, IsOk, MatchResult};
 ghost use Rattle.std.specs.List.{list_any};
 ghost use Rattle.obj_id.specs.declared.ids.ObjectId.{ObjectId};
 ghost use Rattle.obj_id.specs.declared.refusals.Refusal.{Refusal};
 ghost use Rattle.obj_id.specs.declared.refusals.Refusal.TheVariants.{NoMemory};
-ghost use Rattle.private_store.specs.Limits.{greatest_depth};
+ghost use Rattle.private_store.specs.Limits.{greatest_depth, most_hands};
 ghost use Rattle.private_store.specs.Hands.{Hand as StandingHand, new_hand, with_hand, hands_ended, hands_left, ground, is_withdrawn, is_of_task, is_given_by};
-ghost use Rattle.grants.specs.Table.{AreHands, is_first, given_by, given_to, limits_check, grant_check as grant_check_lem, withdraw_check, ends};
+ghost use Rattle.grants.specs.Table.{AreHands, is_first, given_by, given_to, seen_list, limits_check, grant_check as grant_check_lem, withdraw_check, ends};
 ghost use Rattle.grants.specs.Chains.{sees, is_led_to};
 ghost use Rattle.obj_id.specs.Ids.{same_id};
 
@@ -107,6 +107,7 @@ impl Grants {
         ensures passed { IsOk result → withdraw_check self.old giver.0 id target.0 ≡ None }
         ensures refused { (r : Refusal) → r ≢ NoMemory → IsErrOf result r → withdraw_check self.old giver.0 id target.0 ≡ Some r }
         ensures memory { IsErrOf result NoMemory → withdraw_check self.old giver.0 id target.0 ≡ None }
+        ensures gone { OnOk result (filter (is_withdrawn giver.0 id target.0) self.new ≡ []) }
         ensures err { OnErr result (self.new ≡ self.old) }
     {
         if !hands::is_given(&self.hands, giver, &id, target) {
@@ -122,6 +123,7 @@ impl Grants {
     pub fn drop_object(&mut self, id: ObjectId) -> Result<Items<Hand>, AllocError>
         ensures told { IfOk result (λ told. told ≡ hands_ended (λ hand. same_id id hand.id) self.old) }
         ensures ok { OnOk result (self.new ≡ hands_left (λ hand. same_id id hand.id) self.old) }
+        ensures gone { OnOk result (filter (λ hand. same_id id hand.id) self.new ≡ []) }
         ensures err { OnErr result (self.new ≡ self.old) }
     {
         self.end(Ending::OfObject(id))
@@ -132,6 +134,7 @@ impl Grants {
     pub fn drop_task(&mut self, job: JobNo, task: TaskNo) -> Result<Items<Hand>, AllocError>
         ensures told { IfOk result (λ told. told ≡ hands_ended (is_of_task job.0 task) self.old) }
         ensures ok { OnOk result (self.new ≡ hands_left (is_of_task job.0 task) self.old) }
+        ensures gone { OnOk result (filter (is_of_task job.0 task) self.new ≡ []) }
         ensures err { OnErr result (self.new ≡ self.old) }
     {
         self.end(Ending::OfTask(job, task))
@@ -142,6 +145,7 @@ impl Grants {
     pub fn drop_job(&mut self, job: JobNo) -> Result<Items<Hand>, AllocError>
         ensures told { IfOk result (λ told. told ≡ hands_ended (is_given_by job.0) self.old) }
         ensures ok { OnOk result (self.new ≡ hands_left (is_given_by job.0) self.old) }
+        ensures gone { OnOk result (given_by job.0 self.new ≡ []) }
         ensures err { OnErr result (self.new ≡ self.old) }
     {
         self.end(Ending::GivenBy(job))
@@ -170,19 +174,28 @@ impl Grants {
     }
 
     /// The hands that the job gave, oldest first: at most 64.
-    pub fn given_by(&self, alloc: Global, job: JobNo) -> Result<Items<Hand>, AllocError>
-        ensures { IfOk result (λ given. given ≡ given_by job.0 self.now) }
+    pub fn given_by(&self, job: JobNo) -> Result<Items<Hand>, AllocError>
+        ensures hands { IfOk result (λ given. given ≡ given_by job.0 self.now) }
+        ensures few { length (given_by job.0 self.now) ≤ most_hands }
     {
-        let given = hands::given_by(alloc, &self.hands, job)?;
+        let given = hands::given_by(self.alloc, &self.hands, job)?;
         Ok(Items::from_vec(given))
     }
 
     /// The hands to the job, oldest first.
-    pub fn given_to(&self, alloc: Global, job: JobNo) -> Result<Items<Hand>, AllocError>
+    pub fn given_to(&self, job: JobNo) -> Result<Items<Hand>, AllocError>
         ensures { IfOk result (λ given. given ≡ given_to job.0 self.now) }
     {
-        let given = hands::given_to(alloc, &self.hands, job)?;
+        let given = hands::given_to(self.alloc, &self.hands, job)?;
         Ok(Items::from_vec(given))
+    }
+
+    /// Of each object that the job sees the oldest hand, by rising id.
+    pub fn seen(&self, job: JobNo) -> Result<Items<Hand>, AllocError>
+        ensures { IfOk result (λ seen. seen ≡ seen_list job.0 self.now) }
+    {
+        let seen = hands::seen(self.alloc, &self.hands, job)?;
+        Ok(Items::from_vec(seen))
     }
 
     /// The hand that a grant makes, or why it is refused.
@@ -224,6 +237,7 @@ impl Grants {
     fn end(&mut self, ending: Ending) -> Result<Items<Hand>, AllocError>
         ensures told { IfOk result (λ told. told ≡ hands_ended (ends ending) self.old) }
         ensures ok { OnOk result (self.new ≡ hands_left (ends ending) self.old) }
+        ensures gone { OnOk result (filter (ends ending) self.new ≡ []) }
         ensures err { OnErr result (self.new ≡ self.old) }
     {
         let gone = endings::ended(self.alloc, &self.hands, &ending)?;
