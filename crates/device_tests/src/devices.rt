@@ -215,20 +215,24 @@ fn a_write_that_fails_leaves_what_was_there(rt: HostRuntime) -> Result<(), Fail>
     Ok(())
 }
 
+/// What is printed of a folder that is refused; nothing where it isn't.
+fn refusal_of<R: Files + AllocGlobal + Clone + Drop>(rt: &R, folder: &str) -> Result<String, Fail> {
+    let alloc = rt.alloc();
+    let fault = FileDevice::new(rt.clone()?, folder).err();
+    match &fault {
+        None => Ok(String::new(alloc)),
+        Some(fault) => Ok(format!(in alloc; "{fault}")?),
+    }
+}
+
 #[test]
 fn a_folder_that_cant_be_made_is_told(rt: HostRuntime) -> Result<(), Fail> {
     let file = own_folder(&rt, process::id(rt.process()), "none")?;
     fs::write(&rt, file.as_str(), "a file")?;
     let below = joined(rt.alloc(), file.as_str(), "below")?;
-    let made = match FileDevice::new(rt.clone()?, below.as_str()) {
-        Err(FolderFault::NoMemory(_)) => FileDevice::new(rt.clone()?, below.as_str()),
-        made => made,
-    };
-    let told = match made {
-        Err(FolderFault::NotMade { folder, error: _ }) => folder.as_str() == below.as_str(),
-        _ => false,
-    };
-    assert!(rt; told);
+    let told = refusal_of(&rt, below.as_str())?;
+    assert!(rt; told.as_str().starts_with("the folder `"));
+    assert!(rt; told.as_str().contains(below.as_str()));
     fs::remove_file(&rt, file.as_str())?;
     Ok(())
 }
