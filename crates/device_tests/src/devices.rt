@@ -239,8 +239,10 @@ fn a_folder_that_cant_be_made_is_told(rt: HostRuntime) -> Result<(), Fail> {
 
 #[test]
 fn the_kth_call_fails_and_no_other(rt: HostRuntime) {
-    let mut device = FaultyDevice::new(MemoryDevice::new(rt.alloc()), 2);
-    assert_eq!(rt; device.write(KEY, &[]), Ok(()));
+    let mut memory = MemoryDevice::new(rt.alloc());
+    assert_eq!(rt; write(&rt, &mut memory, KEY, &[]), Ok(()));
+    let mut device = FaultyDevice::new(memory, 2);
+    assert_eq!(rt; device.erase(OTHER), Ok(()));
     assert_eq!(rt; device.write(KEY, &[1]), Err(DeviceFault::Failed));
     assert_eq!(rt; device.failures(), 1);
     assert_eq!(rt; device.inner.failures(), 0);
