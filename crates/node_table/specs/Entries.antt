@@ -1,0 +1,8 @@
+-- A change of one entry of a table by object.
+use Rattle.std.specs.Option.{option_map_or}
+use Rattle.obj_id.specs.declared.ids.ObjectId.{ObjectId}
+use Rattle.private_store.specs.Tables.{ById, at, with_entry}
+
+-- the entry of the id changed, if there is one
+abbrev pub changed : {X : Type 0} → (X → X) → ById X → ObjectId → ById X
+changed f table id = option_map_or (λ x. with_entry table id (f x)) (at table id) table

@@ -1,0 +1,9 @@
+//! The row of one job at a node: its window, its copies and its order of use, and what the commands of its
+//! sessions do to them. A row knows no other job.
+#![tactic(auto)]
+
+mod copies;
+mod copy;
+
+pub use copies::Copies;
+pub use copy::RowCopy;
