@@ -1,1 +1,3 @@
 mod Changes
+pub mod CopyTables
+pub mod Stepping

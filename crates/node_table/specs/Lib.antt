@@ -1,2 +1,4 @@
 pub mod Entries
 pub mod Kept
+pub mod Row
+pub mod Shown

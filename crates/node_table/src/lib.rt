@@ -4,6 +4,8 @@
 
 mod copies;
 mod copy;
+mod row;
 
 pub use copies::Copies;
 pub use copy::RowCopy;
+pub use row::JobRow;
