@@ -1,3 +1,7 @@
 mod Changes
 pub mod CopyTables
+pub mod Places
 pub mod Stepping
+pub mod ByChecks
+pub mod Passed
+pub mod Writing

@@ -2,3 +2,4 @@ pub mod Entries
 pub mod Kept
 pub mod Row
 pub mod Shown
+pub mod Checks

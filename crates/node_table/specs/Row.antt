@@ -1,9 +1,10 @@
 -- The row of one job at a node, and the store of that job, without contents, that it is.
-use Rattle.std.specs.Prelude.{◌≡◌, ℕ, Bool, List, [], map, Option, Some, option_map}
+use Rattle.std.specs.Prelude.{◌≡◌, ℕ, Bool, false, List, [], map, Option, Some, option_map}
 use Rattle.std.specs.Option.{option_and_then}
 use Rattle.obj_id.specs.declared.ids.TaskNo.{TaskNo}
 use Rattle.obj_id.specs.declared.ids.ObjectId.{ObjectId}
 use Rattle.obj_id.specs.declared.works.Extent.{Extent}
+use Rattle.obj_id.specs.declared.works.Quota.{Quota}
 use Rattle.private_store.specs.Tables.{ById, at}
 use Rattle.private_store.specs.Shape.{Copy, Shape, live}
 use Rattle.private_store.specs.Copies.{extent_of}
@@ -24,6 +25,20 @@ pub record Row : Type 0 where
   -- whether a spill failed since room was last refused for it
   pub spill_failed : Bool
   pub ended_tasks : List TaskNo
+
+-- of a job that was admitted now
+abbrev pub new_row : ℕ → Quota → Row
+new_row job quota =
+    record {
+      job = job;
+      window = record { quota = quota.window; placed = [] };
+      device = quota.device;
+      copies = [];
+      order = [];
+      fetches_begun = 0;
+      spill_failed = false;
+      ended_tasks = [];
+    }
 
 abbrev pub copies_of : ById Kept → ById Copy
 copies_of table = map (λ e. (e.0, e.1.copy)) table

@@ -88,6 +88,17 @@ impl RowCopy {
         self.offset
     }
 
+    /// Its bytes in the window, in whole units of 16, if it is resident.
+    pub fn extent(&self) -> Option<Extent>
+        ensures { result ≡ extent_of self.now.copy }
+    {
+        let offset = self.offset?;
+        Some(Extent {
+            offset,
+            length: (u64::from(self.length()) + 15) / 16 * 16,
+        })
+    }
+
     /// Whether it goes as soon as nothing keeps it.
     pub fn doomed(&self) -> bool
         ensures { result ≡ self.now.copy.doomed }

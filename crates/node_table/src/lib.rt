@@ -2,6 +2,8 @@
 //! sessions do to them. A row knows no other job.
 #![tactic(auto)]
 
+mod bytes_commands;
+mod checks;
 mod copies;
 mod copy;
 mod row;

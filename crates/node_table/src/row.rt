@@ -1,10 +1,18 @@
 //! The row of one job.
-ghost use Rattle.std.specs.Prelude.{◌≡◌, ℕ, true, ◌==◌};
+ghost use Rattle.std.specs.Prelude.{◌≡◌, ℕ, ◌+◌, ◌≤◌, nat_eq, take, drop, length, Some, IfOk};
+ghost use Rattle.std.specs.Map.{set_value};
+ghost use Rattle.obj_id.specs.declared.works.Extent.{Extent};
+ghost use Rattle.private_store.specs.Tables.{at};
+ghost use Rattle.private_store.specs.Copies.{extent_of};
+ghost use Rattle.private_store.specs.Contents.{overwritten};
+ghost use Rattle.job_region.specs.Region.{bytes_at as placed_bytes};
+ghost use Rattle.node_table.specs.Kept.{Kept};
+ghost use Rattle.node_table.specs.Row.{Row, new_row, place_of, ArePlaced};
 
 use crate::copies::Copies;
 use job_region::Window;
 use lru_evictor::UseOrder;
-use obj_id::{JobNo, TaskNo};
+use obj_id::{Extent, JobNo, ObjectId, Quota, Refusal, TaskNo};
 use std::alloc::Global;
 use std::marker::Model;
 
@@ -35,4 +43,72 @@ impl Model for JobRow {
     ghost view = { λ r. record { job = r.job.0; window = r.window; device = r.device; copies = r.copies; order = order_of r.job.0 r.order; fetches_begun = r.fetches_begun; spill_failed = r.spill_failed; ended_tasks = r.ended_tasks.items } };
 
     ghost invariant = { λ r. ArePlaced r.window.placed (place_of r.copies) };
+}
+
+impl JobRow {
+    /// The row of a job that was admitted now: no copies, and a window of zeros. `BadSize` unless the
+    /// window's size is one, and `NoMemory`.
+    pub fn new(alloc: Global, job: JobNo, quota: Quota) -> Result<JobRow, Refusal>
+        ensures { IfOk result (λ r. r ≡ new_row job.0 quota) }
+    {
+        let window = Window::new(alloc, quota.window)?;
+        Ok(JobRow {
+            alloc,
+            job,
+            window,
+            device: quota.device,
+            copies: Copies::new(alloc),
+            order: UseOrder::new(alloc),
+            fetches_begun: 0,
+            spill_failed: false,
+            ended_tasks: Vec::new(alloc),
+        })
+    }
+
+    /// Its copies.
+    pub(crate) fn copies(&self) -> &Copies
+        ensures copies { result.now ≡ self.now.copies }
+        ensures placed { ArePlaced self.now.window.placed (place_of self.now.copies) }
+    {
+        &self.copies
+    }
+
+    /// Where the copy lies in the window, if it is there and resident.
+    pub(crate) fn place(&self, id: &ObjectId) -> Option<Extent>
+        ensures { result ≡ place_of self.now.copies id.now }
+    {
+        self.copies.get(id)?.extent()
+    }
+
+    /// The bytes of a copy, lent without a copy; none where it isn't resident.
+    pub(crate) fn bytes(&self, id: &ObjectId) -> &[u8]
+        ensures { (k : Kept) (e : Extent) → at self.now.copies id.now ≡ Some k → extent_of k.copy ≡ Some e
+            → result.now ≡ take k.copy.length (placed_bytes e self.now.window.placed) }
+    {
+        let Some(copy) = self.copies.get(id) else {
+            return &[];
+        };
+        let Some(extent) = self.place(id) else {
+            return &[];
+        };
+        first_bytes(self.window.bytes_of(&extent), copy.length())
+    }
+
+    /// Writes bytes into a resident copy from the offset on.
+    pub(crate) fn put_bytes(&mut self, id: &ObjectId, offset: u32, bytes: &[u8])
+        ensures { (e : Extent) → place_of self.old.copies id.now ≡ Some e → offset + length bytes.now ≤ e.length
+            → self.new ≡ record self.old { window = record self.old.window { placed = set_value (nat_eq e.offset) self.old.window.placed (overwritten (placed_bytes e self.old.window.placed) offset bytes.now) } } }
+    {
+        let Some(extent) = self.place(id) else {
+            return;
+        };
+        let _ = self.window.write(&extent, offset, bytes);
+    }
+}
+
+/// The first `len` bytes, or all of them where there are fewer.
+fn first_bytes(bytes: &[u8], len: u32) -> &[u8]
+    ensures { result.now ≡ take len bytes.now }
+{
+    &bytes[..(len as usize).min(bytes.len())]
 }

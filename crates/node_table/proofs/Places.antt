@@ -1,0 +1,82 @@
+-- Where the copies of a row lie, after a change of the window or of the copies.
+use Rattle.std.proofs.Common.{◌≡◌, ◌≢◌, ℕ, ◌+◌, ◌≤◌, ◌<◌, nat_lt, Bool, true, false, cond, nat_eq, List, [], Option, Some, None, length, take, refl, sym, ap, subst, ◌∙◌, arith}
+use Rattle.std.specs.Prelude.{◌↔◌, IsSomeAnd, unwrap_or, OnOk, OnErr, Ok, Err, IsSome, IsErrOf}
+use Rattle.std.specs.declared.result.Result.{Result}
+use Rattle.std.specs.Cmp.{nat_eq_equiv}
+use Rattle.std.specs.Map.{lookup, set_value}
+use Rattle.std.proofs.lemmas.Map.{lookup-set_value}
+use Rattle.std.proofs.lemmas.Bool.Decides.{nat_tests}
+use Rattle.obj_id.specs.declared.ids.ObjectId.{ObjectId}
+use Rattle.obj_id.specs.declared.works.Extent.{Extent}
+use Rattle.obj_id.specs.declared.refusals.Refusal.{Refusal}
+use Rattle.obj_id.specs.declared.refusals.Refusal.TheVariants.{OutOfBounds}
+use Rattle.private_store.specs.Contents.{overwritten}
+use Rattle.private_store.proofs.Tests.{true_false, some_value}
+use Rattle.private_store.proofs.RowContents.{length-overwritten}
+use Rattle.job_region.specs.Region.{Region, IsAt, bytes_at}
+use Rattle.node_table.specs.Row.{ArePlaced}
+
+same_offset : (n : ℕ) → nat_eq n n ≡ true
+same_offset n = grind (arith, nat_tests)
+
+other_offset : (m n : ℕ) → m ≢ n → nat_eq m n ≡ false
+other_offset m n h = elim (nat_eq m n) as (λ b. nat_eq m n ≡ b → b ≡ false) [ true ↦ λ t. absurd (h (grind (arith, nat_tests, t))) | false ↦ λ _. refl ] refl
+
+-- what is written over an extent keeps all others
+module _ (placed : List (ℕ × List ℕ)) (e : Extent) (there : IsAt e placed) (new : List ℕ) where
+  some_at : (o : Option (List ℕ)) → IsSomeAnd o (λ bytes. length bytes ≡ e.length) → IsSome o
+  some_at (Some x) h = refl
+  some_at None h = absurd h
+
+  looked : (q : ℕ) → lookup (nat_eq q) (set_value (nat_eq e.offset) placed new) ≡ cond (nat_eq e.offset q) (Some new) (lookup (nat_eq q) placed)
+  looked q = lookup-set_value nat_eq_equiv (nat_eq e.offset) (nat_eq_equiv.congr e.offset) q new placed (some_at (lookup (nat_eq e.offset) placed) there)
+
+  pub bytes-written : bytes_at e (set_value (nat_eq e.offset) placed new) ≡ new
+  bytes-written = ap (λ o. unwrap_or o []) (looked e.offset ∙ ap (λ b. cond b (Some new) (lookup (nat_eq e.offset) placed)) (same_offset e.offset))
+
+  pub bytes-other : (f : Extent) → e.offset ≢ f.offset → bytes_at f (set_value (nat_eq e.offset) placed new) ≡ bytes_at f placed
+  bytes-other f apart = ap (λ o. unwrap_or o []) (looked f.offset ∙ ap (λ b. cond b (Some new) (lookup (nat_eq f.offset) placed)) (other_offset e.offset f.offset apart))
+
+  pub at-written : length new ≡ e.length → (f : Extent) → IsAt f placed → (e.offset ≡ f.offset → f.length ≡ e.length) → IsAt f (set_value (nat_eq e.offset) placed new)
+  at-written long f at same =
+      subst (λ o. IsSomeAnd o (λ bytes. length bytes ≡ f.length)) (sym (looked f.offset))
+      (elim (nat_eq e.offset f.offset) as (λ b. nat_eq e.offset f.offset ≡ b → IsSomeAnd (cond b (Some new) (lookup (nat_eq f.offset) placed)) (λ bytes. length bytes ≡ f.length)) [
+        | true ↦ λ t. long ∙ sym (same (grind (arith, nat_tests, t)))
+        | false ↦ λ _. at
+      ] refl)
+
+pub long_at : (placed : List (ℕ × List ℕ)) (e : Extent) → IsAt e placed → length (bytes_at e placed) ≡ e.length
+long_at placed e at = by (lookup (nat_eq e.offset) placed) at
+  where
+    by : (o : Option (List ℕ)) → IsSomeAnd o (λ bytes. length bytes ≡ e.length) → length (unwrap_or o []) ≡ e.length
+    by (Some x) h = h
+    by None h = absurd h
+
+-- bytes written into the place of one copy
+module _ (placed : List (ℕ × List ℕ)) (places : ObjectId → Option Extent) (h : ArePlaced placed places) (id : ObjectId) (e : Extent) (is : places id ≡ Some e) (new : List ℕ) (long : length new ≡ e.length) where
+  same_place : (q : ObjectId) (f : Extent) → places q ≡ Some f → e.offset ≡ f.offset → f ≡ e
+  same_place q f lies same = some_value f e (sym lies ∙ ap places (sym (h.apart id q e f is lies same)) ∙ is)
+
+  pub written_placed : ArePlaced (set_value (nat_eq e.offset) placed new) places
+  written_placed = record {
+    there = λ q f lies. at-written placed e (h.there id e is) new long f (h.there q f lies) (λ same. ap (λ x. x.length) (same_place q f lies same));
+    apart = h.apart;
+  }
+
+-- a write that may be refused
+pub write_placed : (old new : Region) (places : ObjectId → Option Extent) (h : ArePlaced old.placed places) (id : ObjectId) (e : Extent) → places id ≡ Some e
+    → (off : ℕ) (bytes : List ℕ) (r : Result (Unit {0}) Refusal)
+    → OnOk r (new ≡ record old { placed = set_value (nat_eq e.offset) old.placed (overwritten (bytes_at e old.placed) off bytes) })
+    → (IsErrOf r OutOfBounds ↔ (e.length < off + length bytes)) → OnErr r (new ≡ old) → ArePlaced new.placed places
+write_placed old new places h id e is off bytes (Ok u) wrote bounds kept =
+    let long = long_at old.placed e (h.there id e is) in
+    let within : off + length bytes ≤ e.length = elim (nat_lt e.length (off + length bytes)) as (λ b. nat_lt e.length (off + length bytes) ≡ b → off + length bytes ≤ e.length) [
+      | true ↦ λ t. absurd (no_err u (bounds.1 (grind (arith, nat_tests, t))))
+      | false ↦ λ t. grind (arith, nat_tests, t)
+    ] refl in
+    subst (λ w. ArePlaced w.placed places) (sym wrote)
+    (written_placed old.placed places h id e is (overwritten (bytes_at e old.placed) off bytes) (length-overwritten (bytes_at e old.placed) off bytes (omega (arith, long, within)) ∙ long))
+  where
+    no_err : (u : Unit {0}) → IsErrOf {T = Unit {0}} {E = Refusal} (Ok u) OutOfBounds → ⊥
+    no_err u e = absurd cc
+write_placed old new places h id e is off bytes (Err q) wrote bounds kept = subst (λ w. ArePlaced w.placed places) (sym kept) h

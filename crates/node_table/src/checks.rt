@@ -1,0 +1,119 @@
+//! Why a command can't be carried out.
+ghost use Rattle.std.specs.Prelude.{◌≡◌};
+ghost use Rattle.node_table.specs.Checks.{write_check_of, write_check as write_check_lem, seal_check_of, seal_check as seal_check_lem, read_check_of, read_check as read_check_lem, release_check as release_check_lem};
+
+use crate::copies::Copies;
+use crate::copy::RowCopy;
+use obj_id::{CopyState, ObjectId, Refusal};
+
+/// The bytes that one Write, Read or Peek may carry.
+const MOST_BYTES: usize = 65_536;
+
+impl RowCopy {
+    /// Why `len` bytes can't be written from the offset on: `Absent`, `AlreadySealed`, `OutOfBounds`.
+    fn write_check(&self, offset: u32, len: u32) -> Option<Refusal>
+        ensures { result ≡ write_check_of self.now offset len }
+    {
+        if self.doomed() {
+            return Some(Refusal::Absent);
+        }
+        if !matches!(self.state(), CopyState::Created) {
+            return Some(Refusal::AlreadySealed);
+        }
+        if u64::from(self.length()) < u64::from(offset) + u64::from(len) {
+            return Some(Refusal::OutOfBounds);
+        }
+        None
+    }
+
+    /// Why it can't be sealed: `Absent`, `AlreadySealed`.
+    fn seal_check(&self) -> Option<Refusal>
+        ensures { result ≡ seal_check_of self.now }
+    {
+        if self.doomed() {
+            return Some(Refusal::Absent);
+        }
+        if !matches!(self.state(), CopyState::Created) {
+            return Some(Refusal::AlreadySealed);
+        }
+        None
+    }
+
+    /// Why the session can't read `len` bytes from the offset on: `NotSealed`, `NotHeld`, `OutOfBounds`.
+    fn read_check(&self, session: u32, offset: u32, len: u32) -> Option<Refusal>
+        ensures { result ≡ read_check_of self.now session offset len }
+    {
+        if matches!(self.state(), CopyState::Created | CopyState::Fetching) {
+            return Some(Refusal::NotSealed);
+        }
+        if self.holds_of(session) == 0 {
+            return Some(Refusal::NotHeld);
+        }
+        if u64::from(self.length()) < u64::from(offset) + u64::from(len) {
+            return Some(Refusal::OutOfBounds);
+        }
+        None
+    }
+}
+
+impl Copies {
+    /// Why `len` bytes can't be written into the copy: `BadSize`, `Absent`, `AlreadySealed`,
+    /// `OutOfBounds`, or nothing.
+    pub fn write_check(&self, id: &ObjectId, offset: u32, len: usize) -> Option<Refusal>
+        ensures { result ≡ write_check_lem self.now id.now offset len }
+    {
+        if len > MOST_BYTES {
+            return Some(Refusal::BadSize);
+        }
+        match self.get(id) {
+            None => Some(Refusal::Absent),
+            Some(copy) => copy.write_check(offset, len as u32),
+        }
+    }
+
+    /// Why the copy can't be sealed: `Absent`, `AlreadySealed`, or nothing.
+    pub fn seal_check(&self, id: &ObjectId) -> Option<Refusal>
+        ensures { result ≡ seal_check_lem self.now id.now }
+    {
+        match self.get(id) {
+            None => Some(Refusal::Absent),
+            Some(copy) => copy.seal_check(),
+        }
+    }
+
+    /// Why the session can't read `len` bytes of the copy: `BadSize`, `Absent`, `NotSealed`, `NotHeld`,
+    /// `OutOfBounds`, or nothing.
+    pub fn read_check(
+        &self,
+        session: u32,
+        id: &ObjectId,
+        offset: u32,
+        len: u32,
+    ) -> Option<Refusal>
+        ensures { result ≡ read_check_lem self.now session id.now offset len }
+    {
+        if len as usize > MOST_BYTES {
+            return Some(Refusal::BadSize);
+        }
+        match self.get(id) {
+            None => Some(Refusal::Absent),
+            Some(copy) => copy.read_check(session, offset, len),
+        }
+    }
+
+    /// Why the session has no hold of the copy to give up: `Absent`, `NotHeld`, or nothing.
+    pub fn release_check(&self, session: u32, id: &ObjectId) -> Option<Refusal>
+        ensures { result ≡ release_check_lem self.now session id.now }
+    {
+        match self.get(id) {
+            None => Some(Refusal::Absent),
+            Some(copy) => {
+                if copy.holds_of(session) == 0 {
+                    Some(Refusal::NotHeld)
+                } else {
+                    None
+                }
+            }
+        }
+    }
+}
