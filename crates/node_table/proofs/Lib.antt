@@ -5,3 +5,4 @@ pub mod Stepping
 pub mod ByChecks
 pub mod Passed
 pub mod Writing
+pub mod Changing

@@ -53,11 +53,10 @@ module _ (node : ℕ) (row : Row) (line : WorkLine) (contents : Contents) (h : I
     pub digests : (id : ObjectId) (k : Kept) → at new.copies id ≡ Some k → keeps_digest k.copy ≡ true → unwrap_or (at (digests_now c) id) no_digest ≡ unwrap_or k.digest no_digest
     pub working : (id : ObjectId) (k : Kept) → at new.copies id ≡ Some k → k.working ≡ work_on (works_of after (record { 0 = new.job })) id
     pub reply : told.reply ≡ whole_reply before x c.reply
-    pub posts : told.posts ≡ flat_map (posts_of node (view_after node before x (judge node before x) c) x) c.sent
     pub erased : told.erased ≡ map (key_of row.job) c.erased
 
   module _ (c : Change) (is : change ≡ c) (told : Given) (new : Row) (after : WorkLine) (m : Moves c told new after) where
-    abbrev o : View
+    abbrev pub o : View
     o = view_after node before x (judge node before x) c
 
     same_view : (view_step node before x).view ≡ o
@@ -85,7 +84,7 @@ module _ (node : ℕ) (row : Row) (line : WorkLine) (contents : Contents) (h : I
         by (Some offset) is = refl
         by None is = cc
 
-    shown_now : IsShown new after o.contents
+    pub shown_now : IsShown new after o.contents
     shown_now = record {
       kept = kept_now;
       there = m.there;
@@ -102,13 +101,13 @@ module _ (node : ℕ) (row : Row) (line : WorkLine) (contents : Contents) (h : I
       working = m.working;
     }
 
-    pub moved : TakesStep node row line contents x told new after
-    moved = record {
+    pub moved : told.posts ≡ flat_map (posts_of node o x) c.sent → TakesStep node row line contents x told new after
+    moved posts = record {
       shape = ap (λ v. v.shape) same_view ∙ m.shape;
       order = ap (λ v. v.order) same_view ∙ order_is;
       shown = subst (λ v. IsShown new after v.contents) (sym same_view) shown_now;
       reply = m.reply ∙ sym (ap (λ d. whole_reply before x d.reply) is);
-      posts = m.posts ∙ sym (ap (λ d. flat_map (posts_of node (view_after node before x (judge node before x) d) x) d.sent) is);
+      posts = posts ∙ sym (ap (λ d. flat_map (posts_of node (view_after node before x (judge node before x) d) x) d.sent) is);
       erased = m.erased ∙ sym (ap (λ d. map (key_of row.job) d.erased) is);
     }
 
@@ -135,6 +134,5 @@ module _ (node : ℕ) (row : Row) (line : WorkLine) (contents : Contents) (h : I
     digests = λ id k found keeps. ap (λ d. unwrap_or (at (brought contents.digests d) id) no_digest) digests ∙ h.digests id k found keeps;
     working = h.working;
     reply = refl;
-    posts = refl;
     erased = sym (ap (map (key_of row.job)) (keys_none (copies_of row.copies) (copies_of row.copies) (all_found (copies_of row.copies))));
-  })
+  }) refl

@@ -135,9 +135,8 @@ module _ (node : ℕ) (row : Row) (line : WorkLine) (contents : Contents) (sessi
               digests = h.digests;
               working = h.working;
               reply = refl;
-              posts = refl;
               erased = sym (ap (map (key_of row.job)) (keys_none (copies_of row.copies) (copies_of row.copies) (all_found (copies_of row.copies))));
-            })
+            }) refl
 
   module _ (n : ℕ) where
     abbrev y : Input
