@@ -1,5 +1,5 @@
 -- The commands of the private store, by their checks: the refusal, and else what is done.
-use Rattle.std.proofs.Common.{◌≡◌, ℕ, Bool, true, false, not, cond, ◌==◌, ◌+◌, nat_lt, List, [], ◌∷◌, Option, Some, None, option_map, refl, sym, ap, subst, ◌∙◌}
+use Rattle.std.proofs.Common.{◌≡◌, ℕ, Bool, true, false, not, cond, ◌==◌, ◌+◌, nat_lt, List, [], ◌∷◌, ◌++◌, Option, Some, None, option_map, refl, sym, ap, subst, ◌∙◌}
 use Rattle.std.specs.Option.{option_map_or, option_and_then}
 use Rattle.obj_id.specs.declared.ids.ObjectId.{ObjectId}
 use Rattle.obj_id.specs.declared.refusals.Refusal.{Refusal}
@@ -10,7 +10,7 @@ use Rattle.obj_id.specs.declared.commands.Reply.TheVariants as reply
 use Rattle.private_store.specs.declared.inputs.Judged.TheVariants as judged
 use Rattle.private_store.specs.Limits.{most_bytes}
 use Rattle.private_store.specs.Tables.{ById, at}
-use Rattle.private_store.specs.Shape.{Copy, Shape, Change, add_location}
+use Rattle.private_store.specs.Shape.{Copy, Shape, Change, Sending, add_location}
 use Rattle.private_store.specs.Copies.{is_created, visible}
 use Rattle.private_store.specs.Room.{set_copy}
 use Rattle.private_store.specs.Change.{replied, refused, done, checked, needing, sending, erasing, settled}
@@ -109,3 +109,18 @@ module _ (row : Row) (line : WorkLine) (id : ObjectId) where
       first-check s (is_unsealed k.copy.state) NotSealed _ _ _ _
       (first-check s (holds_of k.copy session == 0) NotHeld _ _ _ _
       (first-check s (nat_lt k.copy.length (offset + n)) OutOfBounds [] _ None _ (checked-nil s _)))))
+
+  -- what sealing does to the copy that is there
+  abbrev pub seal_done : Change
+  seal_done = option_map_or (λ copy. sending (add_location id ∷ []) (done (set_copy s id (record copy { state = Sealed })))) (at s.copies id) (refused s Absent)
+
+  pub seal-by : seal s id ≡ unless_refused s (seal_check row.copies id) seal_done
+  seal-by =
+      in_sight _ (λ k. cond (not (is_created k.copy.state)) (Some AlreadySealed) None) seal_done (λ k found seen.
+      first-check s (not (is_created k.copy.state)) AlreadySealed [] _ None seal_done
+      (checked-nil s _ ∙ sym (ap (λ o. option_map_or (λ copy. sending (add_location id ∷ []) (done (set_copy s id (record copy { state = Sealed })))) o (refused s Absent)) (at-copies row.copies id ∙ ap (option_map (λ k. k.copy)) found))))
+
+-- what is sent first
+pub sending-is : (sent : List Sending) (c : Change) → sending sent c ≡ record c { sent = sent ++ c.sent }
+unfolding sending
+sending-is sent c = refl

@@ -6,3 +6,4 @@ pub mod ByChecks
 pub mod Passed
 pub mod Writing
 pub mod Changing
+pub mod Sealing

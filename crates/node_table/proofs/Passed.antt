@@ -64,6 +64,22 @@ read_passed copies session id offset n e =
     let ends = past (nat_lt k.0.copy.length (offset + n)) OutOfBounds _ has.1 in
     record { copy = k.0; found = k.1; unsealed = made.0; held = has.0; within = grind (arith, nat_tests, ends.0) }
 
+pub record IsUnwritten (copies : ById Kept) (id : ObjectId) : Type 0 where
+  pub copy : Kept
+  pub found : at copies id ≡ Some copy
+  pub visible : copy.copy.doomed ≡ false
+  pub created : is_created copy.copy.state ≡ true
+
+pub seal_passed : (copies : ById Kept) (id : ObjectId) → seal_check copies id ≡ None → IsUnwritten copies id
+seal_passed copies id e =
+    let k = there seal_check_of Absent (at copies id) e in
+    let seen = past k.0.copy.doomed Absent _ k.2 in
+    let made = past (not (is_created k.0.copy.state)) AlreadySealed None seen.1 in
+    record { copy = k.0; found = k.1; visible = seen.0; created = not_not (is_created k.0.copy.state) made.0 }
+
+pub may_seal : (copies : ById Kept) (id : ObjectId) → seal_check copies id ≡ None → option_map_or (λ k. is_created k.copy.state) (at copies id) true ≡ true
+may_seal copies id e = let w = seal_passed copies id e in ap (λ o. option_map_or (λ (k : Kept). is_created k.copy.state) o true) w.found ∙ w.created
+
 -- a copy that is resident has a place
 pub placed_at : (copy : Copy) → is_some copy.offset ≡ true → (e : Extent) × (extent_of copy ≡ Some e) × (e.length ≡ rounded copy.length)
 placed_at copy h = by copy.offset h

@@ -14,7 +14,15 @@ use Rattle.private_store.specs.Contents.{overwritten}
 use Rattle.private_store.proofs.Tests.{true_false, some_value}
 use Rattle.private_store.proofs.RowContents.{length-overwritten}
 use Rattle.job_region.specs.Region.{Region, IsAt, bytes_at}
-use Rattle.node_table.specs.Row.{ArePlaced}
+use Rattle.private_store.specs.Tables.{ById, at, with_entry}
+use Rattle.private_store.specs.Copies.{extent_of}
+use Rattle.private_store.proofs.Rows.{at-put}
+use Rattle.obj_id.specs.Ids.{same_id}
+use Rattle.obj_id.proofs.SameIds.{same_id-equal}
+use Rattle.std.specs.Option.{option_map_or, option_and_then}
+use Rattle.node_table.specs.Entries.{changed}
+use Rattle.node_table.specs.Kept.{Kept, sealed, held, left, fault_told}
+use Rattle.node_table.specs.Row.{ArePlaced, place_of}
 
 same_offset : (n : ℕ) → nat_eq n n ≡ true
 same_offset n = grind (arith, nat_tests)
@@ -80,3 +88,34 @@ write_placed old new places h id e is off bytes (Ok u) wrote bounds kept =
     no_err : (u : Unit {0}) → IsErrOf {T = Unit {0}} {E = Refusal} (Ok u) OutOfBounds → ⊥
     no_err u e = absurd cc
 write_placed old new places h id e is off bytes (Err q) wrote bounds kept = subst (λ w. ArePlaced w.placed places) (sym kept) h
+
+-- places that are the same
+pub same_places : (placed : List (ℕ × List ℕ)) (places now : ObjectId → Option Extent) → ((q : ObjectId) → now q ≡ places q) → ArePlaced placed places → ArePlaced placed now
+same_places placed places now same h = record {
+  there = λ q e lies. h.there q e (sym (same q) ∙ lies);
+  apart = λ a b e f i j o. h.apart a b e f (sym (same a) ∙ i) (sym (same b) ∙ j) o;
+}
+
+-- ---- changes that leave a copy where it lies
+
+abbrev Lies : (Kept → Kept) → Type 0
+Lies f = (z : Kept) → extent_of (f z).copy ≡ extent_of z.copy
+
+places_changed : (f : Kept → Kept) → Lies f → (es : ById Kept) (id q : ObjectId) → place_of (changed f es id) q ≡ place_of es q
+places_changed f lies es id q = by (at es id) refl
+  where
+    by : (o : Option Kept) → at es id ≡ o → place_of (option_map_or (λ x. with_entry es id (f x)) o es) q ≡ place_of es q
+    by None e = refl
+    by (Some z) e = ap (λ o. option_and_then (λ kept. extent_of kept.copy) o) (at-put es id (f z) q) ∙ here (same_id q id) refl
+      where
+        here : (b : Bool) → same_id q id ≡ b → option_and_then (λ kept. extent_of kept.copy) (cond b (Some (f z)) (at es q)) ≡ place_of es q
+        here true t = lies z ∙ sym (ap (λ o. option_and_then (λ kept. extent_of kept.copy) o) (ap (at es) (same_id-equal q id t) ∙ e))
+        here false t = refl
+
+module _ (placed : List (ℕ × List ℕ)) (es : ById Kept) (h : ArePlaced placed (place_of es)) where
+  pub changed_placed : (f : Kept → Kept) → Lies f → (id : ObjectId) → ArePlaced placed (place_of (changed f es id))
+  changed_placed f lies id = same_places placed (place_of es) (place_of (changed f es id)) (places_changed f lies es id) h
+
+  -- where they stand in a map that was changed
+  pub now_placed : (f : Kept → Kept) → Lies f → (id : ObjectId) (now : ById Kept) → now ≡ changed f es id → ArePlaced placed (place_of now)
+  now_placed f lies id now is = subst (λ t. ArePlaced placed (place_of t)) (sym is) (changed_placed f lies id)

@@ -3,3 +3,5 @@ pub mod Kept
 pub mod Row
 pub mod Shown
 pub mod Checks
+pub mod Erased
+pub mod Outcomes

@@ -6,8 +6,10 @@ mod bytes_commands;
 mod checks;
 mod copies;
 mod copy;
+mod outcome;
 mod row;
 
 pub use copies::Copies;
 pub use copy::RowCopy;
+pub use outcome::{Erase, Outcome};
 pub use row::JobRow;

@@ -1,18 +1,22 @@
 //! The row of one job.
-ghost use Rattle.std.specs.Prelude.{◌≡◌, ℕ, ◌+◌, ◌≤◌, nat_eq, take, drop, length, Some, IfOk};
+ghost use Rattle.std.specs.Prelude.{◌≡◌, ℕ, ◌+◌, ◌≤◌, nat_eq, take, drop, length, true, Some, IfOk, OnOk, OnErr};
 ghost use Rattle.std.specs.Map.{set_value};
 ghost use Rattle.obj_id.specs.declared.works.Extent.{Extent};
 ghost use Rattle.private_store.specs.Tables.{at};
 ghost use Rattle.private_store.specs.Copies.{extent_of};
 ghost use Rattle.private_store.specs.Contents.{overwritten};
 ghost use Rattle.job_region.specs.Region.{bytes_at as placed_bytes};
-ghost use Rattle.node_table.specs.Kept.{Kept};
+ghost use Rattle.std.specs.Option.{option_map_or};
+ghost use Rattle.private_store.specs.Copies.{is_created};
+ghost use Rattle.lru_evictor.specs.Orders.{touched};
+ghost use Rattle.node_table.specs.Entries.{changed};
+ghost use Rattle.node_table.specs.Kept.{Kept, sealed, held, left, fault_told};
 ghost use Rattle.node_table.specs.Row.{Row, new_row, place_of, ArePlaced};
 
 use crate::copies::Copies;
 use job_region::Window;
 use lru_evictor::UseOrder;
-use obj_id::{Extent, JobNo, ObjectId, Quota, Refusal, TaskNo};
+use obj_id::{Digest, Extent, JobNo, ObjectId, Quota, Refusal, TaskNo};
 use std::alloc::Global;
 use std::marker::Model;
 
@@ -92,6 +96,39 @@ impl JobRow {
             return &[];
         };
         first_bytes(self.window.bytes_of(&extent), copy.length())
+    }
+
+    /// The copy is immutable from now on, with this digest of its bytes.
+    pub(crate) fn seal_copy(&mut self, id: &ObjectId, digest: Digest)
+        requires { option_map_or (λ k. is_created k.copy.state) (at self.old.copies id.now) true ≡ true }
+        ensures { self.new ≡ record self.old { copies = changed (sealed digest) self.old.copies id.now } }
+    {
+        self.copies.seal(id, digest);
+    }
+
+    /// One more hold of the session on the copy, which is the most recently used now. `TooMany` at 64
+    /// holds, `NoMemory` last; a refusal changes nothing.
+    pub(crate) fn hold_copy(&mut self, id: &ObjectId, session: u32) -> Result<(), Refusal>
+        ensures ok { OnOk result (self.new ≡ record self.old { copies = changed (held session) self.old.copies id.now; order = touched id.now self.old.order }) }
+        ensures err { OnErr result (self.new ≡ self.old) }
+    {
+        self.copies.hold(id, session)?;
+        self.order.touch(self.job, *id);
+        Ok(())
+    }
+
+    /// No hold of the session on the copy. Takes no memory.
+    pub(crate) fn leave_copy(&mut self, id: &ObjectId, session: u32)
+        ensures { self.new ≡ record self.old { copies = changed (left session) self.old.copies id.now } }
+    {
+        self.copies.leave(id, session);
+    }
+
+    /// The fault of the copy was told.
+    pub(crate) fn tell_fault(&mut self, id: &ObjectId)
+        ensures { self.new ≡ record self.old { copies = changed fault_told self.old.copies id.now } }
+    {
+        self.copies.tell_fault(id);
     }
 
     /// Writes bytes into a resident copy from the offset on.
