@@ -27,7 +27,7 @@ use Rattle.spill_work.specs.Line.{WorkLine, works_of}
 use Rattle.node_table.specs.Entries.{changed}
 use Rattle.node_table.specs.Kept.{Kept}
 use Rattle.node_table.specs.Row.{Row, copies_of, shape_of, place_of}
-use Rattle.node_table.specs.Shown.{seen, work_on, IsShown, Given}
+use Rattle.node_table.specs.Shown.{seen, work_on, IsPlain, IsShown, Given}
 use Rattle.node_table.proofs.Changes.{changed-found}
 use Rattle.node_table.proofs.CopyTables.{copies-changed}
 use Rattle.node_table.proofs.Stepping.{Moves, same_bytes, digests_now, bytes_now}
@@ -121,3 +121,13 @@ module _ (node : ℕ) (row : Row) (line : WorkLine) (contents : Contents) (h : I
       by z e (inl t) =
           let is : z ≡ k = some_value z k (sym e ∙ ap (at row.copies) (same_id-equal q id t.0) ∙ found) in
           ap (λ y. y.working) (t.1 ∙ ap f is) ∙ same ∙ ap (λ z. z.working) (sym is) ∙ h.working q z e
+
+  -- where the change keeps the copy plain
+  pub plain_stay : IsPlain (f k).copy → (q : ObjectId) (y : Kept) → at (changed f row.copies id) q ≡ Some y → IsPlain y.copy
+  plain_stay good q y is = by (one q y is).0 (one q y is).1 (one q y is).2
+    where
+      by : (z : Kept) → at row.copies q ≡ Some z → From f row.copies id q y z → IsPlain y.copy
+      by z e (inr t) = subst (λ y. IsPlain y.copy) (sym t.1) (h.plain q z e)
+      by z e (inl t) =
+          let is : z ≡ k = some_value z k (sym e ∙ ap (at row.copies) (same_id-equal q id t.0) ∙ found) in
+          subst (λ y. IsPlain y.copy) (sym (t.1 ∙ ap f is)) good

@@ -1,5 +1,5 @@
 -- Where the copies of a row lie, after a change of the window or of the copies.
-use Rattle.std.proofs.Common.{◌≡◌, ◌≢◌, ℕ, ◌+◌, ◌≤◌, ◌<◌, nat_lt, Bool, true, false, cond, nat_eq, List, [], Option, Some, None, length, take, refl, sym, ap, subst, ◌∙◌, arith}
+use Rattle.std.proofs.Common.{◌≡◌, ◌≢◌, ℕ, ◌+◌, ◌≤◌, ◌<◌, nat_lt, Bool, true, false, cond, nat_eq, List, [], ◌∷◌, Contains, Option, Some, None, length, take, refl, sym, ap, subst, ◌∙◌, arith}
 use Rattle.std.specs.Prelude.{◌↔◌, IsSomeAnd, unwrap_or, OnOk, OnErr, Ok, Err, IsSome, IsErrOf}
 use Rattle.std.specs.declared.result.Result.{Result}
 use Rattle.std.specs.Cmp.{nat_eq_equiv}
@@ -13,7 +13,7 @@ use Rattle.obj_id.specs.declared.refusals.Refusal.TheVariants.{OutOfBounds}
 use Rattle.private_store.specs.Contents.{overwritten}
 use Rattle.private_store.proofs.Tests.{true_false, some_value}
 use Rattle.private_store.proofs.RowContents.{length-overwritten}
-use Rattle.job_region.specs.Region.{Region, IsAt, bytes_at}
+use Rattle.job_region.specs.Region.{Region, extents_of, IsAt, bytes_at}
 use Rattle.private_store.specs.Tables.{ById, at, with_entry}
 use Rattle.private_store.specs.Copies.{extent_of}
 use Rattle.private_store.proofs.Rows.{at-put}
@@ -21,7 +21,7 @@ use Rattle.obj_id.specs.Ids.{same_id}
 use Rattle.obj_id.proofs.SameIds.{same_id-equal}
 use Rattle.std.specs.Option.{option_map_or, option_and_then}
 use Rattle.node_table.specs.Entries.{changed}
-use Rattle.node_table.specs.Kept.{Kept, sealed, held, left, fault_told}
+use Rattle.node_table.specs.Kept.{Kept}
 use Rattle.node_table.specs.Row.{ArePlaced, place_of}
 
 same_offset : (n : ℕ) → nat_eq n n ≡ true
@@ -53,6 +53,17 @@ module _ (placed : List (ℕ × List ℕ)) (e : Extent) (there : IsAt e placed) 
         | false ↦ λ _. at
       ] refl)
 
+-- a write keeps the extents
+extents-written : (placed : List (ℕ × List ℕ)) (e : Extent) → IsAt e placed → (new : List ℕ) → length new ≡ e.length → extents_of (set_value (nat_eq e.offset) placed new) ≡ extents_of placed
+extents-written [] e at new long = absurd at
+extents-written (p ∷ placed) e at new long = by (nat_eq e.offset p.0) at (extents-written placed e)
+  where
+    by : (b : Bool) → IsSomeAnd (cond b (Some p.1) (lookup (nat_eq e.offset) placed)) (λ bytes. length bytes ≡ e.length)
+        → (IsAt e placed → (new : List ℕ) → length new ≡ e.length → extents_of (set_value (nat_eq e.offset) placed new) ≡ extents_of placed)
+        → extents_of (cond b ((p.0, new) ∷ placed) (p ∷ set_value (nat_eq e.offset) placed new)) ≡ extents_of (p ∷ placed)
+    by true at rest = ap (λ n. record { offset = p.0; length = n } ∷ extents_of placed) (long ∙ sym at)
+    by false at rest = ap (λ es. record { offset = p.0; length = length p.1 } ∷ es) (rest at new long)
+
 pub long_at : (placed : List (ℕ × List ℕ)) (e : Extent) → IsAt e placed → length (bytes_at e placed) ≡ e.length
 long_at placed e at = by (lookup (nat_eq e.offset) placed) at
   where
@@ -69,6 +80,7 @@ module _ (placed : List (ℕ × List ℕ)) (places : ObjectId → Option Extent)
   written_placed = record {
     there = λ q f lies. at-written placed e (h.there id e is) new long f (h.there q f lies) (λ same. ap (λ x. x.length) (same_place q f lies same));
     apart = h.apart;
+    owned = λ f inside. h.owned f (subst (λ es. Contains es f) (extents-written placed e (h.there id e is) new long) inside);
   }
 
 -- a write that may be refused
@@ -94,6 +106,7 @@ pub same_places : (placed : List (ℕ × List ℕ)) (places now : ObjectId → O
 same_places placed places now same h = record {
   there = λ q e lies. h.there q e (sym (same q) ∙ lies);
   apart = λ a b e f i j o. h.apart a b e f (sym (same a) ∙ i) (sym (same b) ∙ j) o;
+  owned = λ e inside. ((h.owned e inside).0, same (h.owned e inside).0 ∙ (h.owned e inside).1);
 }
 
 -- ---- changes that leave a copy where it lies

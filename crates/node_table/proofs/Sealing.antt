@@ -1,5 +1,5 @@
 -- A row takes Seal.
-use Rattle.std.proofs.Common.{◌≡◌, ℕ, Bool, true, false, cond, ◌==◌, ◌⊎◌, inl, inr, List, [], ◌∷◌, ◌++◌, map, take, flat_map, Option, Some, None, option_map, is_some, unwrap_or, refl, sym, ap, subst, ◌∙◌}
+use Rattle.std.proofs.Common.{◌≡◌, ℕ, Bool, true, false, cond, ◌==◌, ◌⊎◌, inl, inr, List, [], ◌∷◌, ◌++◌, map, take, flat_map, Option, Some, None, option_map, is_some, is_none, unwrap_or, refl, sym, ap, subst, ◌∙◌}
 use Rattle.std.specs.Option.{option_map_or}
 use Rattle.obj_id.specs.declared.ids.ObjectId.{ObjectId}
 use Rattle.obj_id.specs.declared.works.Extent.{Extent}
@@ -10,7 +10,8 @@ use Rattle.obj_id.specs.declared.messages.Message.TheVariants.{ToDirectory}
 use Rattle.obj_id.specs.declared.messages.DirectoryMessage.TheVariants.{AddLocation}
 use Rattle.obj_id.specs.declared.refusals.Refusal.{Refusal}
 use Rattle.obj_id.specs.declared.refusals.Refusal.TheVariants.{Absent}
-use Rattle.obj_id.specs.declared.commands.CopyState.TheVariants.{Sealed}
+use Rattle.obj_id.specs.declared.commands.CopyState.{CopyState}
+use Rattle.obj_id.specs.declared.commands.CopyState.TheVariants.{Created, Sealed, Restoring, Fetching, Away}
 use Rattle.obj_id.specs.declared.commands.Command.TheVariants as command
 use Rattle.obj_id.specs.declared.commands.Reply.TheVariants as reply
 use Rattle.obj_id.specs.Ids.{same_id}
@@ -19,14 +20,14 @@ use Rattle.private_store.specs.declared.inputs.Input.{Input}
 use Rattle.private_store.specs.declared.inputs.Input.TheVariants as input
 use Rattle.private_store.specs.Tables.{ById, at, with_entry}
 use Rattle.private_store.specs.Shape.{Copy, Shape, Change, add_location}
-use Rattle.private_store.specs.Copies.{extent_of}
+use Rattle.private_store.specs.Copies.{extent_of, is_created}
 use Rattle.private_store.specs.Room.{set_copy}
 use Rattle.private_store.specs.Change.{refused, done, erasing, sending}
 use Rattle.private_store.specs.Contents.{Contents, judge, bytes_at, digest_at, digest_of, no_digest, keeps_digest}
 use Rattle.private_store.specs.Private.{Post, posts_of, key_of, length_at}
 use Rattle.private_store.specs.Step.{step}
 use Rattle.private_store.proofs.Rows.{at-put, at-put_here}
-use Rattle.private_store.proofs.Tests.{some_value}
+use Rattle.private_store.proofs.Tests.{some_value, true_false}
 use Rattle.job_region.specs.Region.{bytes_at as placed_bytes}
 use Rattle.lru_evictor.proofs.Reorders.{reordered-unused}
 use Rattle.spill_work.specs.Line.{WorkLine}
@@ -34,12 +35,12 @@ use Rattle.node_table.specs.Entries.{changed}
 use Rattle.node_table.specs.Kept.{Kept, sealed}
 use Rattle.node_table.specs.Row.{Row, copies_of, shape_of}
 use Rattle.node_table.specs.Checks.{seal_check}
-use Rattle.node_table.specs.Shown.{seen, IsShown, Given, only, TakesStep}
+use Rattle.node_table.specs.Shown.{seen, is_plain, IsPlain, IsShown, Given, only, TakesStep}
 use Rattle.node_table.proofs.ByChecks.{unless_refused, called, own, seal_done, seal-by, sending-is}
 use Rattle.node_table.proofs.Changes.{changed-found}
 use Rattle.node_table.proofs.CopyTables.{at-copies_found, copies-changed}
 use Rattle.node_table.proofs.Passed.{IsUnwritten, seal_passed, placed_at, created_resides}
-use Rattle.node_table.proofs.Changing.{with_change, there_still, from_changed, bytes_stay, works_stay, keys_with}
+use Rattle.node_table.proofs.Changing.{with_change, there_still, from_changed, bytes_stay, works_stay, plain_stay, keys_with}
 use Rattle.node_table.proofs.Stepping.{Moves, o, moved, shown_now, stays, digests_now}
 
 module _ (node : ℕ) (row : Row) (line : WorkLine) (contents : Contents) (session : ℕ) (id : ObjectId) (mine : (id.job.0 == row.job) ≡ true) (h : IsShown row line contents) where
@@ -99,6 +100,16 @@ module _ (node : ℕ) (row : Row) (line : WorkLine) (contents : Contents) (sessi
       copies_is : with_entry (copies_of row.copies) id now ≡ copies_of row_sealed.copies
       copies_is = sym (copies-changed (sealed digest) row.copies id k found)
 
+      plain_now : IsPlain now
+      plain_now = let p = h.plain id k found in record { state = by k.copy.state w.created p.state; doomed = p.doomed; backed = p.backed; fault = p.fault }
+        where
+          by : (state : CopyState) → is_created state ≡ true → is_plain state k.copy.fetch ≡ true → is_none k.copy.fetch ≡ true
+          by Created e p = p
+          by Sealed e p = true_false e
+          by Restoring e p = true_false e
+          by Fetching e p = true_false e
+          by Away e p = true_false e
+
       m : Moves node row line contents h x c told row_sealed line
       m = record {
         shape = ap (λ t. record s { copies = t }) copies_is;
@@ -107,6 +118,7 @@ module _ (node : ℕ) (row : Row) (line : WorkLine) (contents : Contents) (sessi
         bytes = bytes_stay node row line contents h x id k found (sealed digest) keeps c refl;
         digests = digest_now;
         working = works_stay node row line contents h x id k found (sealed digest) keeps refl;
+        plain = plain_stay node row line contents h x id k found (sealed digest) keeps plain_now;
         reply = refl;
         erased = sym (ap (map (key_of row.job)) (keys_with (copies_of row.copies) id now));
       }

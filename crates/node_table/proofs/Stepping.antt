@@ -27,7 +27,7 @@ use Rattle.lru_evictor.proofs.Reorders.{reordered-unused}
 use Rattle.spill_work.specs.Line.{WorkLine, works_of}
 use Rattle.node_table.specs.Kept.{Kept}
 use Rattle.node_table.specs.Row.{Row, copies_of, shape_of}
-use Rattle.node_table.specs.Shown.{seen, work_on, IsShown, Given, only, TakesStep}
+use Rattle.node_table.specs.Shown.{seen, work_on, IsPlain, IsShown, Given, only, TakesStep}
 use Rattle.node_table.proofs.CopyTables.{at-copies, at-copies_found}
 
 module _ (node : ℕ) (row : Row) (line : WorkLine) (contents : Contents) (h : IsShown row line contents) (x : Input) where
@@ -52,6 +52,7 @@ module _ (node : ℕ) (row : Row) (line : WorkLine) (contents : Contents) (h : I
     pub bytes : (id : ObjectId) (k : Kept) (e : Extent) → at new.copies id ≡ Some k → extent_of k.copy ≡ Some e → filled (at (bytes_now c) id) k.copy ≡ take k.copy.length (placed_bytes e new.window.placed)
     pub digests : (id : ObjectId) (k : Kept) → at new.copies id ≡ Some k → keeps_digest k.copy ≡ true → unwrap_or (at (digests_now c) id) no_digest ≡ unwrap_or k.digest no_digest
     pub working : (id : ObjectId) (k : Kept) → at new.copies id ≡ Some k → k.working ≡ work_on (works_of after (record { 0 = new.job })) id
+    pub plain : (id : ObjectId) (k : Kept) → at new.copies id ≡ Some k → IsPlain k.copy
     pub reply : told.reply ≡ whole_reply before x c.reply
     pub erased : told.erased ≡ map (key_of row.job) c.erased
 
@@ -98,6 +99,7 @@ module _ (node : ℕ) (row : Row) (line : WorkLine) (contents : Contents) (h : I
           ∙ ap (λ p. kept_row keeps_digest (λ copy. no_digest) (digests_now c) id p) (copy_at id k found)
           ∙ ap (λ b. cond b (Some (unwrap_or (at (digests_now c) id) no_digest)) None) keeps)
           ∙ m.digests id k found keeps;
+      plain = m.plain;
       working = m.working;
     }
 
@@ -132,6 +134,7 @@ module _ (node : ℕ) (row : Row) (line : WorkLine) (contents : Contents) (h : I
     there = h.there;
     bytes = λ id k e found lies. ap (λ b. filled (at (brought contents.bytes b) id) k.copy) bytes ∙ same_bytes id k e found lies;
     digests = λ id k found keeps. ap (λ d. unwrap_or (at (brought contents.digests d) id) no_digest) digests ∙ h.digests id k found keeps;
+    plain = h.plain;
     working = h.working;
     reply = refl;
     erased = sym (ap (map (key_of row.job)) (keys_none (copies_of row.copies) (copies_of row.copies) (all_found (copies_of row.copies))));

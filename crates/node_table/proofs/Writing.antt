@@ -133,6 +133,7 @@ module _ (node : ℕ) (row : Row) (line : WorkLine) (contents : Contents) (sessi
                     | false ↦ λ t. elsewhere q k f t found place
                   ]) refl;
               digests = h.digests;
+              plain = h.plain;
               working = h.working;
               reply = refl;
               erased = sym (ap (map (key_of row.job)) (keys_none (copies_of row.copies) (copies_of row.copies) (all_found (copies_of row.copies))));

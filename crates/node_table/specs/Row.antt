@@ -1,7 +1,6 @@
 -- The row of one job at a node, and the store of that job, without contents, that it is.
-use Rattle.std.specs.Prelude.{◌≡◌, ℕ, Bool, false, List, [], map, Option, Some, option_map}
+use Rattle.std.specs.Prelude.{◌≡◌, ℕ, false, List, [], map, Contains, Option, Some, option_map}
 use Rattle.std.specs.Option.{option_and_then}
-use Rattle.obj_id.specs.declared.ids.TaskNo.{TaskNo}
 use Rattle.obj_id.specs.declared.ids.ObjectId.{ObjectId}
 use Rattle.obj_id.specs.declared.works.Extent.{Extent}
 use Rattle.obj_id.specs.declared.works.Quota.{Quota}
@@ -22,9 +21,6 @@ pub record Row : Type 0 where
   pub order : List ObjectId
   -- the last number that a fetch had
   pub fetches_begun : ℕ
-  -- whether a spill failed since room was last refused for it
-  pub spill_failed : Bool
-  pub ended_tasks : List TaskNo
 
 -- of a job that was admitted now
 abbrev pub new_row : ℕ → Quota → Row
@@ -36,15 +32,13 @@ new_row job quota =
       copies = [];
       order = [];
       fetches_begun = 0;
-      spill_failed = false;
-      ended_tasks = [];
     }
 
 abbrev pub copies_of : ById Kept → ById Copy
 copies_of table = map (λ e. (e.0, e.1.copy)) table
 
--- the job's store without contents, where its works in flight stand in this line, and where it has neither
--- given nor received a hand
+-- the job's store without contents, where its works in flight stand in this line. No event that is built
+-- fails a spill, ends a task, or gives a hand
 abbrev pub shape_of : Row → WorkLine → Shape
 shape_of row line =
     record {
@@ -55,8 +49,8 @@ shape_of row line =
       works = works_of line (record { 0 = row.job });
       works_asked = used_by line (record { 0 = row.job });
       fetches_begun = row.fetches_begun;
-      spill_failed = row.spill_failed;
-      ended_tasks = row.ended_tasks;
+      spill_failed = false;
+      ended_tasks = [];
       given = [];
       received = [];
     }
@@ -69,3 +63,4 @@ place_of table id = option_and_then (λ kept. extent_of kept.copy) (at table id)
 pub record ArePlaced (placed : List (ℕ × List ℕ)) (places : ObjectId → Option Extent) : Type 0 where
   pub there : (id : ObjectId) (e : Extent) → places id ≡ Some e → IsAt e placed
   pub apart : (a b : ObjectId) (e f : Extent) → places a ≡ Some e → places b ≡ Some f → e.offset ≡ f.offset → a ≡ b
+  pub owned : (e : Extent) → Contains (extents_of placed) e → (id : ObjectId) × (places id ≡ Some e)

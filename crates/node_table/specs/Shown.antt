@@ -1,5 +1,5 @@
 -- Which contents a row shows of its job's store, and what it is that a row takes the private step.
-use Rattle.std.specs.Prelude.{◌≡◌, ℕ, true, if◌then◌else◌, List, [], find, take, Option, Some, unwrap_or, option_map}
+use Rattle.std.specs.Prelude.{◌≡◌, ℕ, Bool, true, false, is_none, None, if◌then◌else◌, List, [], find, take, Option, Some, unwrap_or, option_map}
 use Rattle.obj_id.specs.declared.ids.ObjectId.{ObjectId}
 use Rattle.obj_id.specs.declared.works.DeviceKey.{DeviceKey}
 use Rattle.obj_id.specs.declared.works.Extent.{Extent}
@@ -9,9 +9,12 @@ use Rattle.obj_id.specs.declared.commands.Reply.{Reply}
 use Rattle.obj_id.specs.Ids.{same_id}
 use Rattle.private_store.specs.declared.inputs.Input.{Input}
 use Rattle.private_store.specs.Tables.{at}
-use Rattle.private_store.specs.Shape.{WorkInFlight}
+use Rattle.std.specs.Option.{option_map_or}
+use Rattle.obj_id.specs.declared.commands.CopyState.{CopyState}
+use Rattle.obj_id.specs.declared.commands.CopyState.TheVariants.{Created, Sealed, Fetching}
+use Rattle.private_store.specs.Shape.{Copy, Fetch, WorkInFlight}
 use Rattle.private_store.specs.Copies.{extent_of}
-use Rattle.private_store.specs.Contents.{Contents, View, bytes_at, digest_at, keeps_digest, no_digest}
+use Rattle.private_store.specs.Contents.{Contents, View, bytes_at, digest_at, keeps_digest, no_digest, is_locating}
 use Rattle.private_store.specs.Private.{Post, view_step}
 use Rattle.private_store.specs.Kept.{IsViewKept}
 use Rattle.job_region.specs.Region.{bytes_at as placed_bytes}
@@ -24,9 +27,23 @@ use Rattle.node_table.specs.Row.{Row, copies_of, shape_of}
 abbrev pub work_on : List WorkInFlight → ObjectId → Option WorkKind
 work_on works id = option_map (λ w. if w.writes then Write else Read) (find (λ w. same_id id w.id) works)
 
+abbrev pub is_plain : CopyState → Option Fetch → Bool
+is_plain Created fetch = is_none fetch
+is_plain Sealed fetch = is_none fetch
+is_plain Fetching fetch = option_map_or (λ f. is_locating f.phase) fetch false
+is_plain _ fetch = false
+
 -- the view of a job whose row and works these are
 abbrev pub seen : Row → WorkLine → Contents → View
 seen row line contents = record { shape = shape_of row line; order = row.order; contents = contents }
+
+-- a copy as the events that are built make them: written, sealed, or on its way from an unknown source;
+-- and not doomed, nor on the device
+pub record IsPlain (copy : Copy) : Type 0 where
+  pub state : is_plain copy.state copy.fetch ≡ true
+  pub doomed : copy.doomed ≡ false
+  pub backed : copy.backed ≡ None
+  pub fault : copy.fault ≡ None
 
 -- the row shows these contents: they are what lies in its window, and the digests that it keeps
 pub record IsShown (row : Row) (line : WorkLine) (contents : Contents) : Type 0 where
@@ -36,6 +53,7 @@ pub record IsShown (row : Row) (line : WorkLine) (contents : Contents) : Type 0 
       → bytes_at contents.bytes id ≡ take k.copy.length (placed_bytes e row.window.placed)
   pub digests : (id : ObjectId) (k : Kept) → at row.copies id ≡ Some k → keeps_digest k.copy ≡ true
       → digest_at contents.digests id ≡ unwrap_or k.digest no_digest
+  pub plain : (id : ObjectId) (k : Kept) → at row.copies id ≡ Some k → IsPlain k.copy
   pub working : (id : ObjectId) (k : Kept) → at row.copies id ≡ Some k
       → k.working ≡ work_on (works_of line (record { 0 = row.job })) id
 

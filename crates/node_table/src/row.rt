@@ -10,13 +10,13 @@ ghost use Rattle.std.specs.Option.{option_map_or};
 ghost use Rattle.private_store.specs.Copies.{is_created};
 ghost use Rattle.lru_evictor.specs.Orders.{touched};
 ghost use Rattle.node_table.specs.Entries.{changed};
-ghost use Rattle.node_table.specs.Kept.{Kept, sealed, held, left, fault_told};
+ghost use Rattle.node_table.specs.Kept.{Kept, sealed, held, left};
 ghost use Rattle.node_table.specs.Row.{Row, new_row, place_of, ArePlaced};
 
 use crate::copies::Copies;
 use job_region::Window;
 use lru_evictor::UseOrder;
-use obj_id::{Digest, Extent, JobNo, ObjectId, Quota, Refusal, TaskNo};
+use obj_id::{Digest, Extent, JobNo, ObjectId, Quota, Refusal};
 use std::alloc::Global;
 use std::marker::Model;
 
@@ -33,9 +33,6 @@ pub struct JobRow {
     order: UseOrder,
     // the last number that a fetch had
     fetches_begun: u64,
-    // whether a spill failed since room was last refused for it
-    spill_failed: bool,
-    ended_tasks: Vec<TaskNo>,
 }
 
 impl Model for JobRow {
@@ -44,7 +41,7 @@ impl Model for JobRow {
 
     ghost Value = { Row };
 
-    ghost view = { λ r. record { job = r.job.0; window = r.window; device = r.device; copies = r.copies; order = order_of r.job.0 r.order; fetches_begun = r.fetches_begun; spill_failed = r.spill_failed; ended_tasks = r.ended_tasks.items } };
+    ghost view = { λ r. record { job = r.job.0; window = r.window; device = r.device; copies = r.copies; order = order_of r.job.0 r.order; fetches_begun = r.fetches_begun } };
 
     ghost invariant = { λ r. ArePlaced r.window.placed (place_of r.copies) };
 }
@@ -64,8 +61,6 @@ impl JobRow {
             copies: Copies::new(alloc),
             order: UseOrder::new(alloc),
             fetches_begun: 0,
-            spill_failed: false,
-            ended_tasks: Vec::new(alloc),
         })
     }
 
@@ -122,13 +117,6 @@ impl JobRow {
         ensures { self.new ≡ record self.old { copies = changed (left session) self.old.copies id.now } }
     {
         self.copies.leave(id, session);
-    }
-
-    /// The fault of the copy was told.
-    pub(crate) fn tell_fault(&mut self, id: &ObjectId)
-        ensures { self.new ≡ record self.old { copies = changed fault_told self.old.copies id.now } }
-    {
-        self.copies.tell_fault(id);
     }
 
     /// Writes bytes into a resident copy from the offset on.

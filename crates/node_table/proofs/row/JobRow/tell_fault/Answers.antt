@@ -1,7 +1,0 @@
-use Rattle.std.proofs.Common.{refl}
-use Rattle.node_table.specs.Kept.{fault_told}
-use Rattle.node_table.proofs.Places.{now_placed}
-use Rattle.node_table.proofs.row.JobRow.tell_fault.Goals as goal
-
-pub invariant_of-self : goal.invariant_of-self
-invariant_of-self c = now_placed c.self.inside.window.placed c.self.inside.copies c.self.invariant fault_told (λ z. refl) c.args.id.now c.tell_fault.new.self c.tell_fault.ensures
