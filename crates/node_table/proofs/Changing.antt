@@ -8,7 +8,7 @@ use Rattle.obj_id.specs.declared.messages.Digest.{Digest}
 use Rattle.obj_id.specs.Ids.{same_id}
 use Rattle.obj_id.proofs.SameIds.{same_id-equal, same_id-itself}
 use Rattle.private_store.specs.declared.inputs.Input.{Input}
-use Rattle.private_store.specs.Tables.{ById, at, with_entry}
+use Rattle.private_store.specs.Tables.{ById, at, with_entry, is_among}
 use Rattle.private_store.specs.Shape.{Copy, Change}
 use Rattle.private_store.specs.Copies.{extent_of}
 use Rattle.private_store.specs.Room.{set_copy}
@@ -131,3 +131,7 @@ module _ (node : ℕ) (row : Row) (line : WorkLine) (contents : Contents) (h : I
       by z e (inl t) =
           let is : z ≡ k = some_value z k (sym e ∙ ap (at row.copies) (same_id-equal q id t.0) ∙ found) in
           subst (λ y. IsPlain y.copy) (sym (t.1 ∙ ap f is)) good
+
+  -- the same ids are in the order
+  pub listed_stay : (order : List ObjectId) → ((q : ObjectId) (z : Kept) → at row.copies q ≡ Some z → is_among order q ≡ true) → (q : ObjectId) (y : Kept) → at (changed f row.copies id) q ≡ Some y → is_among order q ≡ true
+  listed_stay order listed q y is = listed q (one q y is).0 (one q y is).1

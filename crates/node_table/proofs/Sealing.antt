@@ -40,7 +40,7 @@ use Rattle.node_table.proofs.ByChecks.{unless_refused, called, own, seal_done, s
 use Rattle.node_table.proofs.Changes.{changed-found}
 use Rattle.node_table.proofs.CopyTables.{at-copies_found, copies-changed}
 use Rattle.node_table.proofs.Passed.{IsUnwritten, seal_passed, placed_at, created_resides}
-use Rattle.node_table.proofs.Changing.{with_change, there_still, from_changed, bytes_stay, works_stay, plain_stay, keys_with}
+use Rattle.node_table.proofs.Changing.{with_change, there_still, from_changed, bytes_stay, works_stay, plain_stay, listed_stay, keys_with}
 use Rattle.node_table.proofs.Stepping.{Moves, o, moved, shown_now, stays, digests_now}
 
 module _ (node : ℕ) (row : Row) (line : WorkLine) (contents : Contents) (session : ℕ) (id : ObjectId) (mine : (id.job.0 == row.job) ≡ true) (h : IsShown row line contents) where
@@ -115,6 +115,7 @@ module _ (node : ℕ) (row : Row) (line : WorkLine) (contents : Contents) (sessi
         shape = ap (λ t. record s { copies = t }) copies_is;
         order = sym (reordered-unused row.order (copies_of row_sealed.copies) (there_still node row line contents h x id k found (sealed digest) keeps row.order h.there));
         there = there_still node row line contents h x id k found (sealed digest) keeps row.order h.there;
+        listed = listed_stay node row line contents h x id k found (sealed digest) keeps row.order h.listed;
         bytes = bytes_stay node row line contents h x id k found (sealed digest) keeps c refl;
         digests = digest_now;
         working = works_stay node row line contents h x id k found (sealed digest) keeps refl;

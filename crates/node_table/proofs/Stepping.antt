@@ -9,7 +9,7 @@ use Rattle.obj_id.specs.declared.messages.Digest.{Digest}
 use Rattle.obj_id.specs.declared.commands.Reply.{Reply}
 use Rattle.obj_id.specs.Ids.{id_cmp}
 use Rattle.private_store.specs.declared.inputs.Input.{Input}
-use Rattle.private_store.specs.Tables.{ById, at}
+use Rattle.private_store.specs.Tables.{ById, at, is_among}
 use Rattle.private_store.specs.Shape.{Copy, Shape, Change}
 use Rattle.private_store.specs.Copies.{extent_of}
 use Rattle.private_store.specs.Change.{replied, erasing, keys_gone}
@@ -49,6 +49,7 @@ module _ (node : ℕ) (row : Row) (line : WorkLine) (contents : Contents) (h : I
     pub shape : c.shape ≡ shape_of new after
     pub order : reordered row.order (copies_of new.copies) c.used ≡ new.order
     pub there : AreThere (copies_of new.copies) new.order
+    pub listed : (id : ObjectId) (k : Kept) → at new.copies id ≡ Some k → is_among new.order id ≡ true
     pub bytes : (id : ObjectId) (k : Kept) (e : Extent) → at new.copies id ≡ Some k → extent_of k.copy ≡ Some e → filled (at (bytes_now c) id) k.copy ≡ take k.copy.length (placed_bytes e new.window.placed)
     pub digests : (id : ObjectId) (k : Kept) → at new.copies id ≡ Some k → keeps_digest k.copy ≡ true → unwrap_or (at (digests_now c) id) no_digest ≡ unwrap_or k.digest no_digest
     pub working : (id : ObjectId) (k : Kept) → at new.copies id ≡ Some k → k.working ≡ work_on (works_of after (record { 0 = new.job })) id
@@ -89,6 +90,7 @@ module _ (node : ℕ) (row : Row) (line : WorkLine) (contents : Contents) (h : I
     shown_now = record {
       kept = kept_now;
       there = m.there;
+      listed = m.listed;
       bytes = λ id k e found lies.
           ap (λ p. unwrap_or p []) (at-kept (λ copy. is_some copy.offset) (λ copy. replicate copy.length 0) (bytes_now c) c.shape.copies sorted id
           ∙ ap (λ p. kept_row (λ copy. is_some copy.offset) (λ copy. replicate copy.length 0) (bytes_now c) id p) (copy_at id k found)
@@ -132,6 +134,7 @@ module _ (node : ℕ) (row : Row) (line : WorkLine) (contents : Contents) (h : I
     shape = refl;
     order = sym (reordered-unused row.order (copies_of row.copies) h.there);
     there = h.there;
+    listed = h.listed;
     bytes = λ id k e found lies. ap (λ b. filled (at (brought contents.bytes b) id) k.copy) bytes ∙ same_bytes id k e found lies;
     digests = λ id k found keeps. ap (λ d. unwrap_or (at (brought contents.digests d) id) no_digest) digests ∙ h.digests id k found keeps;
     plain = h.plain;

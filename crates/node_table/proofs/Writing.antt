@@ -126,6 +126,7 @@ module _ (node : ℕ) (row : Row) (line : WorkLine) (contents : Contents) (sessi
               shape = refl;
               order = sym (reordered-unused row.order (copies_of row.copies) h.there);
               there = h.there;
+              listed = h.listed;
               bytes = λ q k f found place.
                   ap (λ o. filled o k.copy) (at-put contents.bytes id (overwritten (bytes_at contents.bytes id) offset bytes) q)
                   ∙ (elim (same_id q id) as (λ b. same_id q id ≡ b → filled (cond b (Some (overwritten (bytes_at contents.bytes id) offset bytes)) (at contents.bytes q)) k.copy ≡ take k.copy.length (placed_bytes f wrote.window.placed)) [

@@ -8,7 +8,7 @@ use Rattle.obj_id.specs.declared.works.WorkKind.TheVariants.{Write, Read}
 use Rattle.obj_id.specs.declared.commands.Reply.{Reply}
 use Rattle.obj_id.specs.Ids.{same_id}
 use Rattle.private_store.specs.declared.inputs.Input.{Input}
-use Rattle.private_store.specs.Tables.{at}
+use Rattle.private_store.specs.Tables.{at, is_among}
 use Rattle.std.specs.Option.{option_map_or}
 use Rattle.obj_id.specs.declared.commands.CopyState.{CopyState}
 use Rattle.obj_id.specs.declared.commands.CopyState.TheVariants.{Created, Sealed, Fetching}
@@ -48,7 +48,9 @@ pub record IsPlain (copy : Copy) : Type 0 where
 -- the row shows these contents: they are what lies in its window, and the digests that it keeps
 pub record IsShown (row : Row) (line : WorkLine) (contents : Contents) : Type 0 where
   pub kept : IsViewKept (seen row line contents)
+  -- the order of use has the copies, and nothing else
   pub there : AreThere (copies_of row.copies) row.order
+  pub listed : (id : ObjectId) (k : Kept) → at row.copies id ≡ Some k → is_among row.order id ≡ true
   pub bytes : (id : ObjectId) (k : Kept) (e : Extent) → at row.copies id ≡ Some k → extent_of k.copy ≡ Some e
       → bytes_at contents.bytes id ≡ take k.copy.length (placed_bytes e row.window.placed)
   pub digests : (id : ObjectId) (k : Kept) → at row.copies id ≡ Some k → keeps_digest k.copy ≡ true

@@ -6,6 +6,7 @@ mod bytes_commands;
 mod checks;
 mod copies;
 mod copy;
+mod get_command;
 mod outcome;
 mod row;
 
