@@ -1,6 +1,8 @@
 //! Why a command can't be carried out.
-ghost use Rattle.std.specs.Prelude.{◌≡◌};
-ghost use Rattle.node_table.specs.Checks.{write_check_of, write_check as write_check_lem, seal_check_of, seal_check as seal_check_lem, read_check_of, read_check as read_check_lem, release_check as release_check_lem};
+ghost use Rattle.std.specs.Prelude.{◌≡◌, Some, option_map};
+ghost use Rattle.node_table.specs.Checks.{write_check_of, write_check as write_check_lem, seal_check_of, seal_check as seal_check_lem, read_check_of, read_check as read_check_lem, release_check as release_check_lem, hold_check as hold_check_lem, fetch_check as fetch_check_lem};
+ghost use Rattle.private_store.specs.Tables.{at};
+ghost use Rattle.node_table.specs.Kept.{Kept};
 
 use crate::copies::Copies;
 use crate::copy::RowCopy;
@@ -8,6 +10,9 @@ use obj_id::{CopyState, ObjectId, Refusal};
 
 /// The bytes that one Write, Read or Peek may carry.
 const MOST_BYTES: usize = 65_536;
+
+/// How many copies a job may have at a node, fetches among them.
+const MOST_COPIES: usize = 1_024;
 
 impl RowCopy {
     /// Why `len` bytes can't be written from the offset on: `Absent`, `AlreadySealed`, `OutOfBounds`.
@@ -115,5 +120,42 @@ impl Copies {
                 }
             }
         }
+    }
+
+    /// Why the copy can't have one more hold: `Absent`, `TooMany`, or nothing.
+    pub fn hold_check(&self, id: &ObjectId) -> Option<Refusal>
+        ensures { result ≡ hold_check_lem self.now id.now }
+    {
+        match self.get(id) {
+            None => Some(Refusal::Absent),
+            Some(copy) => copy.hold_check(),
+        }
+    }
+
+    /// Why no fetch can begin, where this was the last one's number: `TooMany`, or nothing.
+    pub fn fetch_check(&self, begun: u64) -> Option<Refusal>
+        ensures { result ≡ fetch_check_lem self.now begun }
+    {
+        if self.len() >= MOST_COPIES || begun == u64::MAX {
+            return Some(Refusal::TooMany);
+        }
+        None
+    }
+
+    /// The length of the copy in bytes; 0 where there is none.
+    pub fn length_of(&self, id: &ObjectId) -> u32
+        ensures { (k : Kept) → at self.now id.now ≡ Some k → result ≡ k.copy.length }
+    {
+        match self.get(id) {
+            None => 0,
+            Some(copy) => copy.length(),
+        }
+    }
+
+    /// The state of the copy, if there is one.
+    pub fn state_of(&self, id: &ObjectId) -> Option<CopyState>
+        ensures { result ≡ option_map (λ k. k.copy.state) (at self.now id.now) }
+    {
+        Some(self.get(id)?.state())
     }
 }

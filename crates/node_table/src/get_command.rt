@@ -32,13 +32,10 @@ impl JobRow {
         ensures memory { (r : Refusal) → IsErrOf result r → r ≡ NoMemory }
         ensures err { OnErr result (self.new ≡ self.old) }
     {
-        let (length, refusal) = match self.copies().get(id) {
-            None => (0, Some(Refusal::Absent)),
-            Some(copy) => (copy.length(), copy.hold_check()),
-        };
-        if let Some(refusal) = refusal {
+        if let Some(refusal) = self.copies().hold_check(id) {
             return Ok(Outcome::only(alloc, Reply::Refused(refusal)));
         }
+        let length = self.copies().length_of(id);
         if self.hold_copy(id, session).is_err() {
             return Err(Refusal::NoMemory);
         }
