@@ -1,6 +1,6 @@
 -- A change written through what a map of copies lends.
-use Rattle.std.proofs.Common.{◌≡◌, Bool, true, List, Option, Some, None, refl, sym, ap, subst, ◌∙◌}
-use Rattle.std.specs.Prelude.{OnOk, OnErr, Ok, Err}
+use Rattle.std.proofs.Common.{◌≡◌, Bool, true, not, cond, List, [], ◌∷◌, Option, Some, None, refl, sym, ap, subst, ◌∙◌}
+use Rattle.std.specs.Prelude.{false, is_err, OnOk, OnErr, Ok, Err}
 use Rattle.std.specs.declared.result.Result.{Result}
 use Rattle.std.specs.Option.{option_map_or}
 use Rattle.std.specs.List.Sorted.{IsStrictlySortedBy}
@@ -8,8 +8,13 @@ use Rattle.std.specs.Map.{keys_of, lookup, set_value}
 use Rattle.std.proofs.lemmas.Map.Steps.{set_value_same}
 use Rattle.obj_id.specs.declared.ids.ObjectId.{ObjectId}
 use Rattle.obj_id.specs.Ids.{id_cmp}
-use Rattle.private_store.specs.Tables.{ById, at, with_entry}
-use Rattle.private_store.proofs.ObjectMaps.{is_id, at-lookup, with_entry-set}
+use Rattle.std.specs.Ordering.{is_eq}
+use Rattle.std.specs.declared.cmp.Ordering.{Ordering}
+use Rattle.std.specs.declared.cmp.Ordering.TheVariants.{Less, Equal, Greater}
+use Rattle.std.specs.FinMap.Entries.{by_order}
+use Rattle.obj_id.proofs.SameIds.{same_id-itself}
+use Rattle.private_store.specs.Tables.{ById, at, with_entry, without_entry}
+use Rattle.private_store.proofs.ObjectMaps.{is_id, at-lookup, with_entry-set, without_entry-absent}
 use Rattle.node_table.specs.Entries.{changed}
 
 module _ {X : Type 0} (f : X → X) (id : ObjectId) (es : ById X) where
@@ -47,3 +52,25 @@ module _ {X : Type 0} (f : X → X) (id : ObjectId) (es now : ById X) (seen : es
 -- a test of an entry, where it is there
 pub tested : {X : Type 0} (test : X → Bool) (id : ObjectId) (es now : ById X) (x : X) → es ≡ now → lookup (is_id id) es ≡ Some x → option_map_or test (at now id) true ≡ true → test x ≡ true
 tested test id es now x seen found h = ap (λ o. option_map_or test o true) (sym (at-lookup id es ∙ found)) ∙ ap (λ t. option_map_or test (at t id) true) seen ∙ h
+
+-- an entry put where there was none, and taken out again
+pub put_back : {X : Type 0} (id : ObjectId) (es : ById X) (x : X) → at es id ≡ None → without_entry (with_entry es id x) id ≡ es
+put_back id [] x none = ap (λ b. cond (not b) ((id, x) ∷ []) []) (same_id-itself id)
+put_back id (e ∷ es) x none = by (id_cmp id e.0) refl (put_back id es x) none
+  where
+    by : (o : Ordering) → id_cmp id e.0 ≡ o → (at es id ≡ None → without_entry (with_entry es id x) id ≡ es) → cond (is_eq o) (Some e.1) (at es id) ≡ None
+        → without_entry (by_order o ((id, x) ∷ e ∷ es) ((e.0, x) ∷ es) (e ∷ with_entry es id x)) id ≡ e ∷ es
+    by Less less rest gone =
+        ap (λ b. cond (not b) ((id, x) ∷ without_entry (e ∷ es) id) (without_entry (e ∷ es) id)) (same_id-itself id)
+        ∙ without_entry-absent id (e ∷ es) (sym (at-lookup id (e ∷ es)) ∙ none)
+    by Equal equal rest gone = cc
+    by Greater greater rest gone = ap (λ o. cond (not (is_eq o)) (e ∷ without_entry (with_entry es id x) id) (without_entry (with_entry es id x) id)) greater ∙ ap (λ t. e ∷ t) (rest gone)
+
+-- what is so of a refusal, where there was one
+pub of_err : {T E P : Type 0} (r : Result T E) → OnErr r P → is_err r ≡ true → P
+of_err (Ok v) h e = absurd cc
+of_err (Err q) h e = h
+
+pub of_ok : {T E P : Type 0} (r : Result T E) → OnOk r P → is_err r ≡ false → P
+of_ok (Ok v) h e = h
+of_ok (Err q) h e = absurd cc

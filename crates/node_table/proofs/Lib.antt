@@ -9,3 +9,4 @@ pub mod Changing
 pub mod Sealing
 pub mod Orders
 pub mod Getting
+pub mod Fetching

@@ -132,3 +132,18 @@ module _ (placed : List (ℕ × List ℕ)) (es : ById Kept) (h : ArePlaced place
   -- where they stand in a map that was changed
   pub now_placed : (f : Kept → Kept) → Lies f → (id : ObjectId) (now : ById Kept) → now ≡ changed f es id → ArePlaced placed (place_of now)
   now_placed f lies id now is = subst (λ t. ArePlaced placed (place_of t)) (sym is) (changed_placed f lies id)
+
+-- a copy that isn't resident, where there was none
+pub entered_placed : (placed : List (ℕ × List ℕ)) (es : ById Kept) (id : ObjectId) (k : Kept) (now : ById Kept) → at es id ≡ None → k.copy.offset ≡ None → now ≡ with_entry es id k → ArePlaced placed (place_of es) → ArePlaced placed (place_of now)
+entered_placed placed es id k now none away is h = subst (λ t. ArePlaced placed (place_of t)) (sym is) (same_places placed (place_of es) (place_of (with_entry es id k)) same h)
+  where
+    nowhere : (p : Option ℕ) → p ≡ None → extent_of (record k.copy { offset = p }) ≡ None
+    nowhere None e = refl
+    nowhere (Some o) e = cc
+
+    same : (q : ObjectId) → place_of (with_entry es id k) q ≡ place_of es q
+    same q = ap (λ o. option_and_then (λ kept. extent_of kept.copy) o) (at-put es id k q) ∙ by (same_id q id) refl
+      where
+        by : (b : Bool) → same_id q id ≡ b → option_and_then (λ (kept : Kept). extent_of kept.copy) (cond b (Some k) (at es q)) ≡ place_of es q
+        by true t = nowhere k.copy.offset away ∙ sym (ap (λ o. option_and_then (λ (kept : Kept). extent_of kept.copy) o) (ap (at es) (same_id-equal q id t) ∙ none))
+        by false t = refl

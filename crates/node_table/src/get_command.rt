@@ -7,15 +7,17 @@ ghost use Rattle.private_store.specs.declared.inputs.Input.TheVariants as input;
 ghost use Rattle.private_store.specs.Tables.{at};
 ghost use Rattle.private_store.specs.Copies.{is_sealed};
 ghost use Rattle.private_store.specs.Contents.{Contents};
+ghost use Rattle.private_store.specs.Private.{to_directory};
+ghost use Rattle.obj_id.specs.declared.messages.DirectoryMessage.TheVariants.{Locate};
 ghost use Rattle.spill_work.specs.Line.{WorkLine};
 ghost use Rattle.node_table.specs.Kept.{Kept};
 ghost use Rattle.node_table.specs.Outcomes.{given_of};
 ghost use Rattle.node_table.specs.Shown.{IsShown, TakesStep};
 
-use crate::outcome::Outcome;
+use crate::outcome::{Erase, Outcome};
 use crate::row::JobRow;
-use obj_id::{ObjectId, Refusal, Reply};
-use std::alloc::Global;
+use obj_id::{DirectoryMessage, Items, Message, ObjectId, Place, Refusal, Reply};
+use std::alloc::{AllocError, Global};
 
 impl JobRow {
     /// Get of a sealed copy: one more hold of the session, and the copy is the most recently used one.
@@ -41,4 +43,46 @@ impl JobRow {
         }
         Ok(Outcome::only(alloc, Reply::Got(length)))
     }
+}
+
+impl JobRow {
+    /// Get of an object that isn't here: its fetch begins, under the job's next number, and its source is
+    /// asked for. `TooMany` at 1,024 copies, and where no number is left; else the answer is `Pending`.
+    fn begin_fetch(
+        &mut self,
+        alloc: Global,
+        node: u32,
+        id: &ObjectId,
+    ) -> Result<Outcome, Refusal>
+        requires { at self.old.copies id.now ≡ None }
+        ensures ok { IfOk result (λ o. (session : ℕ) (line : WorkLine) (contents : Contents) → (id.now.job.0 == self.old.job) ≡ true → IsShown self.old line contents
+            → TakesStep node self.old line contents (input.Call session (command.Get id.now)) (given_of o) self.new line) }
+        ensures memory { (r : Refusal) → IsErrOf result r → r ≡ NoMemory }
+        ensures err { OnErr result (self.new ≡ self.old) }
+    {
+        let begun = self.fetches_begun();
+        if let Some(refusal) = self.copies().fetch_check(begun) {
+            return Ok(Outcome::only(alloc, Reply::Refused(refusal)));
+        }
+        let messages = locate(alloc, node, *id, begun + 1)?;
+        self.enter_fetch(alloc, id, begun + 1)?;
+        Ok(Outcome {
+            reply: Reply::Refused(Refusal::Pending),
+            messages,
+            erase: Erase::NoKey,
+        })
+    }
+}
+
+/// The question where copies of the object are.
+fn locate(
+    alloc: Global,
+    node: u32,
+    id: ObjectId,
+    number: u64,
+) -> Result<Items<(Place, Message)>, AllocError>
+    ensures { IfOk result (λ messages. messages ≡ to_directory (Locate id node number)) }
+{
+    let message = Message::ToDirectory(DirectoryMessage::Locate(id, node, number));
+    Outcome::one_message(alloc, Place::Directory, message)
 }

@@ -1,19 +1,22 @@
 //! The row of one job.
-ghost use Rattle.std.specs.Prelude.{◌≡◌, ℕ, ◌+◌, ◌≤◌, nat_eq, take, drop, length, true, Some, IfOk, OnOk, OnErr};
+ghost use Rattle.std.specs.Prelude.{◌≡◌, ℕ, ◌+◌, ◌≤◌, nat_eq, take, drop, length, true, Some, None, IfOk, OnOk, OnErr, IsErrOf};
 ghost use Rattle.std.specs.Map.{set_value};
 ghost use Rattle.obj_id.specs.declared.works.Extent.{Extent};
-ghost use Rattle.private_store.specs.Tables.{at};
+ghost use Rattle.obj_id.specs.declared.refusals.Refusal.{Refusal};
+ghost use Rattle.obj_id.specs.declared.refusals.Refusal.TheVariants.{NoMemory};
+ghost use Rattle.private_store.specs.Tables.{at, with_entry};
 ghost use Rattle.private_store.specs.Copies.{extent_of};
 ghost use Rattle.private_store.specs.Contents.{overwritten};
 ghost use Rattle.job_region.specs.Region.{bytes_at as placed_bytes};
 ghost use Rattle.std.specs.Option.{option_map_or};
 ghost use Rattle.private_store.specs.Copies.{is_created};
-ghost use Rattle.lru_evictor.specs.Orders.{touched};
+ghost use Rattle.lru_evictor.specs.Orders.{touched, last_used};
 ghost use Rattle.node_table.specs.Entries.{changed};
-ghost use Rattle.node_table.specs.Kept.{Kept, sealed, held, left};
+ghost use Rattle.node_table.specs.Kept.{Kept, sealed, held, left, fetched_kept};
 ghost use Rattle.node_table.specs.Row.{Row, new_row, place_of, ArePlaced};
 
 use crate::copies::Copies;
+use crate::copy::RowCopy;
 use job_region::Window;
 use lru_evictor::UseOrder;
 use obj_id::{Digest, Extent, JobNo, ObjectId, Quota, Refusal};
@@ -109,6 +112,35 @@ impl JobRow {
     {
         self.copies.hold(id, session)?;
         self.order.touch(self.job, *id);
+        Ok(())
+    }
+
+    /// The last number that a fetch had.
+    pub(crate) fn fetches_begun(&self) -> u64
+        ensures { result ≡ self.now.fetches_begun }
+    {
+        self.fetches_begun
+    }
+
+    /// A copy that is on its way, under this number, and the most recently used. The error is want of
+    /// memory, and then nothing has changed.
+    pub(crate) fn enter_fetch(
+        &mut self,
+        alloc: Global,
+        id: &ObjectId,
+        number: u64,
+    ) -> Result<(), Refusal>
+        requires { at self.old.copies id.now ≡ None }
+        ensures ok { OnOk result (self.new ≡ record self.old { copies = with_entry self.old.copies id.now (fetched_kept number); order = last_used id.now self.old.order; fetches_begun = number }) }
+        ensures memory { (r : Refusal) → IsErrOf result r → r ≡ NoMemory }
+        ensures err { OnErr result (self.new ≡ self.old) }
+    {
+        self.copies.insert(*id, RowCopy::fetching(alloc, number))?;
+        if self.order.enter(self.job, *id).is_err() {
+            self.copies.remove(id);
+            return Err(Refusal::NoMemory);
+        }
+        self.fetches_begun = number;
         Ok(())
     }
 
