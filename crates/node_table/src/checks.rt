@@ -2,6 +2,7 @@
 ghost use Rattle.std.specs.Prelude.{◌≡◌, Some, option_map};
 ghost use Rattle.node_table.specs.Checks.{write_check_of, write_check as write_check_lem, seal_check_of, seal_check as seal_check_lem, read_check_of, read_check as read_check_lem, release_check as release_check_lem, hold_check as hold_check_lem, fetch_check as fetch_check_lem};
 ghost use Rattle.private_store.specs.Tables.{at};
+ghost use Rattle.private_store.specs.Shape.{Fetch};
 ghost use Rattle.node_table.specs.Kept.{Kept};
 
 use crate::copies::Copies;
@@ -150,6 +151,16 @@ impl Copies {
             None => 0,
             Some(copy) => copy.length(),
         }
+    }
+
+    /// The number of the fetch that brings the object; 0 where none does.
+    pub fn fetch_of(&self, id: &ObjectId) -> u64
+        ensures { (k : Kept) (f : Fetch) → at self.now id.now ≡ Some k → k.copy.fetch ≡ Some f → result ≡ f.number }
+    {
+        let Some(copy) = self.get(id) else {
+            return 0;
+        };
+        copy.fetch_number().unwrap_or(0)
     }
 
     /// The state of the copy, if there is one.

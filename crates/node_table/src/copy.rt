@@ -113,6 +113,13 @@ impl RowCopy {
         self.marks.working().is_some()
     }
 
+    /// The number of the fetch that brings it, if it is on its way.
+    pub fn fetch_number(&self) -> Option<u64>
+        ensures { result ≡ option_map (λ f. f.number) self.now.copy.fetch }
+    {
+        Some(self.fetch.as_ref()?.number())
+    }
+
     /// Whether a session holds it.
     pub fn is_held(&self) -> bool
         ensures { result ≡ is_held self.now.copy }

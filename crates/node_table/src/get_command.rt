@@ -1,11 +1,12 @@
 //! Get: a hold on a copy that is here, and else what brings it here.
-ghost use Rattle.std.specs.Prelude.{◌≡◌, ◌==◌, ℕ, true, Some, None, IfOk, OnErr, IsErrOf};
+ghost use Rattle.std.specs.Prelude.{◌≡◌, ◌==◌, ℕ, true, false, Some, None, option_map, IfOk, OnErr, IsErrOf};
 ghost use Rattle.obj_id.specs.declared.refusals.Refusal.{Refusal};
 ghost use Rattle.obj_id.specs.declared.refusals.Refusal.TheVariants.{NoMemory};
 ghost use Rattle.obj_id.specs.declared.commands.Command.TheVariants as command;
 ghost use Rattle.private_store.specs.declared.inputs.Input.TheVariants as input;
 ghost use Rattle.private_store.specs.Tables.{at};
 ghost use Rattle.private_store.specs.Copies.{is_sealed};
+ghost use Rattle.private_store.specs.Kept.{is_fetching};
 ghost use Rattle.private_store.specs.Contents.{Contents};
 ghost use Rattle.private_store.specs.Private.{to_directory};
 ghost use Rattle.obj_id.specs.declared.messages.DirectoryMessage.TheVariants.{Locate};
@@ -16,7 +17,7 @@ ghost use Rattle.node_table.specs.Shown.{IsShown, TakesStep};
 
 use crate::outcome::{Erase, Outcome};
 use crate::row::JobRow;
-use obj_id::{DirectoryMessage, Items, Message, ObjectId, Place, Refusal, Reply};
+use obj_id::{CopyState, DirectoryMessage, Items, Message, ObjectId, Place, Refusal, Reply};
 use std::alloc::{AllocError, Global};
 
 impl JobRow {
@@ -71,6 +72,65 @@ impl JobRow {
             messages,
             erase: Erase::NoKey,
         })
+    }
+}
+
+impl JobRow {
+    /// Get of an object that is on its way and whose source isn't known yet: it is asked for again, and
+    /// the answer is `Pending`. Changes nothing; the error is want of memory.
+    fn locate_again(
+        &self,
+        alloc: Global,
+        node: u32,
+        id: &ObjectId,
+    ) -> Result<Outcome, Refusal>
+        ensures ok { IfOk result (λ o. (session : ℕ) (line : WorkLine) (contents : Contents) → (id.now.job.0 == self.now.job) ≡ true → IsShown self.now line contents
+            → (k : Kept) → at self.now.copies id.now ≡ Some k → is_fetching k.copy.state ≡ true
+            → TakesStep node self.now line contents (input.Call session (command.Get id.now)) (given_of o) self.now line) }
+        ensures memory { (r : Refusal) → IsErrOf result r → r ≡ NoMemory }
+    {
+        let messages = locate(alloc, node, *id, self.copies().fetch_of(id))?;
+        Ok(Outcome {
+            reply: Reply::Refused(Refusal::Pending),
+            messages,
+            erase: Erase::NoKey,
+        })
+    }
+
+    /// Get of a copy that is being written, or read back: `NotSealed`, or `Pending`. A copy that is away
+    /// can't be there yet.
+    fn get_unready(&self, alloc: Global, id: &ObjectId, state: CopyState) -> Outcome
+        requires { option_map (λ k. k.copy.state) (at self.now.copies id.now) ≡ Some state }
+        ensures { (node session : ℕ) (line : WorkLine) (contents : Contents) → (id.now.job.0 == self.now.job) ≡ true → IsShown self.now line contents
+            → is_sealed state ≡ false → is_fetching state ≡ false
+            → TakesStep node self.now line contents (input.Call session (command.Get id.now)) (given_of result) self.now line }
+    {
+        match state {
+            CopyState::Created => Outcome::only(alloc, Reply::Refused(Refusal::NotSealed)),
+            _ => Outcome::only(alloc, Reply::Refused(Refusal::Pending)),
+        }
+    }
+
+    /// Get: a hold on a copy that is here, and else what brings it here. `NotSealed`, `Pending`,
+    /// `TooMany`. The error is want of memory, and then nothing has changed.
+    pub fn get(
+        &mut self,
+        alloc: Global,
+        node: u32,
+        session: u32,
+        id: &ObjectId,
+    ) -> Result<Outcome, Refusal>
+        ensures ok { IfOk result (λ o. (line : WorkLine) (contents : Contents) → (id.now.job.0 == self.old.job) ≡ true → IsShown self.old line contents
+            → TakesStep node self.old line contents (input.Call session (command.Get id.now)) (given_of o) self.new line) }
+        ensures memory { (r : Refusal) → IsErrOf result r → r ≡ NoMemory }
+        ensures err { OnErr result (self.new ≡ self.old) }
+    {
+        match self.copies().state_of(id) {
+            None => self.begin_fetch(alloc, node, id),
+            Some(CopyState::Sealed) => self.get_sealed(alloc, session, id),
+            Some(CopyState::Fetching) => self.locate_again(alloc, node, id),
+            Some(state) => Ok(self.get_unready(alloc, id, state)),
+        }
     }
 }
 
