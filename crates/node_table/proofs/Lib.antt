@@ -7,3 +7,7 @@ pub mod Passed
 pub mod Writing
 pub mod Changing
 pub mod Sealing
+pub mod Releasing
+pub mod Leaving
+pub mod Telling
+pub mod Totals
