@@ -1,5 +1,5 @@
 -- A row takes Release.
-use Rattle.std.proofs.Common.{◌≡◌, ℕ, ◌-◌, Bool, true, false, cond, ◌==◌, ◌&&◌, List, [], ◌∷◌, map, Option, Some, None, option_map, refl, sym, ap, subst, ◌∙◌}
+use Rattle.std.proofs.Common.{◌≡◌, ℕ, ◌-◌, true, false, cond, ◌==◌, ◌&&◌, [], map, Option, Some, None, option_map, refl, sym, ap, ◌∙◌}
 use Rattle.std.specs.Option.{option_map_or}
 use Rattle.std.specs.Map.{lookup}
 use Rattle.obj_id.specs.declared.ids.ObjectId.{ObjectId}
@@ -9,7 +9,7 @@ use Rattle.obj_id.specs.declared.commands.Command.TheVariants as command
 use Rattle.obj_id.specs.declared.commands.Reply.TheVariants as reply
 use Rattle.private_store.specs.declared.inputs.Input.{Input}
 use Rattle.private_store.specs.declared.inputs.Input.TheVariants as input
-use Rattle.private_store.specs.Tables.{ById, at, with_entry}
+use Rattle.private_store.specs.Tables.{ById, at}
 use Rattle.private_store.specs.Shape.{Copy, Shape, Change}
 use Rattle.private_store.specs.Copies.{is_idle}
 use Rattle.private_store.specs.Room.{set_copy, drop_copy}
@@ -31,7 +31,7 @@ use Rattle.node_table.specs.Checks.{release_check}
 use Rattle.node_table.specs.Shown.{seen, IsPlain, IsShown, only, TakesStep}
 use Rattle.node_table.proofs.ByChecks.{unless_refused, first-check, in_table, called, own}
 use Rattle.node_table.proofs.CopyTables.{at-copies, at-copies_found, copies-changed}
-use Rattle.node_table.proofs.Passed.{past, there}
+use Rattle.node_table.proofs.Passed.{there}
 use Rattle.node_table.proofs.Changing.{there_still, bytes_stay, digests_stay, works_stay, plain_stay, listed_stay, keys_with}
 use Rattle.node_table.proofs.Stepping.{Moves, moved, stays}
 

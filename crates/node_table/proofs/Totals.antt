@@ -1,5 +1,5 @@
 -- A sum that stops at the greatest number of 64 bits.
-use Rattle.std.proofs.Common.{◌≡◌, ℕ, ◌+◌, ◌-◌, ◌^◌, ◌≤◌, List, [], refl, sym, ap, ◌∙◌, arith}
+use Rattle.std.proofs.Common.{◌≡◌, ℕ, ◌+◌, ◌-◌, ◌^◌, ◌≤◌, List, [], sym, ap, ◌∙◌, arith}
 use Rattle.std.specs.Prelude.{min, sum_by}
 use Rattle.std.proofs.lemmas.Bool.Decides.{nat_tests}
 

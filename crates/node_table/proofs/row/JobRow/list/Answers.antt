@@ -1,4 +1,4 @@
-use Rattle.std.proofs.Common.{sym, ap, ◌∙◌, map}
+use Rattle.std.proofs.Common.{ap, ◌∙◌, map}
 use Rattle.node_table.specs.Usages.{item_of}
 use Rattle.node_table.proofs.Telling.{list_done}
 use Rattle.node_table.proofs.row.JobRow.list.Goals as goal
