@@ -62,6 +62,13 @@ impl Window {
         })
     }
 
+    /// Its bytes.
+    pub fn quota(&self) -> u64
+        ensures { result ≡ self.now.quota }
+    {
+        self.quota
+    }
+
     /// Places an extent of zeros for an object of `len` bytes, at the least multiple of 16 at which they
     /// lie within the window and meet no extent. Takes a scan of the extents.
     ///

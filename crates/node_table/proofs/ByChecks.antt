@@ -84,7 +84,7 @@ module _ (row : Row) (line : WorkLine) (id : ObjectId) where
           doomed false g = g refl
 
   -- of any copy
-  in_table : (f : Copy → Change) (check : Kept → Option Refusal) (d : Change)
+  pub in_table : (f : Copy → Change) (check : Kept → Option Refusal) (d : Change)
       → ((k : Kept) → at row.copies id ≡ Some k → f k.copy ≡ unless_refused s (check k) d)
       → needing s (at s.copies id) Absent f ≡ unless_refused s (elim (at row.copies id) [ None ↦ Some Absent | Some k ↦ check k ]) d
   in_table f check d h =

@@ -10,3 +10,7 @@ pub mod Sealing
 pub mod Orders
 pub mod Getting
 pub mod Fetching
+pub mod Releasing
+pub mod Leaving
+pub mod Telling
+pub mod Totals

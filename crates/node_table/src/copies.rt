@@ -1,13 +1,16 @@
 //! The copies of a job, by their ids.
 ghost use Rattle.std.specs.Option.{option_copied, option_map_or};
 ghost use Rattle.private_store.specs.Tables.{at, with_entry, without_entry};
-ghost use Rattle.node_table.specs.Entries.{changed};
+ghost use Rattle.node_table.specs.Entries.{changed, all_changed};
 ghost use Rattle.node_table.specs.Kept.{held, released, left, sealed, spilling, gone_away, restoring as restoring_lem, fault_told, can_spill, can_go_away, can_restore};
 ghost use Rattle.private_store.specs.Copies.{is_created};
-ghost use Rattle.std.specs.Prelude.{◌≡◌, [], true, Some, OnOk, OnErr, IfSome, IfNone, length, is_some};
+ghost use Rattle.obj_id.specs.declared.refusals.Refusal.{Refusal};
+ghost use Rattle.node_table.specs.Checks.{release_check as release_check_lem};
+ghost use Rattle.std.specs.Prelude.{◌≡◌, [], true, Some, OnOk, OnErr, IsErrOf, IfOk, IfSome, IfNone, map, length, is_some};
+ghost use Rattle.node_table.specs.Usages.{item_of, total, window_bytes as window_bytes_lem, device_bytes as device_bytes_lem};
 
 use crate::copy::RowCopy;
-use obj_id::{Digest, ObjectId, Refusal};
+use obj_id::{Digest, Items, ObjectId, OwnItem, Refusal};
 use std::alloc::{AllocError, Global};
 use std::collections::BTreeMap;
 use std::marker::Model;
@@ -57,6 +60,39 @@ impl Copies {
         self.by_id.get(id)
     }
 
+    /// The copies as List shows them, by rising id. Takes a walk over them, and memory for each.
+    pub fn items(&self, alloc: Global) -> Result<Items<OwnItem>, AllocError>
+        ensures { IfOk result (λ items. items ≡ map item_of self.now) }
+    {
+        let mut items = Items::new(alloc);
+        for (id, copy) in &self.by_id {
+            items.push(copy.item(id))?;
+        }
+        Ok(items)
+    }
+
+    /// The bytes that they take in the window, or `u64::MAX` where they are more. Takes a walk over them.
+    pub fn window_bytes(&self) -> u64
+        ensures { result ≡ total window_bytes_lem self.now }
+    {
+        let mut bytes: u64 = 0;
+        for (_, copy) in &self.by_id {
+            bytes = bytes.saturating_add(copy.window_bytes());
+        }
+        bytes
+    }
+
+    /// The device bytes that count for them, or `u64::MAX` where they are more. Takes a walk over them.
+    pub fn device_bytes(&self) -> u64
+        ensures { result ≡ total device_bytes_lem self.now }
+    {
+        let mut bytes: u64 = 0;
+        for (_, copy) in &self.by_id {
+            bytes = bytes.saturating_add(copy.device_bytes());
+        }
+        bytes
+    }
+
     /// The copy under its id, in place of what was there. A failure changes nothing.
     pub fn insert(&mut self, id: ObjectId, copy: RowCopy) -> Result<(), AllocError>
         ensures ok { OnOk result (self.new ≡ with_entry self.old id copy) }
@@ -85,9 +121,11 @@ impl Copies {
         copy.hold(session)
     }
 
-    /// One hold of the session on the copy less. Takes no memory.
+    /// One hold of the session on the copy less. `NotHeld` where it has none, and then nothing changes.
+    /// Takes no memory.
     pub fn release(&mut self, id: &ObjectId, session: u32) -> Result<(), Refusal>
         ensures ok { OnOk result (self.new ≡ changed (released session) self.old id.now) }
+        ensures refused { (r : Refusal) → IsErrOf result r → release_check_lem self.old session id.now ≡ Some r }
         ensures err { OnErr result (self.new ≡ self.old) }
     {
         let Some(copy) = self.by_id.get_mut(id) else {
@@ -104,6 +142,16 @@ impl Copies {
             return;
         };
         copy.leave(session);
+    }
+
+    /// No hold of the session on any copy. Takes a walk over them, and no memory.
+    pub fn leave_all(&mut self, session: u32)
+        ensures { self.new ≡ all_changed (left session) self.old }
+    {
+        self.by_id.retain(|_, copy| {
+            copy.leave(session);
+            true
+        });
     }
 
     /// The copy is immutable from now on, with this digest of its bytes.

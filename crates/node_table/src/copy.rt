@@ -1,14 +1,15 @@
 //! One copy of a row.
 ghost use Rattle.std.specs.Prelude.{◌≡◌, ◌≢◌, ◌+◌, ◌==◌, nat_le, if◌then◌else◌, true, false, Some, None, OnOk, OnErr, IsErrOf, IsOk, is_some, option_map};
 ghost use Rattle.obj_id.specs.declared.refusals.Refusal.{Refusal};
-ghost use Rattle.obj_id.specs.declared.refusals.Refusal.TheVariants.{NoMemory, TooMany};
+ghost use Rattle.obj_id.specs.declared.refusals.Refusal.TheVariants.{NoMemory, TooMany, NotHeld};
 ghost use Rattle.private_store.specs.Copies.{extent_of, is_primary, is_created, is_held};
 ghost use Rattle.private_store.specs.Commands.{holds_of as holds_of_lem, all_holds};
 ghost use Rattle.private_store.specs.Limits.{most_holds};
 ghost use Rattle.node_table.specs.Kept.{new_kept, fetched_kept, held, released, left, sealed, spilling, gone_away, restoring as restoring_lem, fault_told, can_spill, can_go_away, can_restore};
+ghost use Rattle.node_table.specs.Usages.{is_spilling as is_spilling_lem};
 
 use fetch_core::FetchIn;
-use obj_id::{CopyState, Digest, Extent, Kind, Refusal};
+use obj_id::{CopyState, Digest, Extent, Kind, Refusal, WorkKind};
 use object_state::ObjectCopy;
 use pins_holds::Pins;
 use std::alloc::Global;
@@ -120,6 +121,20 @@ impl RowCopy {
         Some(self.fetch.as_ref()?.number())
     }
 
+    /// Whether its bytes are on the device.
+    pub fn is_backed(&self) -> bool
+        ensures { result ≡ is_some self.now.copy.backed }
+    {
+        self.marks.backed().is_some()
+    }
+
+    /// Whether a write of it is in flight.
+    pub fn is_spilling(&self) -> bool
+        ensures { result ≡ is_spilling_lem self.now }
+    {
+        matches!(self.marks.working(), Some(WorkKind::Write))
+    }
+
     /// Whether a session holds it.
     pub fn is_held(&self) -> bool
         ensures { result ≡ is_held self.now.copy }
@@ -143,9 +158,10 @@ impl RowCopy {
         self.pins.hold(session)
     }
 
-    /// One hold of the session less. Takes no memory.
+    /// One hold of the session less. `NotHeld` where it has none, and then nothing changes. Takes no memory.
     pub fn release(&mut self, session: u32) -> Result<(), Refusal>
         ensures ok { OnOk result (self.new ≡ released session self.old) }
+        ensures refused { (r : Refusal) → IsErrOf result r → (if holds_of_lem self.old.copy session == 0 then Some NotHeld else None) ≡ Some r }
         ensures err { OnErr result (self.new ≡ self.old) }
     {
         self.pins.release(session)

@@ -7,6 +7,8 @@ mod checks;
 mod copies;
 mod copy;
 mod get_command;
+mod hold_commands;
+mod listing;
 mod outcome;
 mod row;
 

@@ -11,8 +11,9 @@ ghost use Rattle.job_region.specs.Region.{bytes_at as placed_bytes};
 ghost use Rattle.std.specs.Option.{option_map_or};
 ghost use Rattle.private_store.specs.Copies.{is_created};
 ghost use Rattle.lru_evictor.specs.Orders.{touched, last_used};
-ghost use Rattle.node_table.specs.Entries.{changed};
-ghost use Rattle.node_table.specs.Kept.{Kept, sealed, held, left, fetched_kept};
+ghost use Rattle.node_table.specs.Entries.{changed, all_changed};
+ghost use Rattle.node_table.specs.Kept.{Kept, sealed, held, released, left, fetched_kept};
+ghost use Rattle.node_table.specs.Checks.{release_check};
 ghost use Rattle.node_table.specs.Row.{Row, new_row, place_of, ArePlaced};
 
 use crate::copies::Copies;
@@ -65,6 +66,23 @@ impl JobRow {
             order: UseOrder::new(alloc),
             fetches_begun: 0,
         })
+    }
+
+    /// The job's number.
+    pub(crate) fn job(&self) -> JobNo
+        ensures { result ≡ record { 0 = self.now.job } }
+    {
+        self.job
+    }
+
+    /// What it may have in its window and on the device, in bytes.
+    pub(crate) fn quota(&self) -> Quota
+        ensures { result ≡ record { window = self.now.window.quota; device = self.now.device } }
+    {
+        Quota {
+            window: self.window.quota(),
+            device: self.device,
+        }
     }
 
     /// Its copies.
@@ -149,6 +167,24 @@ impl JobRow {
         ensures { self.new ≡ record self.old { copies = changed (left session) self.old.copies id.now } }
     {
         self.copies.leave(id, session);
+    }
+
+    /// One hold of the session on the copy less. `NotHeld` where it has none, and then nothing changes.
+    /// Takes no memory.
+    pub(crate) fn release_copy(&mut self, id: &ObjectId, session: u32) -> Result<(), Refusal>
+        ensures ok { OnOk result (self.new ≡ record self.old { copies = changed (released session) self.old.copies id.now }) }
+        ensures refused { (r : Refusal) → IsErrOf result r → release_check self.old.copies session id.now ≡ Some r }
+        ensures err { OnErr result (self.new ≡ self.old) }
+    {
+        self.copies.release(id, session)?;
+        Ok(())
+    }
+
+    /// No hold of the session on any copy. Takes no memory.
+    pub(crate) fn leave_copies(&mut self, session: u32)
+        ensures { self.new ≡ record self.old { copies = all_changed (left session) self.old.copies } }
+    {
+        self.copies.leave_all(session);
     }
 
     /// Writes bytes into a resident copy from the offset on.
