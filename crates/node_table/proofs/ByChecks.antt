@@ -31,7 +31,7 @@ checked-if : (store : Shape) (b : Bool) (r : Refusal) (cs : List (Bool × Refusa
 unfolding checked
 checked-if store b r cs c = refl
 
-needing-by : {X : Type 0} (store : Shape) (o : Option X) (r : Refusal) (f : X → Change) → needing store o r f ≡ option_map_or f o (refused store r)
+pub needing-by : {X : Type 0} (store : Shape) (o : Option X) (r : Refusal) (f : X → Change) → needing store o r f ≡ option_map_or f o (refused store r)
 unfolding needing
 needing-by store o r f = refl
 

@@ -8,7 +8,7 @@ use Rattle.obj_id.specs.declared.ids.ObjectId.{ObjectId}
 use Rattle.obj_id.specs.declared.works.Extent.{Extent}
 use Rattle.obj_id.specs.declared.messages.DirectoryMessage.TheVariants.{Locate}
 use Rattle.obj_id.specs.declared.refusals.Refusal.{Refusal}
-use Rattle.obj_id.specs.declared.refusals.Refusal.TheVariants.{TooMany, Pending}
+use Rattle.obj_id.specs.declared.refusals.Refusal.TheVariants.{TooMany, Pending, Absent}
 use Rattle.obj_id.specs.declared.commands.Command.TheVariants as command
 use Rattle.obj_id.specs.declared.commands.Reply.TheVariants as reply
 use Rattle.obj_id.specs.Ids.{same_id}
@@ -17,29 +17,33 @@ use Rattle.private_store.specs.declared.inputs.Input.{Input}
 use Rattle.private_store.specs.declared.inputs.Input.TheVariants as input
 use Rattle.private_store.specs.Limits.{most_copies, has_numbers}
 use Rattle.private_store.specs.Tables.{ById, at, with_entry, is_among}
-use Rattle.private_store.specs.Shape.{Copy, Shape, Change, locate}
+use Rattle.private_store.specs.Shape.{Copy, Shape, Change, Fetch, Phase, locating, sized, pulling, failed, locate}
 use Rattle.private_store.specs.Copies.{extent_of}
 use Rattle.private_store.specs.Change.{refused, erasing, sending}
-use Rattle.private_store.specs.Commands.{fetched_copy, fetch_begun}
-use Rattle.private_store.specs.Contents.{Contents, keeps_digest, no_digest}
+use Rattle.private_store.specs.Commands.{fetched_copy, fetch_begun, get_fetching}
+use Rattle.private_store.specs.Contents.{Contents, is_locating, keeps_digest, no_digest}
 use Rattle.private_store.specs.Private.{Post, key_of, to_directory}
 use Rattle.private_store.proofs.Checks.{checked-nil}
+use Rattle.obj_id.specs.declared.commands.CopyState.{CopyState}
+use Rattle.obj_id.specs.declared.commands.CopyState.TheVariants.{Created, Sealed, Restoring, Fetching, Away}
+use Rattle.private_store.specs.Kept.{is_fetching}
+use Rattle.private_store.proofs.RefusingLemmas.{keys_none, all_found}
 use Rattle.private_store.proofs.Filling.{filled}
 use Rattle.private_store.proofs.Rows.{at-put, at-put_here}
 use Rattle.private_store.proofs.Tests.{some_value, none_some, true_false, false_true}
 use Rattle.job_region.specs.Region.{bytes_at as placed_bytes}
 use Rattle.lru_evictor.specs.Orders.{AreThere, last_used}
-use Rattle.lru_evictor.proofs.Reorders.{reordered-used}
+use Rattle.lru_evictor.proofs.Reorders.{reordered-used, reordered-unused}
 use Rattle.spill_work.specs.Line.{WorkLine, works_of}
 use Rattle.node_table.specs.Kept.{Kept, fetched_kept}
 use Rattle.node_table.specs.Row.{Row, copies_of, shape_of}
 use Rattle.node_table.specs.Checks.{fetch_check}
-use Rattle.node_table.specs.Shown.{seen, work_on, IsPlain, IsShown, Given, only, TakesStep}
-use Rattle.node_table.proofs.ByChecks.{unless_refused, first-check, sending-is}
+use Rattle.node_table.specs.Shown.{seen, is_plain, work_on, IsPlain, IsShown, Given, only, TakesStep}
+use Rattle.node_table.proofs.ByChecks.{unless_refused, first-check, needing-by, sending-is}
 use Rattle.node_table.proofs.CopyTables.{at-copies_none, copies-with}
 use Rattle.node_table.proofs.Changing.{there_with, keys_with}
 use Rattle.node_table.proofs.Orders.{there_last, listed_last, last_listed}
-use Rattle.node_table.proofs.Getting.{s, x, by_copy, get_is}
+use Rattle.node_table.proofs.Getting.{s, x, by_copy, get_is, get_at}
 use Rattle.node_table.proofs.Stepping.{Moves, moved, stays, same_bytes}
 
 length-map : {A B : Type 0} (f : A → B) (xs : List A) → length (map f xs) ≡ length xs
@@ -137,3 +141,60 @@ module _ (node : ℕ) (row : Row) (line : WorkLine) (contents : Contents) (sessi
   fetch_done passed =
       moved node row line contents h (input.Call session (command.Get id)) (erasing store c)
       (get_is node row line contents session id mine h ∙ ap (erasing store) (change_is ∙ ap (λ o. unless_refused store o c) passed)) told row_begun line m refl
+
+-- ---- an object that is on its way
+
+module _ (node : ℕ) (row : Row) (line : WorkLine) (contents : Contents) (session : ℕ) (id : ObjectId) (mine : (id.job.0 == row.job) ≡ true) (h : IsShown row line contents)
+    (k : Kept) (found : at row.copies id ≡ Some k) (is : is_fetching k.copy.state ≡ true) where
+  on_its_way : (f : Fetch) × (k.copy.fetch ≡ Some f) × (f.phase ≡ locating)
+  on_its_way = by k.copy.state is k.copy.fetch refl (h.plain id k found).state
+    where
+      phase : (p : Phase) → is_locating p ≡ true → p ≡ locating
+      phase locating e = refl
+      phase (sized source) e = true_false e
+      phase (pulling source missing) e = true_false e
+      phase (failed refusal) e = true_false e
+
+      some : (o : Option Fetch) → k.copy.fetch ≡ o → option_map_or (λ f. is_locating f.phase) o false ≡ true → (f : Fetch) × (k.copy.fetch ≡ Some f) × (f.phase ≡ locating)
+      some None e p = true_false p
+      some (Some f) e p = (f, e, phase f.phase p)
+
+      by : (state : CopyState) → is_fetching state ≡ true → (o : Option Fetch) → k.copy.fetch ≡ o → is_plain state o ≡ true → (f : Fetch) × (k.copy.fetch ≡ Some f) × (f.phase ≡ locating)
+      by Created t o e p = true_false t
+      by Sealed t o e p = true_false t
+      by Restoring t o e p = true_false t
+      by Fetching t o e p = some o e p
+      by Away t o e p = true_false t
+
+  fetching_is : (state : CopyState) → is_fetching state ≡ true → state ≡ Fetching
+  fetching_is Created t = true_false t
+  fetching_is Sealed t = true_false t
+  fetching_is Restoring t = true_false t
+  fetching_is Fetching t = refl
+  fetching_is Away t = true_false t
+
+  abbrev asks : ℕ → Change
+  asks n = record (refused (shape_of row line) Pending) { sent = locate id n ∷ [] }
+
+  pub again : (n : ℕ) → ((f : Fetch) → k.copy.fetch ≡ Some f → n ≡ f.number) → (messages : List Post) → messages ≡ to_directory (Locate id node n)
+      → TakesStep node row line contents (input.Call session (command.Get id)) (record { reply = reply.Refused Pending; posts = messages; erased = [] }) row line
+  again n number messages sent =
+      let f = on_its_way in
+      moved node row line contents h (input.Call session (command.Get id)) (erasing (shape_of row line) (asks f.0.number))
+      (get_at node row line contents session id mine h k found Fetching (fetching_is k.copy.state is)
+      ∙ ap (erasing (shape_of row line)) (needing-by (shape_of row line) k.copy.fetch Absent (λ fetch. get_fetching row.order (shape_of row line) id k.copy fetch fetch.phase)
+      ∙ ap (λ o. option_map_or (λ fetch. get_fetching row.order (shape_of row line) id k.copy fetch fetch.phase) o (refused (shape_of row line) Absent)) f.1
+      ∙ ap (get_fetching row.order (shape_of row line) id k.copy f.0) f.2 ∙ sending-is (locate id f.0.number ∷ []) (refused (shape_of row line) Pending)))
+      (record { reply = reply.Refused Pending; posts = messages; erased = [] }) row line (record {
+        shape = refl;
+        order = sym (reordered-unused row.order (copies_of row.copies) h.there);
+        there = h.there;
+        listed = h.listed;
+        bytes = same_bytes node row line contents h (input.Call session (command.Get id));
+        digests = h.digests;
+        plain = h.plain;
+        working = h.working;
+        reply = refl;
+        erased = sym (ap (map (key_of row.job)) (keys_none (copies_of row.copies) (copies_of row.copies) (all_found (copies_of row.copies))));
+      })
+      (sent ∙ ap (λ m. to_directory (Locate id node m)) (number f.0 f.1))

@@ -13,7 +13,7 @@ use Rattle.private_store.specs.declared.inputs.Input.TheVariants as input
 use Rattle.private_store.specs.Limits.{most_holds}
 use Rattle.private_store.specs.Tables.{ById, at, with_entry, is_among}
 use Rattle.private_store.specs.Shape.{Copy, Shape, Change}
-use Rattle.private_store.specs.Copies.{is_sealed}
+use Rattle.private_store.specs.Copies.{is_sealed, is_created}
 use Rattle.private_store.specs.Room.{set_copy}
 use Rattle.private_store.specs.Change.{replied, refused, erasing, checked, needing}
 use Rattle.private_store.specs.Commands.{get, get_copy, get_sealed, get_away, get_fetching, begin_fetch, with_holds, holds_of, all_holds}
@@ -22,7 +22,10 @@ use Rattle.private_store.specs.Private.{key_of}
 use Rattle.private_store.specs.Step.{step}
 use Rattle.private_store.proofs.Checks.{checked-false, checked-nil}
 use Rattle.private_store.proofs.Rows.{at-put_here}
-use Rattle.private_store.proofs.Tests.{true_false}
+use Rattle.std.specs.Prelude.{IfOk, Ok, Err}
+use Rattle.std.specs.declared.result.Result.{Result}
+use Rattle.private_store.specs.Kept.{is_fetching}
+use Rattle.private_store.proofs.Tests.{true_false, false_true, some_value, none_some}
 use Rattle.lru_evictor.specs.Orders.{AreThere, last_used, touched}
 use Rattle.lru_evictor.proofs.Reorders.{reordered-used}
 use Rattle.spill_work.specs.Line.{WorkLine}
@@ -30,12 +33,32 @@ use Rattle.node_table.specs.Entries.{changed}
 use Rattle.node_table.specs.Kept.{Kept, held}
 use Rattle.node_table.specs.Row.{Row, copies_of, shape_of}
 use Rattle.node_table.specs.Checks.{hold_check, hold_check_of}
-use Rattle.node_table.specs.Shown.{seen, IsPlain, IsShown, Given, only, TakesStep}
+use Rattle.node_table.specs.Shown.{seen, is_plain, IsPlain, IsShown, Given, only, TakesStep}
 use Rattle.node_table.proofs.ByChecks.{unless_refused, first-check, called, own}
 use Rattle.node_table.proofs.CopyTables.{at-copies_found, copies-changed}
 use Rattle.node_table.proofs.Changing.{there_still, bytes_stay, digests_stay, works_stay, plain_stay, listed_stay, keys_with}
 use Rattle.node_table.proofs.Orders.{touched-listed, there_last, listed_last}
 use Rattle.node_table.proofs.Stepping.{Moves, moved, stays}
+
+-- what is so of each answer
+pub each_ok : {T E : Type 0} {P Q : T → Type 0} (r : Result T E) → ((t : T) → P t → Q t) → IfOk r P → IfOk r Q
+each_ok (Ok t) f h = f t h
+each_ok (Err e) f h = tt
+
+-- the copy whose state was looked up
+pub some_at : (copies : ById Kept) (id : ObjectId) (state : CopyState) → option_map (λ k. k.copy.state) (at copies id) ≡ Some state → (k : Kept) × (at copies id ≡ Some k) × (k.copy.state ≡ state)
+some_at copies id state e = by (at copies id) e
+  where
+    by : (o : Option Kept) → option_map (λ k. k.copy.state) o ≡ Some state → (k : Kept) × (o ≡ Some k) × (k.copy.state ≡ state)
+    by (Some k) e = (k, refl, some_value k.copy.state state e)
+    by None e = none_some state e
+
+pub none_at : (copies : ById Kept) (id : ObjectId) → option_map (λ k. k.copy.state) (at copies id) ≡ None → at copies id ≡ None
+none_at copies id e = by (at copies id) e
+  where
+    by : (o : Option Kept) → option_map (λ k. k.copy.state) o ≡ None → o ≡ None
+    by (Some k) e = none_some k.copy.state (sym e)
+    by None e = refl
 
 sealed_is : (state : CopyState) → is_sealed state ≡ true → state ≡ Sealed
 sealed_is Created e = true_false e
@@ -76,6 +99,24 @@ module _ (node : ℕ) (row : Row) (line : WorkLine) (contents : Contents) (sessi
 
     pub get_at : (state : CopyState) → k.copy.state ≡ state → step row.order s (judge node (seen row line contents) x) ≡ erasing s (by_state state)
     get_at state is = get_found ∙ ap (λ st. erasing s (by_state st)) is
+
+    -- where the copy is being written, or is read back
+    pub created_told : k.copy.state ≡ Created → TakesStep node row line contents x (only (reply.Refused NotSealed)) row line
+    created_told is = stays node row line contents h x (reply.Refused NotSealed) (get_at Created is) refl refl
+
+    pub restoring_told : k.copy.state ≡ Restoring → TakesStep node row line contents x (only (reply.Refused Pending)) row line
+    restoring_told is = stays node row line contents h x (reply.Refused Pending) (get_at Restoring is) refl refl
+
+    -- a copy that is away can't be there
+    pub pending_told : is_created k.copy.state ≡ false → is_sealed k.copy.state ≡ false → is_fetching k.copy.state ≡ false → TakesStep node row line contents x (only (reply.Refused Pending)) row line
+    pending_told made sealed fetching = by k.copy.state refl made sealed fetching
+      where
+        by : (state : CopyState) → k.copy.state ≡ state → is_created state ≡ false → is_sealed state ≡ false → is_fetching state ≡ false → TakesStep node row line contents x (only (reply.Refused Pending)) row line
+        by Created is a b f = false_true a
+        by Sealed is a b f = false_true b
+        by Restoring is a b f = restoring_told is
+        by Fetching is a b f = false_true f
+        by Away is a b f = true_false (ap (λ st. is_plain st k.copy.fetch) (sym is) ∙ (h.plain id k found).state)
 
     module _ (is : is_sealed k.copy.state ≡ true) where
       abbrev now : Copy
