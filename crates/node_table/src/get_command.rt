@@ -1,8 +1,9 @@
 //! Get: a hold on a copy that is here, and else what brings it here.
-ghost use Rattle.std.specs.Prelude.{◌≡◌, ◌==◌, ℕ, true, false, Some, None, option_map, IfOk, OnErr, IsErrOf};
+ghost use Rattle.std.specs.Prelude.{◌≡◌, ◌==◌, ℕ, true, false, Some, None, IsOk, IfOk, OnErr, IsErrOf};
 ghost use Rattle.obj_id.specs.declared.refusals.Refusal.{Refusal};
 ghost use Rattle.obj_id.specs.declared.refusals.Refusal.TheVariants.{NoMemory};
 ghost use Rattle.obj_id.specs.declared.commands.Command.TheVariants as command;
+ghost use Rattle.obj_id.specs.declared.commands.Reply.TheVariants as reply;
 ghost use Rattle.private_store.specs.declared.inputs.Input.TheVariants as input;
 ghost use Rattle.private_store.specs.Tables.{at};
 ghost use Rattle.private_store.specs.Copies.{is_sealed};
@@ -13,7 +14,7 @@ ghost use Rattle.obj_id.specs.declared.messages.DirectoryMessage.TheVariants.{Lo
 ghost use Rattle.spill_work.specs.Line.{WorkLine};
 ghost use Rattle.node_table.specs.Kept.{Kept};
 ghost use Rattle.node_table.specs.Outcomes.{given_of};
-ghost use Rattle.node_table.specs.Shown.{IsShown, TakesStep};
+ghost use Rattle.node_table.specs.Shown.{IsShown, TakesStep, only};
 
 use crate::outcome::{Erase, Outcome};
 use crate::row::JobRow;
@@ -97,20 +98,6 @@ impl JobRow {
         })
     }
 
-    /// Get of a copy that is being written, or read back: `NotSealed`, or `Pending`. A copy that is away
-    /// can't be there yet.
-    fn get_unready(&self, alloc: Global, id: &ObjectId, state: CopyState) -> Outcome
-        requires { option_map (λ k. k.copy.state) (at self.now.copies id.now) ≡ Some state }
-        ensures { (node session : ℕ) (line : WorkLine) (contents : Contents) → (id.now.job.0 == self.now.job) ≡ true → IsShown self.now line contents
-            → is_sealed state ≡ false → is_fetching state ≡ false
-            → TakesStep node self.now line contents (input.Call session (command.Get id.now)) (given_of result) self.now line }
-    {
-        match state {
-            CopyState::Created => Outcome::only(alloc, Reply::Refused(Refusal::NotSealed)),
-            _ => Outcome::only(alloc, Reply::Refused(Refusal::Pending)),
-        }
-    }
-
     /// Get: a hold on a copy that is here, and else what brings it here. `NotSealed`, `Pending`,
     /// `TooMany`. The error is want of memory, and then nothing has changed.
     pub fn get(
@@ -129,9 +116,20 @@ impl JobRow {
             None => self.begin_fetch(alloc, node, id),
             Some(CopyState::Sealed) => self.get_sealed(alloc, session, id),
             Some(CopyState::Fetching) => self.locate_again(alloc, node, id),
-            Some(state) => Ok(self.get_unready(alloc, id, state)),
+            Some(CopyState::Created) => told(alloc, Refusal::NotSealed),
+            Some(CopyState::Restoring) => told(alloc, Refusal::Pending),
+            // no event that is built puts a copy there
+            Some(CopyState::Away) => told(alloc, Refusal::Pending),
         }
     }
+}
+
+/// A refusal that is told, and nothing else.
+fn told(alloc: Global, refusal: Refusal) -> Result<Outcome, Refusal>
+    ensures ok { IfOk result (λ o. given_of o ≡ only (reply.Refused refusal)) }
+    ensures told { IsOk result }
+{
+    Ok(Outcome::only(alloc, Reply::Refused(refusal)))
 }
 
 /// The question where copies of the object are.
