@@ -1,5 +1,5 @@
 -- What an admission leaves: the new job's row shows a store that has begun, and the others are as they were.
-use Rattle.std.proofs.Common.{◌≡◌, ℕ, ◌<◌, ◌==◌, nat_eq, Bool, true, false, not, cond, ◌||◌, List, [], ◌∷◌, ◌++◌, length, Option, Some, None, is_none, refl, sym, ap, subst, ◌∙◌, arith}
+use Rattle.std.proofs.Common.{◌≡◌, ℕ, ◌<◌, ◌==◌, Bool, true, false, not, cond, ◌||◌, List, [], ◌∷◌, ◌++◌, length, Option, Some, None, is_none, refl, sym, ap, subst, ◌∙◌, arith}
 use Rattle.std.specs.Prelude.{nat_le}
 use Rattle.std.specs.List.{list_all}
 use Rattle.std.specs.Map.{keys_of, lookup}
@@ -18,7 +18,7 @@ use Rattle.private_store.specs.declared.inputs.Judged.TheVariants as judged
 use Rattle.private_store.specs.declared.schedules.Event.TheVariants as event
 use Rattle.private_store.specs.Jobs.{same_job}
 use Rattle.private_store.specs.Limits.{is_quota, most_live_jobs}
-use Rattle.private_store.specs.Shape.{Shape, Change, WorkInFlight, live, not_begun, unbegun}
+use Rattle.private_store.specs.Shape.{WorkInFlight, live, not_begun, unbegun}
 use Rattle.private_store.specs.Change.{done}
 use Rattle.private_store.specs.Step.{step}
 use Rattle.private_store.specs.Contents.{View, judge}
@@ -32,7 +32,7 @@ use Rattle.spill_work.specs.Line.{WorkLine, works_of, used_by}
 use Rattle.job_admission.specs.declared.Live.{Live}
 use Rattle.job_admission.specs.Admissions.{Admissions, admit_check, admitted, place_for, lives_of}
 use Rattle.job_admission.proofs.AllKept.{admit_passed}
-use Rattle.node_table.specs.Row.{Row, new_row, shape_of}
+use Rattle.node_table.specs.Row.{Row, new_row}
 use Rattle.node_table.specs.Shown.{seen, only, IsShown}
 use Rattle.node_core.specs.Hosted.{Hosted, AreHosted, IsRowView, IsBare, IsViewBy, Shows, bare}
 use Rattle.node_core.specs.Steps.{IsStepOf, Steps, answered}

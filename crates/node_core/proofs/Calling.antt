@@ -1,5 +1,5 @@
 -- A command on the row of its job: what its answer says, and that another job's object is refused.
-use Rattle.std.proofs.Common.{◌≡◌, ℕ, ◌==◌, true, false, List, Ok, Err, refl, sym, ap, subst, ◌∙◌}
+use Rattle.std.proofs.Common.{◌≡◌, ℕ, ◌==◌, false, List, Ok, Err, refl, sym, ap, subst, ◌∙◌}
 use Rattle.std.specs.Prelude.{IfOk, OnErr}
 use Rattle.std.specs.declared.result.Result.{Result}
 use Rattle.obj_id.specs.declared.ids.ObjectId.{ObjectId}

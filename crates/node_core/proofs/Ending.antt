@@ -1,5 +1,5 @@
 -- What the end of a job leaves: nothing of the job, and the others as they were.
-use Rattle.std.proofs.Common.{◌≡◌, ℕ, ◌<◌, ◌==◌, Bool, true, false, not, cond, ◌||◌, ◌&&◌, List, [], ◌∷◌, ◌++◌, filter, map, Option, Some, None, is_some, refl, sym, ap, subst, ◌∙◌, arith, T}
+use Rattle.std.proofs.Common.{◌≡◌, ℕ, ◌==◌, Bool, true, false, not, cond, ◌||◌, List, [], ◌∷◌, ◌++◌, filter, map, Option, Some, None, is_some, refl, sym, ap, subst, ◌∙◌, arith, T}
 use Rattle.std.specs.Prelude.{nat_le}
 use Rattle.std.specs.List.{list_all, list_any, cons_option}
 use Rattle.std.specs.FinMap.{is_sorted}
@@ -32,10 +32,10 @@ use Rattle.spill_work.specs.Line.{WorkLine, works_of, used_by, same_job as same_
 use Rattle.job_admission.specs.Admissions.{Admissions, live_at, lives_of, finished}
 use Rattle.node_table.specs.Kept.{Kept}
 use Rattle.node_table.specs.Row.{Row, copies_of, shape_of}
-use Rattle.node_table.specs.Shown.{seen, Given, IsShown, IsPlain, work_on}
+use Rattle.node_table.specs.Shown.{seen, Given, IsShown, work_on}
 use Rattle.node_table.proofs.Telling.{sorted-copies, at-first, at-rest}
 use Rattle.node_core.specs.Hosted.{Hosted, AreHosted, IsRowView, IsBare, IsViewBy, Shows, bare}
-use Rattle.node_core.specs.Steps.{IsStepOf, Steps, answered, end_check}
+use Rattle.node_core.specs.Steps.{IsStepOf, Steps, answered}
 use Rattle.node_core.proofs.Views.{itself, another, view_is}
 
 -- ---- the numbers
@@ -132,7 +132,7 @@ other_row row line after q view same h =
     let works : works_of after (record { 0 = row.job }) ≡ works_of line (record { 0 = row.job }) = subst (λ n. works_of after (record { 0 = n }) ≡ works_of line (record { 0 = n })) (sym h.own) same.works in
     let used : used_by after (record { 0 = row.job }) ≡ used_by line (record { 0 = row.job }) = subst (λ n. used_by after (record { 0 = n }) ≡ used_by line (record { 0 = n })) (sym h.own) same.used in
     let shapes : shape_of row line ≡ shape_of row after =
-        ap (λ ws. record (shape_of row line) { works = ws }) (sym works) ∙ ap (λ n. record (shape_of row after) { works_asked = n }) (sym used) in
+    ap (λ ws. record (shape_of row line) { works = ws }) (sym works) ∙ ap (λ n. record (shape_of row after) { works_asked = n }) (sym used) in
     record {
       own = h.own;
       shape = h.shape ∙ shapes;

@@ -1,5 +1,5 @@
 -- A step of one job changes the views of that job alone.
-use Rattle.std.proofs.Common.{◌≡◌, ℕ, ◌==◌, nat_eq, Bool, true, false, cond, not, List, [], Option, Some, None, refl, sym, ap, subst, ◌∙◌, arith}
+use Rattle.std.proofs.Common.{◌≡◌, ℕ, ◌==◌, Bool, true, false, cond, not, List, [], Some, None, refl, sym, ap, subst, ◌∙◌, arith}
 use Rattle.std.specs.Map.{lookup}
 use Rattle.std.proofs.lemmas.Bool.{eqb-true}
 use Rattle.std.proofs.lemmas.Bool.Decides.{nat_tests}
@@ -22,7 +22,7 @@ use Rattle.private_store.proofs.Checks.{checked-true}
 use Rattle.spill_work.specs.Line.{WorkLine}
 use Rattle.job_admission.specs.Admissions.{Admissions}
 use Rattle.node_table.specs.Row.{Row, shape_of}
-use Rattle.node_table.specs.Shown.{seen, Given, only, TakesStep}
+use Rattle.node_table.specs.Shown.{seen, Given, only}
 use Rattle.node_table.proofs.ByChecks.{called}
 use Rattle.node_core.specs.Hosted.{Hosted, IsRowView, IsBare, IsViewBy, Shows, bare, bare_shape}
 use Rattle.node_core.specs.Calls.{Obeys}
@@ -55,7 +55,6 @@ module _ (number : ℕ) (a : Admissions) (line : WorkLine) (job : JobNo) (sessio
       (updated : (q : JobNo) → lookup (same_job q) new ≡ cond (same_job job q) (Some after) (lookup (same_job q) old))
       (built : is_built_command c ≡ true)
       (obeys : Obeys number job.0 row line session c told after) where
-
     row_view : (view : View) → Shows (with_rows old) job.0 view → IsRowView row line job.0 view
     row_view view h = subst (IsViewBy a.greatest line job.0 view) found h.by_row
 

@@ -13,12 +13,11 @@ ghost use Rattle.node_core.specs.Steps.{is_built, is_built_command, Steps};
 
 mod calls;
 
-pub use node_table::{Erase, Outcome};
-
 use bytes::Bytes;
 use indexmap::IndexMap;
 use job_admission::Admission;
 use node_table::JobRow;
+pub use node_table::{Erase, Outcome};
 use obj_id::{Command, DirectoryMessage, JobKey, JobNo, Message, Place, Quota, Refusal, Reply};
 use private_store::Event;
 use spill_work::Works;
@@ -94,7 +93,15 @@ impl Node {
             let reply = Reply::Refused(Refusal::NotAdmitted);
             return Ok(Outcome::only(self.alloc, reply));
         };
-        calls::carry_out(self.alloc, self.number, job, row, &self.works, session, command)
+        calls::carry_out(
+            self.alloc,
+            self.number,
+            job,
+            row,
+            &self.works,
+            session,
+            command,
+        )
     }
 
     /// The operator admits a job. All growth comes before the first change.

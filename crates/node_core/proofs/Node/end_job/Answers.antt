@@ -1,4 +1,4 @@
-use Rattle.std.proofs.Common.{◌≡◌, [], is_some, refl, sym, ap, subst, ◌∙◌}
+use Rattle.std.proofs.Common.{[], sym, subst}
 use Rattle.private_store.specs.declared.schedules.Event.TheVariants as event
 use Rattle.obj_id.specs.declared.commands.Reply.TheVariants as reply
 use Rattle.obj_id.specs.declared.messages.DirectoryMessage.TheVariants.{EndJob}
