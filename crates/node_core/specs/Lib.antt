@@ -1,3 +1,3 @@
-pub mod Erased
 pub mod Hosted
 pub mod Steps
+pub mod Calls

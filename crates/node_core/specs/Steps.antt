@@ -1,10 +1,7 @@
 -- What an event does at a node: to its own job the private step, and to no other job anything.
-use Rattle.std.specs.Prelude.{◌≡◌, ℕ, ◌+◌, ◌≤◌, ◌==◌, Bool, true, false, if◌then◌else◌, List, [], length, filter, Option, Some, None, is_some, not}
+use Rattle.std.specs.Prelude.{◌≡◌, ℕ, ◌==◌, Bool, true, false, if◌then◌else◌, List, [], filter, Option, Some, None, is_some, not}
 use Rattle.std.specs.Option.{option_map_or}
 use Rattle.obj_id.specs.declared.ids.JobNo.{JobNo}
-use Rattle.obj_id.specs.declared.works.DeviceKey.{DeviceKey}
-use Rattle.obj_id.specs.declared.works.JobKey.{JobKey}
-use Rattle.obj_id.specs.declared.works.Quota.{Quota}
 use Rattle.obj_id.specs.declared.refusals.Refusal.{Refusal}
 use Rattle.obj_id.specs.declared.refusals.Refusal.TheVariants.{NotAdmitted}
 use Rattle.obj_id.specs.declared.commands.Command.{Command}
@@ -16,14 +13,14 @@ use Rattle.private_store.specs.declared.inputs.Input.TheVariants as input
 use Rattle.private_store.specs.declared.schedules.Event.{Event}
 use Rattle.private_store.specs.declared.schedules.Event.TheVariants as event
 use Rattle.private_store.specs.Contents.{View}
-use Rattle.private_store.specs.Private.{Post, view_step}
+use Rattle.private_store.specs.Private.{view_step}
 use Rattle.private_store.specs.Shared.{LiveJob, job_is, admitted as window_admitted}
 use Rattle.job_admission.specs.Admissions.{Admissions, live_at, lives_of, admit_check, admitted, finished}
+use Rattle.node_table.specs.Shown.{Given}
 use Rattle.node_core.specs.Hosted.{Hosted, Shows}
 
 -- the commands that are built
 abbrev pub is_built_command : Command (List ℕ) → Bool
-is_built_command (command.Create id kind n) = true
 is_built_command (command.Write id offset bytes) = true
 is_built_command (command.Seal id) = true
 is_built_command (command.Get id) = true
@@ -56,12 +53,6 @@ input_of (event.Admit job quota key) reply.Ok = Some (input.Begin quota)
 input_of (event.JobEnd job) reply.Ok = Some input.End
 input_of (event.Call job session c) told = Some (input.Call session c)
 input_of _ _ = None
-
--- what a step gives: the reply, the messages to be sent, and the device keys to be erased
-pub record Given : Type 0 where
-  pub reply : Reply (List ℕ)
-  pub posts : List Post
-  pub erased : List DeviceKey
 
 -- the job's view after an event that is this to it
 abbrev pub view_by : ℕ → View → Option Input → View

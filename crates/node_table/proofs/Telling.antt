@@ -65,7 +65,7 @@ below-copies : (id : ObjectId) (es : ById Kept) → below_all id_cmp id (copies_
 below-copies id [] = refl
 below-copies id (e ∷ es) = ap (λ b. is_lt (id_cmp id e.0) && b) (below-copies id es)
 
-sorted-copies : (es : ById Kept) → is_sorted id_cmp (copies_of es) ≡ is_sorted id_cmp es
+pub sorted-copies : (es : ById Kept) → is_sorted id_cmp (copies_of es) ≡ is_sorted id_cmp es
 sorted-copies [] = refl
 sorted-copies (e ∷ es) = ap (λ b. b && is_sorted id_cmp (copies_of es)) (below-copies e.0 es) ∙ ap (λ b. below_all id_cmp e.0 es && b) (sorted-copies es)
 
@@ -74,10 +74,10 @@ below-absent id [] h = refl
 below-absent id (e ∷ es) h =
     ap (λ r. cond (is_eq r) (Some e.1) (at es id)) (less_is (id_cmp id e.0) (and_left _ _ h)) ∙ below-absent id es (and_right (is_lt (id_cmp id e.0)) _ h)
 
-at-first : (e : ObjectId × Kept) (es : ById Kept) → at (e ∷ es) e.0 ≡ Some e.1
+pub at-first : (e : ObjectId × Kept) (es : ById Kept) → at (e ∷ es) e.0 ≡ Some e.1
 at-first e es = ap (λ r. cond (is_eq r) (Some e.1) (at es e.0)) (tied_itself id_cmp-IsTotalOrder e.0)
 
-at-rest : (e : ObjectId × Kept) (es : ById Kept) → T (is_sorted id_cmp (e ∷ es)) → (q : ObjectId) (k : Kept) → at es q ≡ Some k → at (e ∷ es) q ≡ Some k
+pub at-rest : (e : ObjectId × Kept) (es : ById Kept) → T (is_sorted id_cmp (e ∷ es)) → (q : ObjectId) (k : Kept) → at es q ≡ Some k → at (e ∷ es) q ≡ Some k
 at-rest e es sorted q k found = by (same_id q e.0) refl
   where
     by : (b : Bool) → same_id q e.0 ≡ b → cond b (Some e.1) (at es q) ≡ Some k
