@@ -1,0 +1,9 @@
+mod Numbers
+mod Logging
+mod NoWant
+mod Places
+mod Stores
+mod Inputs
+mod Jobs
+mod Nodes
+mod Stepping
