@@ -7,3 +7,4 @@ mod Inputs
 mod Jobs
 mod Nodes
 mod Stepping
+mod Running

@@ -1,3 +1,4 @@
 pub mod Logs
-pub mod Worlds
 pub mod Moves
+pub mod Runs
+pub mod Worlds

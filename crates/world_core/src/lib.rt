@@ -12,8 +12,10 @@ ghost use Rattle.world_core.specs.Worlds.{is_shape, is_built_step, AreNew, IsAft
 ghost use Rattle.world_core.specs.Moves.{Moves};
 
 mod messages;
+mod runs;
 
 pub use messages::Messages;
+pub use runs::{Trace, run, run_two};
 
 use bytes::Bytes;
 use node_core::{Node, Outcome};
