@@ -1,6 +1,5 @@
 -- What a step at a node is to each job: its own input, and nothing to others, while nothing is granted.
-use Rattle.std.proofs.Common.{◌≡◌, ℕ, Bool, true, false, cond, ◌==◌, List, [], ◌∷◌, ◌++◌, map, reverse, filter, Option, Some, None, option_to_list, refl, sym, ap, subst, ◌∙◌}
-use Rattle.std.specs.Prelude.{if◌then◌else◌, filter_map}
+use Rattle.std.proofs.Common.{◌≡◌, ℕ, Bool, true, false, cond, ◌==◌, List, [], ◌∷◌, ◌++◌, map, reverse, filter, Option, Some, None, option_to_list, refl, sym, ap, ◌∙◌}
 use Rattle.std.specs.Option.{option_map_or}
 use Rattle.std.specs.List.{cons_option}
 use Rattle.std.proofs.lemmas.List.{reverse-append}
@@ -14,14 +13,12 @@ use Rattle.private_store.specs.declared.inputs.Input.{Input}
 use Rattle.private_store.specs.declared.schedules.Event.{Event}
 use Rattle.private_store.specs.declared.schedules.Event.TheVariants as event
 use Rattle.private_store.specs.declared.schedules.Step.TheVariants.{At}
-use Rattle.private_store.specs.declared.schedules.StepAnswer.{StepAnswer}
 use Rattle.private_store.specs.declared.schedules.StepAnswer.TheVariants.{Told}
 use Rattle.private_store.specs.declared.schedules.Traced.{Traced}
 use Rattle.private_store.specs.Contents.{View}
 use Rattle.private_store.specs.Private.{view_step}
-use Rattle.private_store.specs.Cluster.{ClusterInput, at_node, input_at, cluster_from, told_from, no_cluster, private_run}
+use Rattle.private_store.specs.Cluster.{ClusterInput, at_node, cluster_from, told_from, no_cluster, private_run}
 use Rattle.private_store.specs.Cluster.{Told as ToldTo}
-use Rattle.private_store.specs.Hands.{Hand}
 use Rattle.private_store.specs.Trace.{hands_by, hands_step, hands_at, Given, is_no_memory, given_at, own_input, notes_by, notes, for_job, inputs_until, cluster_until, reply_of, replies_of, is_answered}
 use Rattle.private_store.proofs.Tests.{true_false}
 use Rattle.private_store.proofs.Runs.{inputs_now, cluster_until-step, told_from-append}

@@ -1,5 +1,5 @@
 -- What a step at a node does to each job: its messages and its replies are those of its private cluster.
-use Rattle.std.proofs.Common.{◌≡◌, ℕ, Bool, true, false, cond, ◌==◌, ◌<◌, List, [], ◌∷◌, ◌++◌, append-nil, filter, Option, Some, None, option_to_list, slice_get, refl, sym, ap, subst, ◌∙◌}
+use Rattle.std.proofs.Common.{◌≡◌, ℕ, Bool, true, false, cond, ◌==◌, List, [], ◌∷◌, ◌++◌, append-nil, filter, Option, Some, None, option_to_list, slice_get, refl, sym, ap, subst, ◌∙◌}
 use Rattle.std.specs.Prelude.{not}
 use Rattle.std.specs.Option.{option_map_or}
 use Rattle.obj_id.specs.declared.commands.Command.{Command}
@@ -14,13 +14,13 @@ use Rattle.private_store.specs.declared.schedules.Event.TheVariants as event
 use Rattle.private_store.specs.declared.schedules.Step.TheVariants.{At}
 use Rattle.private_store.specs.declared.schedules.StepAnswer.TheVariants.{Told}
 use Rattle.private_store.specs.declared.schedules.Traced.{Traced}
-use Rattle.private_store.specs.Private.{Store, Outcome, view_of, view_step, private_outcome}
-use Rattle.private_store.specs.Cluster.{Cluster, ClusterInput, Sent, at_node, posted, unmoved, moved_at, input_at, cluster_step, cluster_from, told, told_from}
+use Rattle.private_store.specs.Private.{Store, view_of, private_outcome}
+use Rattle.private_store.specs.Cluster.{Cluster, Sent, at_node, posted, unmoved, moved_at, input_at, told, told_from}
 use Rattle.private_store.specs.Cluster.{Told as ToldTo}
 use Rattle.private_store.specs.Trace.{hands_at, is_no_memory, cluster_until, reply_of, is_answered}
 use Rattle.private_store.proofs.Tests.{true_false}
 use Rattle.private_store.proofs.Runs.{inputs_now}
-use Rattle.node_core.specs.Steps.{is_built, job_of, input_of, IsGiven, IsStepOf, IsSilent}
+use Rattle.node_core.specs.Steps.{is_built, job_of, input_of, IsGiven}
 use Rattle.node_core.specs.Steps.{Given as NodeGiven}
 use Rattle.world_core.specs.Worlds.{IsJobAfter}
 use Rattle.world_core.proofs.Inputs.{Turn, stays, moves, cluster_after, replies_more, inputs_none, inputs_are}

@@ -1,6 +1,6 @@
 -- What a step at a node does to each node of a world: to the node what its history says, and to others
 -- nothing.
-use Rattle.std.proofs.Common.{◌≡◌, ◌≢◌, ℕ, Bool, true, false, not, cond, ◌==◌, ◌<◌, ◌||◌, ◌&&◌, List, [], ◌∷◌, ◌++◌, length, map, filter, Option, Some, None, is_some, is_none, slice_get, slice_set, refl, sym, ap, subst, ◌∙◌, arith}
+use Rattle.std.proofs.Common.{◌≡◌, ◌≢◌, ℕ, Bool, true, false, not, cond, ◌==◌, ◌||◌, ◌&&◌, List, [], ◌∷◌, ◌++◌, length, map, filter, Option, Some, None, is_some, is_none, refl, sym, ap, subst, ◌∙◌, arith}
 use Rattle.std.specs.Prelude.{nat_le, unwrap_or}
 use Rattle.std.specs.List.{list_any}
 use Rattle.std.specs.Option.{option_map_or}
@@ -15,9 +15,7 @@ use Rattle.obj_id.specs.declared.refusals.Refusal.TheVariants.{NoMemory, NotAdmi
 use Rattle.private_store.specs.declared.inputs.Input.TheVariants as input
 use Rattle.private_store.specs.declared.schedules.Event.{Event}
 use Rattle.private_store.specs.declared.schedules.Event.TheVariants as event
-use Rattle.private_store.specs.declared.schedules.Step.{Step}
 use Rattle.private_store.specs.declared.schedules.Step.TheVariants.{At}
-use Rattle.private_store.specs.declared.schedules.StepAnswer.{StepAnswer}
 use Rattle.private_store.specs.declared.schedules.StepAnswer.TheVariants.{Told}
 use Rattle.private_store.specs.declared.schedules.Traced.{Traced}
 use Rattle.private_store.specs.Limits.{is_quota, most_live_jobs}
@@ -26,10 +24,9 @@ use Rattle.private_store.specs.Contents.{View}
 use Rattle.private_store.specs.Shared.{LiveJob, is_admission, first_refusal, ok_unless, admit_answer, is_live_at, shared_answer, answer_due, lives_step}
 use Rattle.private_store.specs.Shared as shared
 use Rattle.private_store.specs.Trace.{is_no_memory}
-use Rattle.private_store.proofs.Tests.{true_false, false_true, none_some, none_here, some_value}
-use Rattle.job_admission.specs.Admissions.{Admissions, lives_of, live_at, admit_check, admitted, finished, place_for}
+use Rattle.private_store.proofs.Tests.{true_false, false_true}
+use Rattle.job_admission.specs.Admissions.{Admissions, lives_of, live_at, admit_check, admitted, place_for}
 use Rattle.job_admission.proofs.Lookups.{any_live}
-use Rattle.node_core.specs.Hosted.{Hosted}
 use Rattle.node_core.specs.Steps.{is_built, input_of, Given, IsGiven, answered, end_check, IsOperatorAnswer, admissions_after, lives_after}
 use Rattle.world_core.proofs.Inputs.{no_memory_wants}
 use Rattle.world_core.proofs.NoWant.{is_want, reply_wants, no_check_wants, NoWants, view_step_told}

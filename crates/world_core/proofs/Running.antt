@@ -1,5 +1,5 @@
 -- A run with one step more.
-use Rattle.std.proofs.Common.{◌≡◌, ℕ, suc, true, ◌+◌, ◌&&◌, List, [], ◌∷◌, ◌++◌, append_assoc, length, map, filter, reverse, refl, sym, ap, subst, ◌∙◌, arith}
+use Rattle.std.proofs.Common.{◌≡◌, ℕ, suc, true, ◌+◌, List, [], ◌∷◌, ◌++◌, append_assoc, length, map, filter, reverse, sym, ap, subst, ◌∙◌, arith}
 use Rattle.std.specs.List.{list_all}
 use Rattle.std.proofs.lemmas.List.{map-append, reverse-append, reverse-reverse}
 use Rattle.private_store.specs.declared.schedules.Step.{Step}

@@ -1,6 +1,6 @@
 -- A world after one step more.
-use Rattle.std.proofs.Common.{◌≡◌, ◌≢◌, ℕ, Bool, true, false, cond, ◌==◌, ◌+◌, ◌<◌, nat_lt, ◌||◌, ◌&&◌, inl, inr, List, [], ◌∷◌, ◌++◌, length, map, Option, Some, None, slice_get, slice_set, refl, sym, ap, subst, ◌∙◌, ⊎_elim, arith}
-use Rattle.std.specs.Prelude.{nat_le, if◌then◌else◌}
+use Rattle.std.proofs.Common.{◌≡◌, ◌≢◌, ℕ, true, false, ◌==◌, ◌+◌, ◌<◌, nat_lt, ◌||◌, ◌&&◌, inl, inr, List, [], ◌∷◌, ◌++◌, length, Some, slice_get, slice_set, refl, sym, ap, subst, ◌∙◌, ⊎_elim, arith}
+use Rattle.std.specs.Prelude.{nat_le}
 use Rattle.std.specs.List.{list_any}
 use Rattle.std.proofs.lemmas.Bool.{cases_eq}
 use Rattle.std.proofs.lemmas.Bool.Decides.{nat_tests}
@@ -8,7 +8,6 @@ use Rattle.std.proofs.lemmas.Grind.{common_steps}
 use Rattle.obj_id.specs.declared.ids.JobNo.{JobNo}
 use Rattle.obj_id.specs.declared.commands.Reply.{Reply}
 use Rattle.obj_id.specs.declared.commands.Reply.TheVariants as reply
-use Rattle.obj_id.specs.declared.messages.Place.TheVariants.{Node}
 use Rattle.obj_id.specs.declared.refusals.Refusal.TheVariants.{NoMemory}
 use Rattle.private_store.specs.declared.inputs.Input.{Input}
 use Rattle.private_store.specs.declared.schedules.Event.{Event}
@@ -16,9 +15,8 @@ use Rattle.private_store.specs.declared.schedules.Step.{Step}
 use Rattle.private_store.specs.declared.schedules.Step.TheVariants.{At}
 use Rattle.private_store.specs.declared.schedules.StepAnswer.TheVariants.{Told}
 use Rattle.private_store.specs.declared.schedules.Traced.{Traced}
-use Rattle.private_store.specs.Contents.{View}
-use Rattle.private_store.specs.Private.{Store, view_of, view_step, private_step, private_outcome}
-use Rattle.private_store.specs.Cluster.{Cluster, Sent, at_node, posted, moved_at}
+use Rattle.private_store.specs.Private.{Store, view_of, private_step, private_outcome}
+use Rattle.private_store.specs.Cluster.{Cluster, Sent, at_node, moved_at}
 use Rattle.private_store.specs.Trace.{hands_at, hands_step, is_no_memory, inputs_until, cluster_until}
 use Rattle.private_store.specs.Shared.{is_admission, answers_due}
 use Rattle.private_store.specs.Shared as shared
@@ -35,7 +33,7 @@ use Rattle.world_core.proofs.Jobs.{input_found, job_after, job_after_none}
 use Rattle.world_core.proofs.Nodes.{lives_here, lives_there, lives_none, memory_stays, greatest_here, admission_there, admission_none, told_no_memory, due}
 use Rattle.world_core.proofs.Places.{length-slice_set, slice_get-slice_set, slice_get-slice_set_other, found_within, slice_get-push}
 use Rattle.world_core.proofs.Numbers.{is_less}
-use Rattle.world_core.proofs.Stores.{IsSound, AreSound, cluster_AreSound, store_found, no_cluster_at}
+use Rattle.world_core.proofs.Stores.{AreSound, cluster_AreSound, store_found, no_cluster_at}
 
 module _ (nodes memory place : ℕ) (e : Event) (told : Reply (List ℕ)) (old new : Hosting) (history : List Traced)
     (h : IsAfter nodes memory old history) (b : is_built e ≡ true) (within : place < nodes) (m : Moves old place e told new) where
@@ -129,10 +127,10 @@ module _ (nodes memory place : ℕ) (e : Event) (told : Reply (List ℕ)) (old n
   node_after : (other : ℕ) (node : Hosted) → slice_get new.nodes other ≡ Some node → IsNodeAfter nodes memory other node (entry ∷ history)
   node_after other node f = ⊎_elim
       (λ (same : place ≡ other).
-          let is : node ≡ m.after = some_value node m.after (sym f ∙ ap (λ ns. slice_get ns other) m.nodes ∙ ap (slice_get (slice_set old.nodes place m.after)) (sym same) ∙ slice_get-slice_set old.nodes place m.before m.after m.found) in
-          subst (λ n. IsNodeAfter nodes memory other n (entry ∷ history)) (sym is) (subst (λ p. IsNodeAfter nodes memory p m.after (entry ∷ history)) same node_here))
+      let is : node ≡ m.after = some_value node m.after (sym f ∙ ap (λ ns. slice_get ns other) m.nodes ∙ ap (slice_get (slice_set old.nodes place m.after)) (sym same) ∙ slice_get-slice_set old.nodes place m.before m.after m.found) in
+      subst (λ n. IsNodeAfter nodes memory other n (entry ∷ history)) (sym is) (subst (λ p. IsNodeAfter nodes memory p m.after (entry ∷ history)) same node_here))
       (λ (apart : place ≢ other).
-          node_there other node apart (h.each_node other node (sym (slice_get-slice_set_other old.nodes place other m.after (λ same. apart (sym same))) ∙ ap (λ ns. slice_get ns other) (sym m.nodes) ∙ f)))
+      node_there other node apart (h.each_node other node (sym (slice_get-slice_set_other old.nodes place other m.after (λ same. apart (sym same))) ∙ ap (λ ns. slice_get ns other) (sym m.nodes) ∙ f)))
       (cases_eq place other)
 
   -- ---- the world

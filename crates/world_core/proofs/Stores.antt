@@ -1,12 +1,11 @@
 -- What every store of a private cluster is, whatever its inputs were.
-use Rattle.std.proofs.Common.{◌≡◌, ◌≢◌, ℕ, zero, suc, Bool, true, false, cond, ◌<◌, List, [], ◌∷◌, ◌++◌, length, Option, Some, None, slice_get, slice_set, refl, sym, ap, subst, ◌∙◌, ⊎_elim, arith}
+use Rattle.std.proofs.Common.{◌≡◌, ◌≢◌, ℕ, zero, suc, cond, ◌<◌, List, [], ◌∷◌, length, Some, None, slice_get, slice_set, refl, sym, ap, subst, ◌∙◌, ⊎_elim}
 use Rattle.std.specs.Option.{option_map_or}
 use Rattle.std.proofs.lemmas.Bool.{cases_eq}
 use Rattle.obj_id.specs.declared.messages.Place.{Place}
 use Rattle.obj_id.specs.declared.messages.Place.TheVariants.{Node, Directory}
 use Rattle.obj_id.specs.declared.messages.Message.{Message}
 use Rattle.obj_id.specs.declared.messages.Message.TheVariants as message
-use Rattle.obj_id.specs.declared.messages.Arrival.{Arrival}
 use Rattle.private_store.specs.declared.inputs.Input.{Input}
 use Rattle.private_store.specs.declared.inputs.Input.TheVariants.{Arrive}
 use Rattle.private_store.specs.Private.{Store, no_store, private_outcome, private_step, view_of}

@@ -14,13 +14,12 @@ ghost use Rattle.world_core.specs.Moves.{Moves};
 mod messages;
 mod runs;
 
-pub use messages::Messages;
-pub use runs::{Trace, run, run_two};
-
 use bytes::Bytes;
+pub use messages::Messages;
 use node_core::{Node, Outcome};
 use obj_id::{JobNo, Refusal, Reply};
 use private_store::{Event, Step, StepAnswer};
+pub use runs::{Trace, run, run_two};
 use std::alloc::{AllocError, Global};
 use std::marker::Model;
 
@@ -91,7 +90,9 @@ impl World {
         self.messages.reserve(job)?;
         let outcome = self.nodes[place as usize].apply(event)?;
         let Outcome {
-            reply, messages, ..
+            reply,
+            messages,
+            ..
         } = outcome;
         self.messages.add(job, place, messages);
         Ok(reply)

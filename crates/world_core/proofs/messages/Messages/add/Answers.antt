@@ -1,4 +1,4 @@
-use Rattle.std.proofs.Common.{◌≡◌, ℕ, ◌==◌, ◌++◌, List, [], ◌<◌, is_some, sym, ap, subst, ◌∙◌}
+use Rattle.std.proofs.Common.{◌==◌, ◌++◌, List, [], ◌<◌, is_some, sym, ap, subst, ◌∙◌}
 use Rattle.std.specs.Prelude.{if◌then◌else◌, unwrap_or, option_map}
 use Rattle.std.specs.Map.{lookup}
 use Rattle.std.specs.Option.{option_copied_mut}
@@ -6,7 +6,7 @@ use Rattle.obj_id.specs.declared.messages.Place.TheVariants.{Node}
 use Rattle.private_store.specs.Jobs.{same_job}
 use Rattle.private_store.specs.Cluster.{Sent, posted}
 use Rattle.indexmap.specs.IndexMap.{spare}
-use Rattle.world_core.specs.Logs.{Log, messages_of, sent_of, has_room}
+use Rattle.world_core.specs.Logs.{Log, messages_of, sent_of}
 use Rattle.world_core.proofs.Logging.{log_room, fresh_room, map_room, sent_more}
 use Rattle.world_core.proofs.messages.Messages.add.Goals as goal
 
