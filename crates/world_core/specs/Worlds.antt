@@ -22,9 +22,13 @@ pub record Hosting : Type 0 where
   -- by job, all messages ever sent, oldest first
   pub messages : List (JobNo × List Sent)
 
--- 1 to 8 nodes, none with more than the largest memory
+-- the nodes of the largest world
+abbrev pub most_nodes : ℕ
+most_nodes = 8
+
+-- a node at least, and none with more than the largest memory
 abbrev pub is_shape : Shape → Bool
-is_shape shape = nat_le 1 shape.nodes && nat_le shape.nodes 8 && nat_le shape.memory largest_memory
+is_shape shape = nat_le 1 shape.nodes && nat_le shape.nodes most_nodes && nat_le shape.memory largest_memory
 
 -- the steps that are built: an event that is built, at one of the nodes
 abbrev pub is_built_step : ℕ → Step → Bool

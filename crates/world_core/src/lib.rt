@@ -15,9 +15,9 @@ mod messages;
 mod runs;
 
 use bytes::Bytes;
-pub use messages::Messages;
+use messages::Messages;
 use node_core::{Node, Outcome};
-use obj_id::{JobNo, Refusal, Reply};
+use obj_id::{JobNo, Place, Refusal, Reply};
 use private_store::{Event, Step, StepAnswer};
 pub use runs::{Trace, run, run_two};
 use std::alloc::{AllocError, Global};
@@ -94,7 +94,7 @@ impl World {
             messages,
             ..
         } = outcome;
-        self.messages.add(job, place, messages);
+        self.messages.add(job, Place::Node(place), messages);
         Ok(reply)
     }
 }

@@ -1,7 +1,6 @@
 //! The messages that the jobs of a world sent. A contract sees of each job all that it ever sent, oldest
 //! first, and whether the messages of one more step take no memory.
 ghost use Rattle.std.specs.Prelude.{◌≡◌, ℕ, ◌==◌, ◌++◌, ◌<◌, [], true, if◌then◌else◌, OnOk};
-ghost use Rattle.obj_id.specs.declared.messages.Place.TheVariants.{Node};
 ghost use Rattle.private_store.specs.Cluster.{posted};
 ghost use Rattle.world_core.specs.Logs.{messages_of, sent_of, has_room};
 
@@ -11,10 +10,10 @@ use std::alloc::{AllocError, Global};
 use std::marker::Model;
 use std::mem;
 
-/// The messages of one step at a node, each with the place that it goes to.
+/// The messages of one step, each with the place that it goes to, and the place that sent them.
 #[derive(Drop)]
 pub struct Batch {
-    from: u32,
+    from: Place,
     posts: Items<(Place, Message)>,
 }
 
@@ -26,13 +25,12 @@ pub struct JobLog {
 
 impl Model for JobLog {
     ghost use Rattle.std.specs.Prelude.{flat_map, ◌-◌, vec_len, vec_capacity};
-    ghost use Rattle.obj_id.specs.declared.messages.Place.TheVariants.{Node};
     ghost use Rattle.private_store.specs.Cluster.{posted};
     ghost use Rattle.world_core.specs.Logs.{Log};
 
     ghost Value = { Log };
 
-    ghost view = { λ l. record { sent = flat_map (λ batch. posted (Node batch.from) batch.posts) l.batches.items; spare = vec_capacity l.batches - vec_len l.batches } };
+    ghost view = { λ l. record { sent = flat_map (λ batch. posted batch.from batch.posts) l.batches.items; spare = vec_capacity l.batches - vec_len l.batches } };
 }
 
 impl JobLog {
@@ -53,10 +51,10 @@ impl JobLog {
         self.batches.reserve(1)
     }
 
-    /// Adds the messages that a step at the node sent.
-    fn add(&mut self, from: u32, posts: Items<(Place, Message)>)
+    /// Adds the messages that a step sent from the place.
+    fn add(&mut self, from: Place, posts: Items<(Place, Message)>)
         requires { 0 < self.old.spare }
-        ensures { self.new.sent ≡ self.old.sent ++ posted (Node from) posts }
+        ensures { self.new.sent ≡ self.old.sent ++ posted from posts }
     {
         self.batches.push(Batch { from, posts }).unwrap();
     }
@@ -108,11 +106,11 @@ impl Messages {
         self.logs.reserve(1)
     }
 
-    /// Adds the messages that a step at the node sent for the job, for which there is room. Takes no
-    /// memory.
-    pub fn add(&mut self, job: JobNo, from: u32, posts: Items<(Place, Message)>)
+    /// Adds the messages that a step sent for the job from the place. There is room for them: this takes
+    /// no memory.
+    pub fn add(&mut self, job: JobNo, from: Place, posts: Items<(Place, Message)>)
         requires { has_room self.old job ≡ true }
-        ensures { (other : ℕ) → sent_of (messages_of self.new.logs) other ≡ (if job.0 == other then sent_of (messages_of self.old.logs) other ++ posted (Node from) posts else sent_of (messages_of self.old.logs) other) }
+        ensures { (other : ℕ) → sent_of (messages_of self.new.logs) other ≡ (if job.0 == other then sent_of (messages_of self.old.logs) other ++ posted from posts else sent_of (messages_of self.old.logs) other) }
     {
         if let Some(log) = self.logs.get_mut(&job) {
             log.add(from, posts);

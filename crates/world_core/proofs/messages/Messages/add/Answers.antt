@@ -2,7 +2,6 @@ use Rattle.std.proofs.Common.{◌==◌, ◌++◌, List, [], ◌<◌, is_some, sy
 use Rattle.std.specs.Prelude.{if◌then◌else◌, unwrap_or, option_map}
 use Rattle.std.specs.Map.{lookup}
 use Rattle.std.specs.Option.{option_copied_mut}
-use Rattle.obj_id.specs.declared.messages.Place.TheVariants.{Node}
 use Rattle.private_store.specs.Jobs.{same_job}
 use Rattle.private_store.specs.Cluster.{Sent, posted}
 use Rattle.indexmap.specs.IndexMap.{spare}
@@ -18,7 +17,7 @@ add-requires c =
 pub returns-in-Some : goal.returns-in-Some
 returns-in-Some c = λ other.
     let logs = c.self.inside.logs.entries in
-    let more : List Sent = posted (Node c.args.from) c.args.posts in
+    let more : List Sent = posted c.args.from c.args.posts in
     let found = sym c.get_mut.ensures.value ∙ ap option_copied_mut c.in-Some.is in
     let wrote = c.get_mut.follows.holds c.add.new.self in
     sent_more c.args.job logs (c.get_mut.follows.lender c.add.new.self).entries c.add.new.self more (wrote.3 (ap is_some found)).0
@@ -37,7 +36,7 @@ unwrap-requires c =
 
 pub returns : goal.returns
 returns c = λ other.
-    let more : List Sent = posted (Node c.args.from) c.args.posts in
+    let more : List Sent = posted c.args.from c.args.posts in
     let at_first = ap (λ m. m.entries) c.get_mut.follows.holds-at-none in
     let none = ap (lookup (same_job c.args.job)) at_first ∙ sym c.get_mut.ensures.value ∙ ap option_copied_mut c.in_default.is in
     let updates = rw c.unwrap.ensures at c.insert.ensures.updates in
