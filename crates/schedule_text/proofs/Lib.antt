@@ -1,0 +1,3 @@
+pub mod BytesFields
+pub mod LineForms
+pub mod WordTables

@@ -1,0 +1,5 @@
+pub mod Prefixes
+pub mod Printing
+pub mod Fields
+pub mod Words
+pub mod Reading

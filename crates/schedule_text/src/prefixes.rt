@@ -1,0 +1,74 @@
+//! What the line of an answer begins with.
+ghost use Rattle.std.specs.Prelude.{◌≡◌, ◌++◌, codes, decimal, IfOk};
+ghost use Rattle.std.specs.String.{string_bytes};
+ghost use Rattle.schedule_text.specs.Prefixes.{prefix_at as prefix_at_lem, prefix_of, prefix_text, speaker as speaker_lem};
+
+use obj_id::JobNo;
+use private_store::{Event, Step};
+use std::alloc::{AllocError, Global};
+
+/// Who is answered, and at which node: what the line of an answer begins with.
+#[derive(Clone, Copy, Debug, PartialEq, Eq)]
+pub enum Prefix {
+    /// The operator, at the node of this number.
+    Operator(u32),
+    /// A session: node, job and session.
+    Session(u32, JobNo, u32),
+    /// A device worker, at the node of this number.
+    Device(u32),
+    /// Whoever hands messages over.
+    Network,
+}
+
+impl Prefix {
+    /// What the answer to the step begins with.
+    pub fn of(step: &Step) -> Prefix
+        ensures { result ≡ prefix_of step.now }
+    {
+        match step {
+            Step::At(node, event) => prefix_at(*node, event),
+            Step::Deliver(..) => Prefix::Network,
+        }
+    }
+
+    /// The job that ids are printed for: that of the session, else the number of no job.
+    pub fn speaker(self) -> JobNo
+        ensures { result.0 ≡ speaker_lem self }
+    {
+        match self {
+            Prefix::Session(_, job, _) => job,
+            Prefix::Operator(_) | Prefix::Device(_) | Prefix::Network => JobNo(0),
+        }
+    }
+
+    /// `nNODE op`, `nNODE jJOB sSESSION`, `nNODE dev` or `net`.
+    pub fn text(self, alloc: Global) -> Result<String, AllocError>
+        ensures { IfOk result (λ text. string_bytes text ≡ prefix_text self) }
+    {
+        match self {
+            Prefix::Operator(node) => format!(in alloc; "n{node} op"),
+            Prefix::Session(node, job, session) => session_text(alloc, node, job.0, session),
+            Prefix::Device(node) => format!(in alloc; "n{node} dev"),
+            Prefix::Network => String::from_str(alloc, "net"),
+        }
+    }
+}
+
+/// What the answer to an event at the node begins with.
+fn prefix_at(node: u32, event: &Event) -> Prefix
+    ensures { result ≡ prefix_at_lem node event.now }
+{
+    match event {
+        Event::Admit(..) | Event::Requota(..) | Event::JobEnd(_) => Prefix::Operator(node),
+        Event::Take | Event::Finish(..) => Prefix::Device(node),
+        Event::Call(job, session, _) => Prefix::Session(node, *job, *session),
+    }
+}
+
+/// `nNODE jJOB sSESSION`.
+fn session_text(alloc: Global, node: u32, job: u32, session: u32) -> Result<String, AllocError>
+    ensures { IfOk result (λ text. string_bytes text
+        ≡ codes "n" ++ decimal node ++ codes " j" ++ decimal job ++ codes " s" ++ decimal session) }
+{
+    format!(in alloc; "n{node} j{job} s{session}")
+}
