@@ -147,7 +147,7 @@ fn wrong_texts_are_refused(rt: HostRuntime) {
         "t00.1",
         "t+1.1",
         "t-1.1",
-        "T1.1",
+        "T7.1",
         "t1.1 ",
         " t1.1",
         "t1.1.1",

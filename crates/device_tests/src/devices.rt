@@ -1,0 +1,268 @@
+//! The devices: what real files do, and which call of a faulty device fails.
+use bytes::Bytes;
+use obj_id::{DeviceKey, JobNo};
+use spill_device::{DeviceFault, FaultyDevice, FileDevice, FolderFault, MemoryDevice, SpillDevice};
+use std::alloc::{AllocError, Global};
+use std::process::{self, Abort};
+use std::rt::{Env, Files};
+use std::test::Fail;
+use std::{env, fs};
+
+const KEY: DeviceKey = DeviceKey {
+    job: JobNo(7),
+    number: u64::MAX,
+};
+
+/// The name that a key's file has.
+const FILE: &str = "7.18446744073709551615";
+
+const OTHER: DeviceKey = DeviceKey {
+    job: JobNo(7),
+    number: 1,
+};
+
+fn joined(alloc: Global, folder: &str, name: &str) -> Result<String, AllocError> {
+    match format!(in alloc; "{folder}/{name}") {
+        Ok(path) => Ok(path),
+        Err(_) => format!(in alloc; "{folder}/{name}"),
+    }
+}
+
+/// A folder of this test's own that isn't there.
+fn own_folder<R: Files + Env + AllocGlobal>(
+    rt: &R,
+    process: u32,
+    name: &str,
+) -> Result<String, Fail> {
+    let alloc = rt.alloc();
+    let temporary = match env::temp_dir(rt) {
+        Ok(temporary) => temporary,
+        Err(_) => env::temp_dir(rt)?,
+    };
+    let below = match format!(in alloc; "devices-{process}-{name}") {
+        Ok(below) => below,
+        Err(_) => format!(in alloc; "devices-{process}-{name}")?,
+    };
+    let folder = joined(alloc, temporary.as_str(), below.as_str())?;
+    let _ = fs::remove_dir_all(rt, folder.as_str());
+    Ok(folder)
+}
+
+/// A device in the folder; once more where memory was wanting.
+fn over_files<R: Files + AllocGlobal + Clone + Drop>(
+    rt: &R,
+    folder: &str,
+) -> Result<FileDevice<R>, Fail> {
+    match FileDevice::new(rt.clone()?, folder) {
+        Err(FolderFault::NoMemory(_)) => Ok(FileDevice::new(rt.clone()?, folder)?),
+        made => Ok(made?),
+    }
+}
+
+/// Each call is made once more where memory was wanting: then no failure has been counted.
+fn write<D: SpillDevice>(
+    rt: &impl Abort,
+    device: &mut D,
+    key: DeviceKey,
+    bytes: &[u8],
+) -> Result<(), DeviceFault> {
+    let failures = device.failures();
+    match device.write(key, bytes) {
+        Err(DeviceFault::NoMemory) => {
+            assert_eq!(rt; device.failures(), failures);
+            device.write(key, bytes)
+        }
+        told => told,
+    }
+}
+
+fn read<D: SpillDevice>(
+    rt: &impl Abort,
+    device: &mut D,
+    key: DeviceKey,
+    len: u32,
+) -> Result<Bytes, DeviceFault> {
+    let failures = device.failures();
+    match device.read(key, len) {
+        Err(DeviceFault::NoMemory) => {
+            assert_eq!(rt; device.failures(), failures);
+            device.read(key, len)
+        }
+        told => told,
+    }
+}
+
+fn erase<D: SpillDevice>(
+    rt: &impl Abort,
+    device: &mut D,
+    key: DeviceKey,
+) -> Result<(), DeviceFault> {
+    let failures = device.failures();
+    match device.erase(key) {
+        Err(DeviceFault::NoMemory) => {
+            assert_eq!(rt; device.failures(), failures);
+            device.erase(key)
+        }
+        told => told,
+    }
+}
+
+/// Whether the device has these bytes under the key.
+fn has<D: SpillDevice>(rt: &impl Abort, device: &mut D, key: DeviceKey, bytes: &[u8]) -> bool {
+    let Ok(len) = u32::try_from(bytes.len()) else {
+        return false;
+    };
+    match read(rt, device, key, len) {
+        Ok(read) => read.as_slice() == bytes,
+        Err(_) => false,
+    }
+}
+
+/// What is asked of any device that keeps its bytes.
+fn keeps_its_bytes<D: SpillDevice>(rt: &impl Abort, device: &mut D) {
+    assert_eq!(rt; device.failures(), 0);
+    assert_eq!(rt; erase(rt, device, KEY), Ok(()));
+    assert_eq!(rt; write(rt, device, KEY, &[1, 2, 3]), Ok(()));
+    assert_eq!(rt; write(rt, device, OTHER, &[9]), Ok(()));
+    assert!(rt; has(rt, device, KEY, &[1, 2, 3]));
+    assert_eq!(rt; write(rt, device, KEY, &[4, 5]), Ok(()));
+    assert!(rt; has(rt, device, KEY, &[4, 5]));
+    assert!(rt; has(rt, device, OTHER, &[9]));
+    assert_eq!(rt; device.failures(), 0);
+    assert!(rt; matches!(read(rt, device, KEY, 3), Err(DeviceFault::Failed)));
+    assert_eq!(rt; device.failures(), 1);
+    assert_eq!(rt; erase(rt, device, KEY), Ok(()));
+    assert_eq!(rt; erase(rt, device, KEY), Ok(()));
+    assert!(rt; matches!(read(rt, device, KEY, 2), Err(DeviceFault::Failed)));
+    assert_eq!(rt; device.failures(), 2);
+    assert!(rt; has(rt, device, OTHER, &[9]));
+}
+
+#[test]
+fn memory_keeps_what_was_last_written(rt: HostRuntime) {
+    let mut device = MemoryDevice::new(rt.alloc());
+    keeps_its_bytes(&rt, &mut device);
+}
+
+#[test]
+fn files_keep_what_was_last_written(rt: HostRuntime) -> Result<(), Fail> {
+    let folder = own_folder(&rt, process::id(rt.process()), "kept")?;
+    let mut device = over_files(&rt, folder.as_str())?;
+    keeps_its_bytes(&rt, &mut device);
+    // another device in the same folder finds what the first one left
+    let mut next = over_files(&rt, folder.as_str())?;
+    assert!(rt; has(&rt, &mut next, OTHER, &[9]));
+    assert_eq!(rt; erase(&rt, &mut next, OTHER), Ok(()));
+    // nothing is left behind, under a temporary name either
+    fs::remove_dir(&rt, folder.as_str())?;
+    Ok(())
+}
+
+#[test]
+fn a_file_is_named_by_job_and_number(rt: HostRuntime) -> Result<(), Fail> {
+    let folder = own_folder(&rt, process::id(rt.process()), "named")?;
+    let file = joined(rt.alloc(), folder.as_str(), FILE)?;
+    let mut device = over_files(&rt, folder.as_str())?;
+    assert_eq!(rt; write(&rt, &mut device, KEY, &[1, 2, 3]), Ok(()));
+    assert_eq!(rt; fs::metadata(&rt, file.as_str())?.len(), 3);
+    assert_eq!(rt; erase(&rt, &mut device, KEY), Ok(()));
+    assert!(rt; !fs::exists(&rt, file.as_str())?);
+    fs::remove_dir(&rt, folder.as_str())?;
+    Ok(())
+}
+
+#[test]
+fn a_short_or_longer_file_fails(rt: HostRuntime) -> Result<(), Fail> {
+    let folder = own_folder(&rt, process::id(rt.process()), "lengths")?;
+    let file = joined(rt.alloc(), folder.as_str(), FILE)?;
+    let mut device = over_files(&rt, folder.as_str())?;
+    assert_eq!(rt; write(&rt, &mut device, KEY, &[1, 2, 3]), Ok(()));
+    fs::write(&rt, file.as_str(), "12")?;
+    assert!(rt; matches!(read(&rt, &mut device, KEY, 3), Err(DeviceFault::Failed)));
+    fs::write(&rt, file.as_str(), "1234")?;
+    assert!(rt; matches!(read(&rt, &mut device, KEY, 3), Err(DeviceFault::Failed)));
+    fs::remove_file(&rt, file.as_str())?;
+    assert!(rt; matches!(read(&rt, &mut device, KEY, 3), Err(DeviceFault::Failed)));
+    assert_eq!(rt; device.failures(), 3);
+    fs::remove_dir(&rt, folder.as_str())?;
+    Ok(())
+}
+
+#[test]
+fn a_write_that_fails_leaves_what_was_there(rt: HostRuntime) -> Result<(), Fail> {
+    let folder = own_folder(&rt, process::id(rt.process()), "whole")?;
+    let mut device = over_files(&rt, folder.as_str())?;
+    assert_eq!(rt; write(&rt, &mut device, OTHER, &[1, 2, 3]), Ok(()));
+    // a folder stands where the temporary file would go
+    let part = joined(rt.alloc(), folder.as_str(), "7.1.part")?;
+    fs::create_dir(&rt, part.as_str())?;
+    assert_eq!(rt;
+        write(&rt, &mut device, OTHER, &[4]),
+        Err(DeviceFault::Failed)
+    );
+    assert_eq!(rt; device.failures(), 1);
+    assert!(rt; has(&rt, &mut device, OTHER, &[1, 2, 3]));
+    // the folder itself is lost
+    fs::remove_dir(&rt, part.as_str())?;
+    assert_eq!(rt; erase(&rt, &mut device, OTHER), Ok(()));
+    fs::remove_dir(&rt, folder.as_str())?;
+    assert_eq!(rt;
+        write(&rt, &mut device, OTHER, &[4]),
+        Err(DeviceFault::Failed)
+    );
+    assert_eq!(rt; device.failures(), 2);
+    assert_eq!(rt; erase(&rt, &mut device, OTHER), Ok(()));
+    Ok(())
+}
+
+/// What is printed of a folder that is refused; nothing where it isn't.
+fn refusal_of<R: Files + AllocGlobal + Clone + Drop>(rt: &R, folder: &str) -> Result<String, Fail> {
+    let alloc = rt.alloc();
+    let fault = FileDevice::new(rt.clone()?, folder).err();
+    match &fault {
+        None => Ok(String::new(alloc)),
+        Some(fault) => Ok(format!(in alloc; "{fault}")?),
+    }
+}
+
+#[test]
+fn a_folder_that_cant_be_made_is_told(rt: HostRuntime) -> Result<(), Fail> {
+    let file = own_folder(&rt, process::id(rt.process()), "none")?;
+    fs::write(&rt, file.as_str(), "a file")?;
+    let below = joined(rt.alloc(), file.as_str(), "below")?;
+    let told = refusal_of(&rt, below.as_str())?;
+    assert!(rt; told.as_str().starts_with("the folder `"));
+    assert!(rt; told.as_str().contains(below.as_str()));
+    fs::remove_file(&rt, file.as_str())?;
+    Ok(())
+}
+
+#[test]
+fn the_kth_call_fails_and_no_other(rt: HostRuntime) {
+    let mut memory = MemoryDevice::new(rt.alloc());
+    assert_eq!(rt; write(&rt, &mut memory, KEY, &[]), Ok(()));
+    let mut device = FaultyDevice::new(memory, 2);
+    assert_eq!(rt; device.erase(OTHER), Ok(()));
+    assert_eq!(rt; device.write(KEY, &[1]), Err(DeviceFault::Failed));
+    assert_eq!(rt; device.failures(), 1);
+    assert_eq!(rt; device.inner.failures(), 0);
+    // the call that failed didn't reach the device beneath
+    assert!(rt; has(&rt, &mut device, KEY, &[]));
+    assert_eq!(rt; erase(&rt, &mut device, KEY), Ok(()));
+    assert!(rt; matches!(device.read(KEY, 0), Err(DeviceFault::Failed)));
+    assert_eq!(rt; device.failures(), 2);
+    assert_eq!(rt; device.inner.failures(), 1);
+}
+
+#[test]
+fn reads_and_erases_are_counted_as_calls(rt: HostRuntime) {
+    let mut reads = FaultyDevice::new(MemoryDevice::new(rt.alloc()), 1);
+    assert!(rt; matches!(reads.read(KEY, 1), Err(DeviceFault::Failed)));
+    assert_eq!(rt; reads.inner.failures(), 0);
+    let mut erases = FaultyDevice::new(MemoryDevice::new(rt.alloc()), 1);
+    assert_eq!(rt; erases.erase(KEY), Err(DeviceFault::Failed));
+    assert_eq!(rt; erases.erase(KEY), Ok(()));
+    let mut none = FaultyDevice::new(MemoryDevice::new(rt.alloc()), 0);
+    assert_eq!(rt; none.erase(KEY), Ok(()));
+    assert_eq!(rt; none.failures(), 0);
+}

@@ -1,0 +1,4 @@
+mod Alike
+mod Left
+mod Made
+mod Reach

@@ -1,0 +1,12 @@
+use Rattle.std.proofs.Common.{◌≡◌, ◌≤◌, drop, length}
+use Rattle.private_store.specs.Hands.{hands_sorted}
+use Rattle.grants.proofs.endings.sorted.Given as goal
+
+abbrev pub invariant-loop-left : goal.invariant-loop-left
+invariant-loop-left l = record {
+  within : l.left ≤ length l.hands.items;
+  on : l.told.items ≡ hands_sorted (drop l.left l.hands.items);
+}
+
+abbrev pub decreases-loop-left : goal.decreases-loop-left
+decreases-loop-left l = l.left

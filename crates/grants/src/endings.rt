@@ -1,0 +1,104 @@
+//! Which hands end, and in what order that is told.
+ghost use Rattle.std.specs.Prelude.{◌≡◌, [], not, filter, IfOk, OnOk};
+ghost use Rattle.std.specs.List.{list_any};
+ghost use Rattle.private_store.specs.Hands.{hangs_on, same_hand, ended_from, hand_placed, hands_sorted};
+ghost use Rattle.grants.specs.Table.{ends as ends_lem};
+
+use crate::hands::{Hand, same_id, same_task};
+use obj_id::{JobNo, ObjectId, TaskNo};
+use std::alloc::{AllocError, Global};
+
+/// Which hands end of their giver's own accord.
+#[derive(Clone, Copy)]
+pub(crate) enum Ending {
+    /// The giver's hand of this object to this taker.
+    Withdrawn(JobNo, ObjectId, JobNo),
+    /// All hands of the object.
+    OfObject(ObjectId),
+    /// What the job gave of its own objects that the task made.
+    OfTask(JobNo, TaskNo),
+    /// All that the job gave.
+    GivenBy(JobNo),
+}
+
+impl Ending {
+    /// Whether the hand ends by itself, and not because of one that it hangs on.
+    fn ends(&self, hand: &Hand) -> bool
+        ensures { result ≡ ends_lem self.now hand.now }
+    {
+        match *self {
+            Ending::Withdrawn(giver, id, taker) => hand.is_given(giver, &id, taker),
+            Ending::OfObject(id) => same_id(&id, &hand.id()),
+            Ending::OfTask(job, task) => {
+                hand.giver().0 == job.0
+                    && hand.id().job().0 == job.0
+                    && same_task(task, hand.id().task())
+            }
+            Ending::GivenBy(job) => hand.is_from(job),
+        }
+    }
+}
+
+/// Whether the hand hangs on one of these.
+fn hangs_on_any(hand: &Hand, gone: &Vec<Hand>) -> bool
+    ensures { result ≡ list_any (hangs_on hand.now) gone.now.items }
+{
+    gone.iter().any(|below| hand.hangs(below))
+}
+
+/// Whether the hand is one of these.
+fn is_among(hand: &Hand, gone: &Vec<Hand>) -> bool
+    ensures { result ≡ list_any (same_hand hand.now) gone.now.items }
+{
+    gone.iter().any(|other| hand.is_same(other))
+}
+
+/// The hands that end, with all that hang on them, oldest first. A hand is younger than the one that it
+/// hangs on, so one walk finds them.
+pub(crate) fn ended(
+    alloc: Global,
+    hands: &Vec<Hand>,
+    ending: &Ending,
+) -> Result<Vec<Hand>, AllocError>
+    ensures { IfOk result (λ gone. gone.items ≡ ended_from (ends_lem ending.now) [] hands.now.items) }
+{
+    let mut gone = Vec::new(alloc);
+    for hand in hands {
+        if ending.ends(hand) || hangs_on_any(hand, &gone) {
+            gone.push(*hand)?;
+        }
+    }
+    Ok(gone)
+}
+
+/// Puts the hand in its place among those whose ends are told.
+fn place(told: &mut Vec<Hand>, hand: Hand) -> Result<(), AllocError>
+    ensures ok { OnOk result (told.new.items ≡ hand_placed hand told.old.items) }
+{
+    let mut at = 0;
+    while at < told.len() && !hand.is_told_before(&told[at]) {
+        at += 1;
+    }
+    told.insert(at, hand)?;
+    Ok(())
+}
+
+/// The hands in the order in which their ends are told.
+pub(crate) fn sorted(alloc: Global, hands: &Vec<Hand>) -> Result<Vec<Hand>, AllocError>
+    ensures { IfOk result (λ told. told.items ≡ hands_sorted hands.now.items) }
+{
+    let mut told = Vec::new(alloc);
+    let mut left = hands.len();
+    while left > 0 {
+        left -= 1;
+        place(&mut told, hands[left])?;
+    }
+    Ok(told)
+}
+
+/// Takes out those that are among the ones that have gone; the others keep their order.
+pub(crate) fn take_out(hands: &mut Vec<Hand>, gone: &Vec<Hand>)
+    ensures { hands.new.items ≡ filter (λ hand. not (list_any (same_hand hand) gone.now.items)) hands.old.items }
+{
+    hands.retain(|hand| !is_among(hand, gone));
+}

@@ -1,0 +1,272 @@
+//! A hand, and what is asked of a table of them.
+ghost use Rattle.std.specs.Prelude.{◌≡◌, ◌==◌, Some, None, find, filter, length, IfOk, OnOk};
+ghost use Rattle.std.specs.List.{list_any};
+ghost use Rattle.std.specs.Ordering.{is_lt};
+ghost use Rattle.obj_id.specs.Ids.{id_cmp, same_id as same_id_lem, same_task as same_task_lem};
+ghost use Rattle.private_store.specs.Hands.{ground as ground_lem, same_hand as same_hand_lem, hangs_on as hangs_on_lem, hand_cmp, is_withdrawn as is_withdrawn_lem, is_given_by as is_given_by_lem};
+ghost use Rattle.grants.specs.Table.{shows as shows_lem, is_first as is_first_lem, given_by as given_by_lem, given_to as given_to_lem, with_seen, seen_list};
+ghost use Rattle.grants.specs.Back.{number_of};
+ghost use Rattle.std.specs.Option.{option_map};
+
+use obj_id::{JobNo, ObjectId, TaskNo};
+use std::alloc::{AllocError, Global};
+use std::marker::Model;
+
+/// A standing grant of an object by one job to another. A contract sees giver and taker by their
+/// numbers.
+#[derive(Clone, Copy, Debug)]
+pub struct Hand {
+    id: ObjectId,
+    giver: JobNo,
+    taker: JobNo,
+    depth: u32,
+    hangs_on: Option<JobNo>,
+}
+
+impl Model for Hand {
+    ghost use Rattle.std.specs.Option.{option_map};
+    ghost use Rattle.private_store.specs.Hands.{Hand as StandingHand};
+    ghost use Rattle.grants.specs.Back.{number_of, job_of, jobs_back};
+
+    ghost Value = { StandingHand };
+
+    ghost view = { λ h. record { id = h.id; giver = h.giver.0; taker = h.taker.0; depth = h.depth; hangs_on = option_map number_of h.hangs_on } };
+
+    ghost inverse = { λ h. record { id = h.id; giver = job_of h.giver; taker = job_of h.taker; depth = h.depth; hangs_on = option_map job_of h.hangs_on } };
+
+    ghost inverse_ok = { λ a h i. record a { hangs_on = jobs_back a.hangs_on i } };
+}
+
+impl Hand {
+    /// The hand of an object from its giver to its taker, at a depth from 1 on, and the giver of the
+    /// hand that it hangs on.
+    pub(crate) fn new(
+        id: ObjectId,
+        giver: JobNo,
+        taker: JobNo,
+        depth: u32,
+        hangs_on: Option<JobNo>,
+    ) -> Hand
+        ensures { result ≡ record { id = id; giver = giver.0; taker = taker.0; depth = depth; hangs_on = option_map number_of hangs_on } }
+    {
+        Hand {
+            id,
+            giver,
+            taker,
+            depth,
+            hangs_on,
+        }
+    }
+
+    /// The object.
+    pub fn id(&self) -> ObjectId
+        ensures { result ≡ self.now.id }
+    {
+        self.id
+    }
+
+    /// The job that granted it.
+    pub fn giver(&self) -> JobNo
+        ensures { result.0 ≡ self.now.giver }
+    {
+        self.giver
+    }
+
+    /// The job that it was granted to.
+    pub fn taker(&self) -> JobNo
+        ensures { result.0 ≡ self.now.taker }
+    {
+        self.taker
+    }
+
+    /// How often the object was handed on up to here: 1 from its own job, 3 at most.
+    pub fn depth(&self) -> u32
+        ensures { result ≡ self.now.depth }
+    {
+        self.depth
+    }
+
+    /// The giver of the hand that it hangs on; none at depth 1.
+    pub fn hangs_on(&self) -> Option<JobNo>
+        ensures { option_map number_of result ≡ self.now.hangs_on }
+    {
+        self.hangs_on
+    }
+
+    /// Whether the job gave it.
+    pub(crate) fn is_from(&self, job: JobNo) -> bool
+        ensures { result ≡ is_given_by_lem job.0 self.now }
+    {
+        self.giver.0 == job.0
+    }
+
+    /// Whether it was given to the job.
+    pub(crate) fn is_to(&self, job: JobNo) -> bool
+        ensures { result ≡ (self.now.taker == job.0) }
+    {
+        self.taker.0 == job.0
+    }
+
+    /// Whether it is a hand of the object to the job.
+    pub(crate) fn shows(&self, id: &ObjectId, job: JobNo) -> bool
+        ensures { result ≡ shows_lem id.now job.0 self.now }
+    {
+        same_id(id, &self.id) && self.taker.0 == job.0
+    }
+
+    /// Whether it is a hand of the object from its own job.
+    pub(crate) fn is_first(&self, id: &ObjectId) -> bool
+        ensures { result ≡ is_first_lem id.now self.now }
+    {
+        same_id(id, &self.id) && self.giver.0 == id.job().0
+    }
+
+    /// Whether the giver gave the taker this object by it.
+    pub(crate) fn is_given(&self, giver: JobNo, id: &ObjectId, taker: JobNo) -> bool
+        ensures { result ≡ is_withdrawn_lem giver.0 id.now taker.0 self.now }
+    {
+        self.giver.0 == giver.0 && same_id(id, &self.id) && self.taker.0 == taker.0
+    }
+
+    /// Whether object, giver and taker are the same.
+    pub(crate) fn is_same(&self, other: &Hand) -> bool
+        ensures { result ≡ same_hand_lem self.now other.now }
+    {
+        same_id(&self.id, &other.id)
+            && self.giver.0 == other.giver.0
+            && self.taker.0 == other.taker.0
+    }
+
+    /// Whether it hangs on the other.
+    pub(crate) fn hangs(&self, below: &Hand) -> bool
+        ensures { result ≡ hangs_on_lem self.now below.now }
+    {
+        same_id(&self.id, &below.id)
+            && self.giver.0 == below.taker.0
+            && match self.hangs_on {
+                None => false,
+                Some(giver) => giver.0 == below.giver.0,
+            }
+    }
+
+    /// Whether its object's id is less than that of the other's.
+    fn is_before(&self, other: &Hand) -> bool
+        ensures { result ≡ is_lt (id_cmp self.now.id other.now.id) }
+    {
+        self.id.cmp(&other.id).is_lt()
+    }
+
+    /// Whether its end is told before the other's: by depth, object, giver and taker.
+    pub(crate) fn is_told_before(&self, other: &Hand) -> bool
+        ensures { result ≡ is_lt (hand_cmp self.now other.now) }
+    {
+        self.depth
+            .cmp(&other.depth)
+            .then(self.id.cmp(&other.id))
+            .then(self.giver.0.cmp(&other.giver.0))
+            .then(self.taker.0.cmp(&other.taker.0))
+            .is_lt()
+    }
+}
+
+/// Whether the ids are the same.
+pub(crate) fn same_id(a: &ObjectId, b: &ObjectId) -> bool
+    ensures { result ≡ same_id_lem a.now b.now }
+{
+    a.cmp(b).is_eq()
+}
+
+/// Whether the tasks are the same.
+pub(crate) fn same_task(a: TaskNo, b: TaskNo) -> bool
+    ensures { result ≡ same_task_lem a b }
+{
+    a.cmp(&b).is_eq()
+}
+
+/// The oldest hand of the object to the job.
+pub(crate) fn oldest(hands: &Vec<Hand>, id: &ObjectId, job: JobNo) -> Option<Hand>
+    ensures { result ≡ ground_lem hands.now.items id.now job.0 }
+{
+    for hand in hands {
+        if hand.shows(id, job) {
+            return Some(*hand);
+        }
+    }
+    None
+}
+
+/// Whether the giver gave the taker the object.
+pub(crate) fn is_given(hands: &Vec<Hand>, giver: JobNo, id: &ObjectId, taker: JobNo) -> bool
+    ensures { result ≡ list_any (is_withdrawn_lem giver.0 id.now taker.0) hands.now.items }
+{
+    hands.iter().any(|hand| hand.is_given(giver, id, taker))
+}
+
+/// How many hands the job gave.
+pub(crate) fn count_given(hands: &Vec<Hand>, job: JobNo) -> usize
+    ensures { result ≡ length (filter (is_given_by_lem job.0) hands.now.items) }
+{
+    hands.iter().filter(|hand| hand.is_from(job)).count()
+}
+
+/// The hands that the job gave, oldest first.
+pub(crate) fn given_by(
+    alloc: Global,
+    hands: &Vec<Hand>,
+    job: JobNo,
+) -> Result<Vec<Hand>, AllocError>
+    ensures { IfOk result (λ given. given.items ≡ given_by_lem job.0 hands.now.items) }
+{
+    let mut given = Vec::new(alloc);
+    for hand in hands {
+        if hand.is_from(job) {
+            given.push(*hand)?;
+        }
+    }
+    Ok(given)
+}
+
+/// The hands to the job, oldest first.
+pub(crate) fn given_to(
+    alloc: Global,
+    hands: &Vec<Hand>,
+    job: JobNo,
+) -> Result<Vec<Hand>, AllocError>
+    ensures { IfOk result (λ given. given.items ≡ given_to_lem job.0 hands.now.items) }
+{
+    let mut given = Vec::new(alloc);
+    for hand in hands {
+        if hand.is_to(job) {
+            given.push(*hand)?;
+        }
+    }
+    Ok(given)
+}
+
+/// Puts a hand among the oldest of each object, by rising id, unless an older one of its object is there.
+fn put_seen(seen: &mut Vec<Hand>, hand: Hand) -> Result<(), AllocError>
+    ensures { OnOk result (seen.new.items ≡ with_seen hand seen.old.items) }
+{
+    let mut at = 0;
+    while at < seen.len() && seen[at].is_before(&hand) {
+        at += 1;
+    }
+    if at < seen.len() && same_id(&seen[at].id, &hand.id) {
+        return Ok(());
+    }
+    seen.insert(at, hand)?;
+    Ok(())
+}
+
+/// Of each object that the job sees the oldest hand, by rising id.
+pub(crate) fn seen(alloc: Global, hands: &Vec<Hand>, job: JobNo) -> Result<Vec<Hand>, AllocError>
+    ensures { IfOk result (λ seen. seen.items ≡ seen_list job.0 hands.now.items) }
+{
+    let mut seen = Vec::new(alloc);
+    for hand in hands {
+        if hand.is_to(job) {
+            put_seen(&mut seen, *hand)?;
+        }
+    }
+    Ok(seen)
+}

@@ -1,0 +1,254 @@
+//! The hands of all jobs at a node: who granted which object to whom, handed on up to three times. A
+//! contract sees the list of the standing hands, oldest first; what a grant adds and what an end takes
+//! out are the definitions that the jobs' own stores are told by.
+//!
+//! At most 64 hands of one giver stand, and 64 jobs live, so the list has at most 4,096 hands. Each call
+//! scans it; a call that ends hands looks, for each hand, through those that have ended already.
+#![tactic(auto)]
+
+ghost use Rattle.std.specs.Prelude.{◌≡◌, ◌≢◌, ◌↔◌, ◌<◌, ◌≤◌, ℕ, filter, length, List, [], Some, None, find, IfOk, OnOk, OnErr, IsErrOf, IsOk, MatchResult};
+ghost use Rattle.std.specs.List.{list_any};
+ghost use Rattle.obj_id.specs.declared.ids.ObjectId.{ObjectId};
+ghost use Rattle.obj_id.specs.declared.refusals.Refusal.{Refusal};
+ghost use Rattle.obj_id.specs.declared.refusals.Refusal.TheVariants.{NoMemory};
+ghost use Rattle.private_store.specs.Limits.{greatest_depth, most_hands};
+ghost use Rattle.private_store.specs.Hands.{Hand as StandingHand, new_hand, with_hand, hands_ended, hands_left, ground, is_withdrawn, is_of_task, is_given_by};
+ghost use Rattle.grants.specs.Table.{AreHands, is_first, given_by, given_to, seen_list, limits_check, grant_check as grant_check_lem, withdraw_check, ends};
+ghost use Rattle.grants.specs.Chains.{sees, is_led_to};
+ghost use Rattle.obj_id.specs.Ids.{same_id};
+
+mod endings;
+mod hands;
+
+use endings::Ending;
+pub use hands::Hand;
+use obj_id::{Items, JobNo, ObjectId, Refusal, TaskNo};
+use std::alloc::{AllocError, Global};
+use std::marker::Model;
+
+/// How many hands of one giver may stand.
+const MOST_HANDS: usize = 64;
+
+/// How often an object may be handed on.
+const GREATEST_DEPTH: u32 = 3;
+
+/// The standing hands of a node.
+#[derive(Drop)]
+pub struct Grants {
+    alloc: Global,
+    // oldest first
+    hands: Vec<Hand>,
+}
+
+impl Model for Grants {
+    ghost use Rattle.std.specs.Prelude.{List};
+    ghost use Rattle.private_store.specs.Hands.{Hand as StandingHand};
+    ghost use Rattle.grants.specs.Table.{AreHands};
+
+    ghost Value = { List StandingHand };
+
+    ghost view = { λ g. g.hands.items };
+
+    ghost invariant = { λ g. AreHands g.hands.items };
+}
+
+impl Grants {
+    /// No hands.
+    pub fn new(alloc: Global) -> Grants
+        ensures { result ≡ [] }
+    {
+        Grants {
+            alloc,
+            hands: Vec::new(alloc),
+        }
+    }
+
+    /// Why the giver can't grant the object to the target: `BadId` where the target is no job, the giver
+    /// or the object's own job; `NotGranted` where it is another job's object and the giver doesn't see
+    /// it; `Exists` where the hand stands; `TooMany` where the giver's oldest hand of it has depth 3, or
+    /// 64 hands of the giver stand. Who the target is, and whether it lives, is never asked.
+    pub fn grant_check(&self, giver: JobNo, id: ObjectId, target: JobNo) -> Option<Refusal>
+        ensures { result ≡ grant_check_lem self.now giver.0 id target.0 }
+    {
+        self.next_hand(giver, id, target).err()
+    }
+
+    /// Grants an object: a hand from the giver to the target stands, the youngest. Another job's object
+    /// is handed on: the hand hangs on the giver's oldest hand of it.
+    ///
+    /// Refused as `grant_check` says, with `NoMemory` last. A refusal changes nothing.
+    pub fn grant(&mut self, giver: JobNo, id: ObjectId, target: JobNo) -> Result<(), Refusal>
+        ensures ok { OnOk result (self.new ≡ with_hand self.old id giver.0 target.0) }
+        ensures passed { IsOk result → grant_check_lem self.old giver.0 id target.0 ≡ None }
+        ensures refused { (r : Refusal) → r ≢ NoMemory → IsErrOf result r → grant_check_lem self.old giver.0 id target.0 ≡ Some r }
+        ensures memory { IsErrOf result NoMemory → grant_check_lem self.old giver.0 id target.0 ≡ None }
+        ensures err { OnErr result (self.new ≡ self.old) }
+    {
+        let hand = self.next_hand(giver, id, target)?;
+        match self.hands.push(hand) {
+            Err(_) => Err(Refusal::NoMemory),
+            Ok(()) => Ok(()),
+        }
+    }
+
+    /// Withdraws the giver's hand of the object to the target. It ends, and in the same step every hand
+    /// that hangs on it; no other hand to the same taker does. Gives the hands that ended by depth, id,
+    /// giver and taker.
+    ///
+    /// `NotGranted` where no such hand stands, `NoMemory` last. A refusal changes nothing.
+    pub fn withdraw(
+        &mut self,
+        giver: JobNo,
+        id: ObjectId,
+        target: JobNo,
+    ) -> Result<Items<Hand>, Refusal>
+        ensures told { IfOk result (λ told. told ≡ hands_ended (is_withdrawn giver.0 id target.0) self.old) }
+        ensures ok { OnOk result (self.new ≡ hands_left (is_withdrawn giver.0 id target.0) self.old) }
+        ensures passed { IsOk result → withdraw_check self.old giver.0 id target.0 ≡ None }
+        ensures refused { (r : Refusal) → r ≢ NoMemory → IsErrOf result r → withdraw_check self.old giver.0 id target.0 ≡ Some r }
+        ensures memory { IsErrOf result NoMemory → withdraw_check self.old giver.0 id target.0 ≡ None }
+        ensures gone { OnOk result (filter (is_withdrawn giver.0 id target.0) self.new ≡ []) }
+        ensures err { OnErr result (self.new ≡ self.old) }
+    {
+        if !hands::is_given(&self.hands, giver, &id, target) {
+            return Err(Refusal::NotGranted);
+        }
+        match self.end(Ending::Withdrawn(giver, id, target)) {
+            Err(_) => Err(Refusal::NoMemory),
+            Ok(told) => Ok(told),
+        }
+    }
+
+    /// Ends all hands of the object, in the same order. A failure changes nothing.
+    pub fn drop_object(&mut self, id: ObjectId) -> Result<Items<Hand>, AllocError>
+        ensures told { IfOk result (λ told. told ≡ hands_ended (λ hand. same_id id hand.id) self.old) }
+        ensures ok { OnOk result (self.new ≡ hands_left (λ hand. same_id id hand.id) self.old) }
+        ensures gone { OnOk result (filter (λ hand. same_id id hand.id) self.new ≡ []) }
+        ensures err { OnErr result (self.new ≡ self.old) }
+    {
+        self.end(Ending::OfObject(id))
+    }
+
+    /// Ends what the job gave of its own objects that the task made, and what hangs on it. A failure
+    /// changes nothing.
+    pub fn drop_task(&mut self, job: JobNo, task: TaskNo) -> Result<Items<Hand>, AllocError>
+        ensures told { IfOk result (λ told. told ≡ hands_ended (is_of_task job.0 task) self.old) }
+        ensures ok { OnOk result (self.new ≡ hands_left (is_of_task job.0 task) self.old) }
+        ensures gone { OnOk result (filter (is_of_task job.0 task) self.new ≡ []) }
+        ensures err { OnErr result (self.new ≡ self.old) }
+    {
+        self.end(Ending::OfTask(job, task))
+    }
+
+    /// Ends all that the job gave, of own objects and others', and what hangs on it. What was given to
+    /// the job stays. A failure changes nothing.
+    pub fn drop_job(&mut self, job: JobNo) -> Result<Items<Hand>, AllocError>
+        ensures told { IfOk result (λ told. told ≡ hands_ended (is_given_by job.0) self.old) }
+        ensures ok { OnOk result (self.new ≡ hands_left (is_given_by job.0) self.old) }
+        ensures gone { OnOk result (given_by job.0 self.new ≡ []) }
+        ensures err { OnErr result (self.new ≡ self.old) }
+    {
+        self.end(Ending::GivenBy(job))
+    }
+
+    /// The oldest hand of the object to the job, if the job sees the object.
+    pub fn seen_by(&self, job: JobNo, id: ObjectId) -> Option<Hand>
+        ensures hand { result ≡ ground self.now id job.0 }
+        ensures kept { AreHands self.now }
+    {
+        hands::oldest(&self.hands, &id, job)
+    }
+
+    /// Whether a hand of the object from its own job stands.
+    pub fn is_granted(&self, id: ObjectId) -> bool
+        ensures { result ≡ list_any (is_first id) self.now }
+    {
+        self.hands.iter().any(|hand| hand.is_first(&id))
+    }
+
+    /// Whether the giver gave the taker the object.
+    pub fn has_given(&self, giver: JobNo, id: ObjectId, taker: JobNo) -> bool
+        ensures { result ≡ list_any (is_withdrawn giver.0 id taker.0) self.now }
+    {
+        hands::is_given(&self.hands, giver, &id, taker)
+    }
+
+    /// The hands that the job gave, oldest first: at most 64.
+    pub fn given_by(&self, job: JobNo) -> Result<Items<Hand>, AllocError>
+        ensures hands { IfOk result (λ given. given ≡ given_by job.0 self.now) }
+        ensures few { length (given_by job.0 self.now) ≤ most_hands }
+    {
+        let given = hands::given_by(self.alloc, &self.hands, job)?;
+        Ok(Items::from_vec(given))
+    }
+
+    /// The hands to the job, oldest first.
+    pub fn given_to(&self, job: JobNo) -> Result<Items<Hand>, AllocError>
+        ensures { IfOk result (λ given. given ≡ given_to job.0 self.now) }
+    {
+        let given = hands::given_to(self.alloc, &self.hands, job)?;
+        Ok(Items::from_vec(given))
+    }
+
+    /// Of each object that the job sees the oldest hand, by rising id.
+    pub fn seen(&self, job: JobNo) -> Result<Items<Hand>, AllocError>
+        ensures { IfOk result (λ seen. seen ≡ seen_list job.0 self.now) }
+    {
+        let seen = hands::seen(self.alloc, &self.hands, job)?;
+        Ok(Items::from_vec(seen))
+    }
+
+    /// The hand that a grant makes, or why it is refused.
+    fn next_hand(&self, giver: JobNo, id: ObjectId, target: JobNo) -> Result<Hand, Refusal>
+        ensures hand { IfOk result (λ hand. hand ≡ new_hand self.now id giver.0 target.0) }
+        ensures check { MatchResult result (λ _. grant_check_lem self.now giver.0 id target.0 ≡ None) (λ r. grant_check_lem self.now giver.0 id target.0 ≡ Some r) }
+    {
+        if target.0 == 0 || target.0 == giver.0 || target.0 == id.job().0 {
+            return Err(Refusal::BadId);
+        }
+        if id.job().0 == giver.0 {
+            self.limits(giver, &id, target, 0)?;
+            return Ok(Hand::new(id, giver, target, 1, None));
+        }
+        match hands::oldest(&self.hands, &id, giver) {
+            None => Err(Refusal::NotGranted),
+            Some(below) => {
+                self.limits(giver, &id, target, below.depth())?;
+                Ok(Hand::new(id, giver, target, below.depth() + 1, Some(below.giver())))
+            }
+        }
+    }
+
+    /// Whether a hand can hang at this depth.
+    fn limits(&self, giver: JobNo, id: &ObjectId, target: JobNo, depth: u32) -> Result<(), Refusal>
+        ensures ok { IsOk result → depth < greatest_depth }
+        ensures check { MatchResult result (λ _. limits_check self.now giver.0 id.now target.0 depth ≡ None) (λ r. limits_check self.now giver.0 id.now target.0 depth ≡ Some r) }
+    {
+        if hands::is_given(&self.hands, giver, id, target) {
+            return Err(Refusal::Exists);
+        }
+        if depth >= GREATEST_DEPTH || hands::count_given(&self.hands, giver) >= MOST_HANDS {
+            return Err(Refusal::TooMany);
+        }
+        Ok(())
+    }
+
+    /// Ends hands, with all that hang on them. All growth comes first.
+    fn end(&mut self, ending: Ending) -> Result<Items<Hand>, AllocError>
+        ensures told { IfOk result (λ told. told ≡ hands_ended (ends ending) self.old) }
+        ensures ok { OnOk result (self.new ≡ hands_left (ends ending) self.old) }
+        ensures gone { OnOk result (filter (ends ending) self.new ≡ []) }
+        ensures err { OnErr result (self.new ≡ self.old) }
+    {
+        let gone = endings::ended(self.alloc, &self.hands, &ending)?;
+        let told = endings::sorted(self.alloc, &gone)?;
+        endings::take_out(&mut self.hands, &gone);
+        Ok(Items::from_vec(told))
+    }
+}
+
+/// A law of every table that grants and ends have made: a job sees an object exactly where a chain of at
+/// most three standing hands leads to it from the object's own job.
+pub fn what_is_seen_is_led_to()
+    ensures { (hands : List StandingHand) → AreHands hands → (id : ObjectId) (job : ℕ) → sees hands id job ↔ is_led_to hands id job }
+{}

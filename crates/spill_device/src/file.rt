@@ -1,0 +1,133 @@
+//! A device over files.
+ghost use Rattle.std.specs.Prelude.{◌≡◌, IfOk};
+ghost use Rattle.spill_device.specs.Faults.{count_after};
+
+use crate::{DeviceFault, SpillDevice};
+use bytes::Bytes;
+use obj_id::DeviceKey;
+use std::alloc::AllocError;
+use std::fs::{self, OpenFile};
+use std::io::{self, ErrorKind, Read, Write};
+use std::rt::Files;
+use thiserror::Error;
+
+/// Why a folder can't be used for a device.
+#[derive(Debug, Drop, Error)]
+pub enum FolderFault {
+    /// It isn't there, and it can't be made.
+    #[error("the folder `{folder}` can't be made: {error}")]
+    NotMade { folder: String, error: io::Error },
+    /// The process has no memory for the device.
+    #[error("no memory")]
+    NoMemory(#[from(alloc)] AllocError),
+}
+
+/// A device that keeps one file for each key, in a folder of its own. A write is whole or `Failed`: the
+/// bytes go to another name first, which then becomes the key's. Nothing is promised of what the files
+/// hold: a file that isn't as long as it should be is `Failed` at the read, and other damage shows at
+/// the digest.
+#[derive(Drop)]
+pub struct FileDevice<R: Files + AllocGlobal + Drop> {
+    rt: R,
+    folder: String,
+    failures: u64,
+}
+
+impl<R: Files + AllocGlobal + Drop> FileDevice<R> {
+    /// A device in the folder, which is made where it isn't there, and its parents with it. Files of
+    /// an earlier device that are left in it are read as if they were this one's.
+    pub fn new(rt: R, folder: &str) -> Result<FileDevice<R>, FolderFault>
+        ensures { IfOk result (λ device. device.failures ≡ 0) }
+    {
+        let folder = String::from_str(rt.alloc(), folder)?;
+        if let Err(error) = fs::create_dir_all(&rt, folder.as_str()) {
+            return Err(FolderFault::NotMade { folder, error });
+        }
+        Ok(FileDevice {
+            rt,
+            folder,
+            failures: 0,
+        })
+    }
+
+    /// The name of the key's file: two decimal numbers with a dot between them.
+    fn path_of(&self, key: DeviceKey) -> Result<String, AllocError> {
+        let folder = self.folder.as_str();
+        let job = key.job.0;
+        let number = key.number;
+        format!(in self.rt.alloc(); "{folder}/{job}.{number}")
+    }
+
+    fn write_whole(&self, key: DeviceKey, bytes: &[u8]) -> io::Result<()> {
+        let path = self.path_of(key)?;
+        let mut part = path.clone()?;
+        part.push_str(".part")?;
+        let written = write_beside(&self.rt, part.as_str(), path.as_str(), bytes);
+        if written.is_err() {
+            let _ = fs::remove_file(&self.rt, part.as_str());
+        }
+        written
+    }
+
+    fn read_whole(&self, key: DeviceKey, len: u32) -> io::Result<Bytes> {
+        let path = self.path_of(key)?;
+        let mut file = fs::open(&self.rt, path.as_str())?;
+        if file.metadata()?.len() != u64::from(len) {
+            return Err(io::Error::from(ErrorKind::InvalidData));
+        }
+        let mut bytes = vec![in self.rt.alloc(); 0u8; len as usize]?;
+        file.read_exact(bytes.as_mut_slice())?;
+        Ok(Bytes::from_vec(bytes)?)
+    }
+
+    fn remove(&self, key: DeviceKey) -> io::Result<()> {
+        let path = self.path_of(key)?;
+        match fs::remove_file(&self.rt, path.as_str()) {
+            Err(error) if error.kind() == ErrorKind::NotFound => Ok(()),
+            removed => removed,
+        }
+    }
+
+    /// The answer to a call that went so; a failure is counted.
+    fn answer<T>(&mut self, done: io::Result<T>) -> Result<T, DeviceFault>
+        ensures { self.new.failures ≡ count_after result self.old.failures }
+    {
+        match done {
+            Ok(value) => Ok(value),
+            Err(error) if error.kind() == ErrorKind::OutOfMemory => Err(DeviceFault::NoMemory),
+            Err(_) => {
+                self.failures = self.failures.saturating_add(1);
+                Err(DeviceFault::Failed)
+            }
+        }
+    }
+}
+
+/// Writes the bytes to the file `part`, whose name then becomes `path`.
+fn write_beside<R: Files>(rt: &R, part: &str, path: &str, bytes: &[u8]) -> io::Result<()> {
+    fs::write(rt, part, bytes)?;
+    fs::rename(rt, part, path)
+}
+
+impl<R: Files + AllocGlobal + Drop> SpillDevice for FileDevice<R> {
+    ghost failures_of = { λ d. d.failures };
+
+    fn write(&mut self, key: DeviceKey, bytes: &[u8]) -> Result<(), DeviceFault> {
+        let written = self.write_whole(key, bytes);
+        self.answer(written)
+    }
+
+    fn read(&mut self, key: DeviceKey, len: u32) -> Result<Bytes, DeviceFault> {
+        let read = self.read_whole(key, len);
+        self.answer(read)
+    }
+
+    fn erase(&mut self, key: DeviceKey) -> Result<(), DeviceFault> {
+        let removed = self.remove(key);
+        self.answer(removed)
+    }
+
+    fn failures(&self) -> u64 {
+        self.failures
+    }
+}
