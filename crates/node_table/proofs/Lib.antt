@@ -7,3 +7,5 @@ pub mod Passed
 pub mod Writing
 pub mod Changing
 pub mod Sealing
+pub mod Described
+pub mod Planning

@@ -5,3 +5,4 @@ pub mod Shown
 pub mod Checks
 pub mod Erased
 pub mod Outcomes
+pub mod RoomPlans

@@ -4,7 +4,8 @@ ghost use Rattle.private_store.specs.Tables.{at, with_entry, without_entry};
 ghost use Rattle.node_table.specs.Entries.{changed};
 ghost use Rattle.node_table.specs.Kept.{held, released, left, sealed, spilling, gone_away, restoring as restoring_lem, fault_told, can_spill, can_go_away, can_restore};
 ghost use Rattle.private_store.specs.Copies.{is_created};
-ghost use Rattle.std.specs.Prelude.{◌≡◌, [], true, Some, OnOk, OnErr, IfSome, IfNone, length, is_some};
+ghost use Rattle.std.specs.Prelude.{◌≡◌, ◌<◌, ◌^◌, [], true, Some, OnOk, OnErr, IfSome, IfNone, length, is_some};
+ghost use Rattle.node_table.specs.RoomPlans.{device_bytes_in};
 
 use crate::copy::RowCopy;
 use obj_id::{Digest, ObjectId, Refusal};
@@ -55,6 +56,18 @@ impl Copies {
         ensures { option_copied result ≡ at self.now id.now }
     {
         self.by_id.get(id)
+    }
+
+    /// What they take of the device, in bytes: those that are backed or are being written. Takes a walk
+    /// over all copies, and no memory.
+    pub fn device_bytes(&self) -> u64
+        ensures { device_bytes_in self.now < 2 ^ 64 → result ≡ device_bytes_in self.now }
+    {
+        let mut bytes: u64 = 0;
+        for copy in self.by_id.values() {
+            bytes = bytes.saturating_add(copy.device_bytes());
+        }
+        bytes
     }
 
     /// The copy under its id, in place of what was there. A failure changes nothing.

@@ -7,6 +7,7 @@ mod checks;
 mod copies;
 mod copy;
 mod outcome;
+mod room;
 mod row;
 
 pub use copies::Copies;
