@@ -1,8 +1,9 @@
 -- The plan for room in a row's window, from the plan of the rule of room.
-use Rattle.std.proofs.Common.{◌≡◌, ℕ, ◌+◌, ◌^◌, ◌<◌, ◌≤◌, Bool, true, false, not, cond, ◌==◌, List, [], ◌∷◌, ◌++◌, fold, length, take, Option, Some, None, is_some, refl, sym, ap, subst, ◌∙◌, arith}
-use Rattle.std.specs.Prelude.{nat_lt}
+use Rattle.std.proofs.Common.{◌≡◌, ℕ, ◌+◌, ◌-◌, ◌^◌, ◌<◌, ◌≤◌, Bool, true, false, not, cond, ◌==◌, List, [], ◌∷◌, ◌++◌, fold, length, take, Option, Some, None, is_some, refl, sym, ap, subst, ◌∙◌, arith}
+use Rattle.std.specs.Prelude.{min, nat_lt}
 use Rattle.std.specs.List.{list_all}
 use Rattle.std.proofs.lemmas.Bool.Decides.{nat_tests}
+use Rattle.std.proofs.Math.Nat.{min-eq_left}
 use Rattle.std.proofs.lemmas.List.{length-take}
 use Rattle.obj_id.specs.declared.ids.JobNo.{JobNo}
 use Rattle.obj_id.specs.declared.ids.ObjectId.{ObjectId}
@@ -150,17 +151,20 @@ module _ (row : Row) (line : WorkLine) (contents : Contents) (h : IsShown row li
     same_job = λ i. record { 0 = own i }
 
     module _ (window : Region) (here : window ≡ row.window) (copies : ById Kept) (same : copies ≡ row.copies) (quota used works : ℕ)
-        (of_job : quota ≡ row.device) (walked : device_bytes_in copies < 2 ^ 64 → used ≡ device_bytes_in copies) (counted : works ≡ in_flight line job) where
+        (of_job : quota ≡ row.device) (walked : used ≡ min (device_bytes_in copies) (2 ^ 64 - 1)) (counted : works ≡ in_flight line job) where
       abbrev device : DeviceRoom
       device = record { quota = quota; used = used; works = works }
+
+      below : device_bytes_in copies ≡ device_bytes_in row.copies → device_bytes_in row.copies < 2 ^ 64 → device_bytes_in copies ≤ 2 ^ 64 - 1
+      below same_bytes few = omega (arith, same_bytes, few)
 
       as_described : IsDescribed s window device (facts_at copies)
       as_described =
           let bytes = ap device_bytes_in same in
-          let fits = used_fits row line contents h placed in
+          let few = used_fits row line contents h placed in
           subst (λ w. IsDescribed s w device (facts_at copies)) (sym here) (subst (λ t. IsDescribed s row.window device (facts_at t)) (sym same)
           (described row line contents h placed device of_job
-          (walked (omega (arith, bytes, fits)) ∙ bytes ∙ used_is row line contents h placed) (counted ∙ ap (in_flight line) same_job)))
+          (walked ∙ min-eq_left (below bytes few) ∙ bytes ∙ used_is row line contents h placed) (counted ∙ ap (in_flight line) same_job)))
 
       pub plan_exit : (orders : Orders) → order_of row.job orders ≡ row.order → (p : Found)
           → ((store : Shape) → IsDescribed store window device (facts_at copies) → shown p ≡ plan (order_of job.0 orders) store n)

@@ -4,7 +4,7 @@ ghost use Rattle.private_store.specs.Tables.{at, with_entry, without_entry};
 ghost use Rattle.node_table.specs.Entries.{changed};
 ghost use Rattle.node_table.specs.Kept.{held, released, left, sealed, spilling, gone_away, restoring as restoring_lem, fault_told, can_spill, can_go_away, can_restore};
 ghost use Rattle.private_store.specs.Copies.{is_created};
-ghost use Rattle.std.specs.Prelude.{◌≡◌, ◌<◌, ◌^◌, [], true, Some, OnOk, OnErr, IfSome, IfNone, length, is_some};
+ghost use Rattle.std.specs.Prelude.{◌≡◌, ◌-◌, ◌^◌, min, [], true, Some, OnOk, OnErr, IfSome, IfNone, length, is_some};
 ghost use Rattle.node_table.specs.RoomPlans.{device_bytes_in};
 
 use crate::copy::RowCopy;
@@ -58,10 +58,10 @@ impl Copies {
         self.by_id.get(id)
     }
 
-    /// What they take of the device, in bytes: those that are backed or are being written. Takes a walk
-    /// over all copies, and no memory.
+    /// What they take of the device, in bytes, as far as 64 bits go: those that are backed or are being
+    /// written. Takes a walk over all copies, and no memory.
     pub fn device_bytes(&self) -> u64
-        ensures { device_bytes_in self.now < 2 ^ 64 → result ≡ device_bytes_in self.now }
+        ensures { result ≡ min (device_bytes_in self.now) (2 ^ 64 - 1) }
     {
         let mut bytes: u64 = 0;
         for copy in self.by_id.values() {

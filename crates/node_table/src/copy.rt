@@ -98,7 +98,7 @@ impl RowCopy {
         let offset = self.offset?;
         Some(Extent {
             offset,
-            length: (u64::from(self.length()) + 15) / 16 * 16,
+            length: self.rounded_length(),
         })
     }
 
