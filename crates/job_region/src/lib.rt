@@ -13,7 +13,7 @@ ghost use Rattle.private_store.specs.Limits.{is_window as is_window_lem};
 ghost use Rattle.private_store.specs.Extents.{rounded, is_size, first};
 ghost use Rattle.private_store.specs.Contents.{overwritten};
 ghost use Rattle.job_region.specs.Region.{extents_of, place_for, place_check, put_in, without, IsAt, bytes_at, resize_check as resize_check_lem};
-ghost use Rattle.job_region.specs.Layout.{placed_in, LaidFrom, put_extent, without_extent, last_end};
+ghost use Rattle.job_region.specs.Layout.{placed_in, LaidFrom, kept, put_extent, without_extent, last_end};
 
 use obj_id::{Extent, Refusal};
 use std::alloc::{AllocError, Global};
@@ -62,6 +62,13 @@ impl Window {
         })
     }
 
+    /// Its bytes.
+    pub fn quota(&self) -> u64
+        ensures { result ≡ self.now.quota }
+    {
+        self.quota
+    }
+
     /// Places an extent of zeros for an object of `len` bytes, at the least multiple of 16 at which they
     /// lie within the window and meet no extent. Takes a scan of the extents.
     ///
@@ -107,6 +114,35 @@ impl Window {
             Some(_) => None,
             None => Some(Refusal::Full),
         }
+    }
+
+    /// Takes back these extents, which are given by rising offset, and places an extent of zeros for an
+    /// object of `len` bytes where it then fits first; the other extents stay. Takes a scan of the
+    /// extents, and a list of them.
+    ///
+    /// `BadSize` and `Full` as `place` would answer then, `NoMemory` last. A refusal changes nothing: the
+    /// extents are not taken back.
+    pub fn replace(&mut self, alloc: Global, gone: &[Extent], len: u32) -> Result<Extent, Refusal>
+        requires { IsNonDecreasingBy (λ (e : Extent). e.offset) gone.now }
+        ensures least { IfOk result (λ e. first (extents_of (without gone.now self.old.placed)) self.old.quota len ≡ Some e.offset) }
+        ensures length { IfOk result (λ e. e.length ≡ rounded len) }
+        ensures placed { IfOk result (λ e. self.new ≡ record self.old { placed = put_in (e.offset, replicate e.length 0) (without gone.now self.old.placed) }) }
+        ensures refused { (r : Refusal) → r ≢ NoMemory → IsErrOf result r → place_check (record self.old { placed = without gone.now self.old.placed }) len ≡ Some r }
+        ensures err { OnErr result (self.new ≡ self.old) }
+    {
+        let need = round_up(len);
+        if len == 0 || len > LONGEST_OBJECT || need > self.quota {
+            return Err(Refusal::BadSize);
+        }
+        let Some(offset) = gap_without(&self.extents, gone, &self.memory, self.quota, len) else {
+            return Err(Refusal::Full);
+        };
+        let mut left = kept_of(alloc, &self.extents, gone)?;
+        let length = need;
+        put(&mut left, Extent { offset, length })?;
+        self.extents = left;
+        clear_bytes(&mut self.memory, offset, length);
+        Ok(Extent { offset, length })
     }
 
     /// Takes back an extent of this window. Takes no memory.
@@ -236,6 +272,24 @@ fn put(extents: &mut Vec<Extent>, extent: Extent) -> Result<(), AllocError>
     Ok(())
 }
 
+/// The extents that stay where these go.
+fn kept_of(
+    alloc: Global,
+    extents: &Vec<Extent>,
+    gone: &[Extent],
+) -> Result<Vec<Extent>, AllocError>
+    requires { IsNonDecreasingBy (λ (e : Extent). e.offset) gone.now }
+    ensures { IfOk result (λ v. v.items ≡ kept gone.now extents.now.items) }
+{
+    let mut left = Vec::new(alloc);
+    for e in extents {
+        if !goes(gone, e.offset) {
+            left.push(*e)?;
+        }
+    }
+    Ok(left)
+}
+
 /// Takes out the extent at an offset.
 fn take_out(extents: &mut Vec<Extent>, offset: u64)
     ensures { extents.new.items ≡ without_extent offset extents.old.items }
@@ -319,6 +373,23 @@ fn gap_now(extents: &Vec<Extent>, memory: &Vec<u8>, quota: u64, len: u32) -> Opt
     ensures { result ≡ first (extents_of (placed_in memory.now.items extents.now.items)) quota len }
 {
     first_gap(extents, &[], memory, quota, len)
+}
+
+/// The least offset at which `len` bytes will be free once these extents are gone.
+fn gap_without(
+    extents: &Vec<Extent>,
+    gone: &[Extent],
+    memory: &Vec<u8>,
+    quota: u64,
+    len: u32,
+) -> Option<u64>
+    requires laid { LaidFrom quota 0 extents.now.items }
+    requires memory { length memory.now.items ≡ quota }
+    requires small { quota < 2 ^ 29 }
+    requires rising { IsNonDecreasingBy (λ (e : Extent). e.offset) gone.now }
+    ensures { result ≡ first (extents_of (without gone.now (placed_in memory.now.items extents.now.items))) quota len }
+{
+    first_gap(extents, gone, memory, quota, len)
 }
 
 /// The least offset at which `len` bytes are free, without the extents that go.

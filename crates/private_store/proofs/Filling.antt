@@ -38,7 +38,7 @@ module _ {X : Type 0} {Y : Type 0} (test : X → Bool) (default : X → Y) (tabl
   kept_row q None = None
   kept_row q (Some x) = cond (test x) (Some (unwrap_or (at table q) (default x))) None
 
-  at-kept : (es : ById X) → T (is_sorted id_cmp es) → (q : ObjectId) → at (kept test default table es) q ≡ kept_row q (at es q)
+  pub at-kept : (es : ById X) → T (is_sorted id_cmp es) → (q : ObjectId) → at (kept test default table es) q ≡ kept_row q (at es q)
   at-kept [] h q = refl
   at-kept (e ∷ es) h q =
       let rest = at-kept es (and_right (below_all id_cmp e.0 es) _ h) q in

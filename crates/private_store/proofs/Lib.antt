@@ -4,6 +4,7 @@ pub mod FirstFit
 pub mod Sound
 pub mod Tests
 pub mod Rows
+pub mod ObjectMaps
 pub mod Clearing
 pub mod CalmSteps
 pub mod Turns

@@ -430,7 +430,7 @@ found_more (e ∷ es) table f h =
     here true k = tt
     here false k = k
 
-all_found : (table : ById Copy) → T (list_all (λ e. is_some (at table e.0)) table)
+pub all_found : (table : ById Copy) → T (list_all (λ e. is_some (at table e.0)) table)
 all_found [] = tt
 all_found (e ∷ es) =
     both (is_some (at (e ∷ es) e.0)) _
@@ -438,7 +438,7 @@ all_found (e ∷ es) =
     (found_more es es e (all_found es))
 
 -- no key is erased where each copy is there
-keys_none : (before after : ById Copy) → T (list_all (λ e. is_some (at after e.0)) before) → keys_gone before after ≡ []
+pub keys_none : (before after : ById Copy) → T (list_all (λ e. is_some (at after e.0)) before) → keys_gone before after ≡ []
 keys_none [] after h = refl
 keys_none (e ∷ es) after h = one (at after e.0) (and_left _ _ h) ∙ keys_none es after (and_right (is_some (at after e.0)) _ h)
   where

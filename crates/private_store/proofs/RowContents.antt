@@ -77,7 +77,7 @@ module _ (s : ObjectId → Bool) (store : Shape) where
 -- ---- lists of bytes
 
 -- zeros in the place of bytes that there are none of
-default_same : (o : Option (List ℕ)) (n : ℕ) → length (unwrap_or o []) ≡ n → unwrap_or o (replicate n 0) ≡ unwrap_or o []
+pub default_same : (o : Option (List ℕ)) (n : ℕ) → length (unwrap_or o []) ≡ n → unwrap_or o (replicate n 0) ≡ unwrap_or o []
 default_same (Some x) n e = refl
 default_same None n e = ap (λ m. replicate m 0) (sym e)
 

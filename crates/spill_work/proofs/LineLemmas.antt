@@ -8,10 +8,12 @@ use Rattle.std.proofs.lemmas.Option.{slice_get-get_or, slice_get_past}
 use Rattle.std.proofs.lemmas.Bool.{ltb-true, ltb-false}
 use Rattle.std.proofs.lemmas.Bool.Decides.{nat_tests}
 use Rattle.obj_id.specs.declared.ids.JobNo.{JobNo}
+use Rattle.obj_id.specs.declared.ids.ObjectId.{ObjectId}
+use Rattle.obj_id.specs.declared.works.WorkKind.{WorkKind}
 use Rattle.private_store.specs.Shape.{WorkInFlight}
 use Rattle.spill_work.specs.declared.queue.Asked.{Asked}
 use Rattle.spill_work.specs.declared.queue.Queued.{Queued}
-use Rattle.spill_work.specs.Line.{WorkLine, same_job, is_of, is_at, shown, marked, used_by, Asks, Finishes, Drops}
+use Rattle.spill_work.specs.Line.{WorkLine, same_job, is_of, is_at, shown, marked, used_by, is_write, numbered, numbered_works, Asks, AsksAll, Finishes, Drops}
 
 -- the job's part of the line
 abbrev pub part : List Queued → JobNo → List WorkInFlight
@@ -200,3 +202,47 @@ drops old new job works own others = record {
   own_used = own;
   others = λ other apart. record { works = ap (λ ws. part ws other) works ∙ part-dropped_other job other old.works apart; used = others other apart };
 }
+
+-- ---- works on several objects
+
+module _ (job : JobNo) (kind : WorkKind) where
+  pub part-numbered : (last : ℕ) (ids : List ObjectId) (works : List Queued) → part (works ++ numbered job kind last ids) job ≡ part works job ++ numbered_works kind last ids
+  part-numbered last ids [] = alone last ids
+    where
+      alone : (last : ℕ) (ids : List ObjectId) → part (numbered job kind last ids) job ≡ numbered_works kind last ids
+      alone last [] = refl
+      alone last (id ∷ ids) =
+          ap (λ b. map (λ (q : Queued). shown q.asked) (cond b (record { asked = record { job = job; number = last + 1; id = id; kind = kind }; taken = false } ∷ filter (is_of job) (numbered job kind (last + 1) ids)) (filter (is_of job) (numbered job kind (last + 1) ids)))) (itself job.0)
+          ∙ ap (λ r. record { number = last + 1; id = id; writes = is_write kind } ∷ r) (alone (last + 1) ids)
+  part-numbered last ids (x ∷ xs) =
+      let rest = part-numbered last ids xs in
+      elim (is_of job x) as (λ b. map (λ (q : Queued). shown q.asked) (cond b (x ∷ filter (is_of job) (xs ++ numbered job kind last ids)) (filter (is_of job) (xs ++ numbered job kind last ids)))
+      ≡ map (λ (q : Queued). shown q.asked) (cond b (x ∷ filter (is_of job) xs) (filter (is_of job) xs)) ++ numbered_works kind last ids) [
+        | true ↦ ap (λ r. shown x.asked ∷ r) rest
+        | false ↦ rest
+      ]
+
+  pub part-numbered_other : (other : JobNo) → same_job job other ≡ false → (last : ℕ) (ids : List ObjectId) (works : List Queued) → part (works ++ numbered job kind last ids) other ≡ part works other
+  part-numbered_other other apart last ids [] = none last ids
+    where
+      none : (last : ℕ) (ids : List ObjectId) → part (numbered job kind last ids) other ≡ []
+      none last [] = refl
+      none last (id ∷ ids) =
+          ap (λ b. map (λ (q : Queued). shown q.asked) (cond b (record { asked = record { job = job; number = last + 1; id = id; kind = kind }; taken = false } ∷ filter (is_of other) (numbered job kind (last + 1) ids)) (filter (is_of other) (numbered job kind (last + 1) ids)))) (eqb_symmetric other.0 job.0 ∙ apart)
+          ∙ none (last + 1) ids
+  part-numbered_other other apart last ids (x ∷ xs) =
+      let rest = part-numbered_other other apart last ids xs in
+      elim (is_of other x) as (λ b. map (λ (q : Queued). shown q.asked) (cond b (x ∷ filter (is_of other) (xs ++ numbered job kind last ids)) (filter (is_of other) (xs ++ numbered job kind last ids)))
+      ≡ map (λ (q : Queued). shown q.asked) (cond b (x ∷ filter (is_of other) xs) (filter (is_of other) xs))) [
+        | true ↦ ap (λ r. shown x.asked ∷ r) rest
+        | false ↦ rest
+      ]
+
+  pub asks_all : (old new : WorkLine) (ids : List ObjectId) → new.works ≡ old.works ++ numbered job kind (used_by old job) ids → used_by new job ≡ used_by old job + length ids
+      → ((other : JobNo) → same_job job other ≡ false → used_by new other ≡ used_by old other) → AsksAll old job kind ids new
+  asks_all old new ids works own others = record {
+    works = works;
+    own_works = ap (λ ws. part ws job) works ∙ part-numbered (used_by old job) ids old.works;
+    own_used = own;
+    others = λ other apart. record { works = ap (λ ws. part ws other) works ∙ part-numbered_other other apart (used_by old job) ids old.works; used = others other apart };
+  }

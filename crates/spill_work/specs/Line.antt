@@ -3,6 +3,7 @@ use Rattle.std.specs.Prelude.{◌≡◌, ℕ, ◌+◌, ◌==◌, nat_le, Bool, t
 use Rattle.std.specs.Option.{option_map}
 use Rattle.std.specs.Map.{lookup}
 use Rattle.obj_id.specs.declared.ids.JobNo.{JobNo}
+use Rattle.obj_id.specs.declared.ids.ObjectId.{ObjectId}
 use Rattle.obj_id.specs.declared.works.WorkKind.{WorkKind}
 use Rattle.obj_id.specs.declared.works.WorkKind.TheVariants.{Write, Read}
 use Rattle.obj_id.specs.declared.refusals.Refusal.{Refusal}
@@ -74,6 +75,25 @@ pub record Asks (old : WorkLine) (asked : Asked) (new : WorkLine) : Type 0 where
   pub own_works : works_of new asked.job ≡ works_of old asked.job ++ shown asked ∷ []
   pub own_used : used_by new asked.job ≡ asked.number
   pub others : (job : JobNo) → same_job asked.job job ≡ false → IsSameFor job old new
+
+-- works of these objects, under the numbers after the last one
+abbrev pub numbered : JobNo → WorkKind → ℕ → List ObjectId → List Queued
+numbered job kind last [] = []
+numbered job kind last (id ∷ ids) =
+    record { asked = record { job = job; number = last + 1; id = id; kind = kind }; taken = false } ∷ numbered job kind (last + 1) ids
+
+-- as the job's own store has them
+abbrev pub numbered_works : WorkKind → ℕ → List ObjectId → List WorkInFlight
+numbered_works kind last [] = []
+numbered_works kind last (id ∷ ids) = record { number = last + 1; id = id; writes = is_write kind } ∷ numbered_works kind (last + 1) ids
+
+-- works of these objects come last, in their order
+pub record AsksAll (old : WorkLine) (job : JobNo) (kind : WorkKind) (ids : List ObjectId) (new : WorkLine) : Type 0 where
+  pub works : new.works ≡ old.works ++ numbered job kind (used_by old job) ids
+  -- the job's own part
+  pub own_works : works_of new job ≡ works_of old job ++ numbered_works kind (used_by old job) ids
+  pub own_used : used_by new job ≡ used_by old job + length ids
+  pub others : (other : JobNo) → same_job job other ≡ false → IsSameFor other old new
 
 -- ---- handing out
 

@@ -3,10 +3,10 @@
 //! each job; what one job sees of it is told beside, and what the others see stays.
 #![tactic(auto)]
 
-ghost use Rattle.std.specs.Prelude.{◌≡◌, ◌≢◌, ◌+◌, [], Some, None, IfOk, OnOk, OnErr, IsOk, IsErrOf};
+ghost use Rattle.std.specs.Prelude.{◌≡◌, ◌≢◌, ◌+◌, [], Some, None, IfOk, OnOk, OnErr, IsOk, IsErrOf, true, length};
 ghost use Rattle.obj_id.specs.declared.refusals.Refusal.{Refusal};
 ghost use Rattle.obj_id.specs.declared.refusals.Refusal.TheVariants.{NoMemory};
-ghost use Rattle.spill_work.specs.Line.{WorkLine, same_job, used_by, in_flight as in_flight_lem, room_for as room_for_lem, ask_check as ask_check_lem, Asks, front_of, Takes, MarksTaken, finish_check as finish_check_lem, Finishes, Drops};
+ghost use Rattle.spill_work.specs.Line.{WorkLine, same_job, used_by, in_flight as in_flight_lem, room_for as room_for_lem, ask_check as ask_check_lem, Asks, AsksAll, front_of, Takes, MarksTaken, finish_check as finish_check_lem, Finishes, Drops};
 
 mod queue;
 
@@ -94,6 +94,26 @@ impl Works {
         };
         self.append(asked)?;
         Ok(number)
+    }
+
+    /// Asks for a work of the job on each of these objects, in their order and under the job's next
+    /// numbers. The error is want of memory, and then nothing has changed. Takes a copy of the line.
+    pub fn ask_all(
+        &mut self,
+        alloc: Global,
+        job: JobNo,
+        ids: &[ObjectId],
+        kind: WorkKind,
+    ) -> Result<(), AllocError>
+        requires { room_for_lem self.old job (length ids.now) ≡ true }
+        ensures ok { OnOk result (AsksAll self.old job kind ids.now self.new) }
+        ensures err { OnErr result (self.new ≡ self.old) }
+    {
+        let last = self.asked(job);
+        let line = queue::with_numbered(alloc, &self.line, job, kind, last, ids)?;
+        self.used.insert(job, last + ids.len() as u64)?;
+        self.line = line;
+        Ok(())
     }
 
     /// Why no work of the job can be asked for: `Busy`, `TooMany`, or nothing.

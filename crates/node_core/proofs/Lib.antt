@@ -1,0 +1,5 @@
+mod SameJob
+mod Views
+mod Calling
+mod Admitting
+mod Ending

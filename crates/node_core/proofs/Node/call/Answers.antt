@@ -1,0 +1,42 @@
+use Rattle.std.proofs.Common.{is_some, sym, ap, subst, ◌∙◌}
+use Rattle.std.specs.Map.{lookup, set_value}
+use Rattle.std.specs.Option.{option_copied_mut}
+use Rattle.std.proofs.lemmas.Map.Steps.{set_value_same}
+use Rattle.private_store.specs.Jobs.{same_job}
+use Rattle.private_store.specs.declared.schedules.Event.TheVariants as event
+use Rattle.node_table.specs.Outcomes.{given_of}
+use Rattle.node_core.specs.Steps.{Steps}
+use Rattle.node_core.proofs.Calling.{if_ok, on_err}
+use Rattle.node_core.proofs.Views.{with_rows, call_steps, refused_steps}
+use Rattle.node_core.proofs.Node.call.Goals as goal
+
+pub returns-in_default-clause-ok : goal.returns-in_default-clause-ok
+returns-in_default-clause-ok c =
+    let rows = c.get_mut.follows.lender-at-none.entries in
+    let same = ap (λ r. r.entries) c.get_mut.follows.holds-at-none in
+    let none = ap (lookup (same_job c.args.job)) same ∙ sym c.get_mut.ensures.value ∙ ap option_copied_mut c.in_default.is in
+    let all = with_rows c.self.inside.number c.self.inside.admission c.self.inside.works c.args.job c.args.session c.args.command.now in
+    subst (λ given. Steps c.args.self.now (event.Call c.args.job c.args.session c.args.command.now) given (all rows)) (sym c.only.ensures)
+    (subst (λ old. Steps old (event.Call c.args.job c.args.session c.args.command.now) _ (all rows)) (ap all same ∙ c.self.view_is)
+    (refused_steps c.self.inside.number c.self.inside.admission c.self.inside.works c.args.job c.args.session c.args.command.now rows none))
+
+pub returns-clause-ok : goal.returns-clause-ok
+returns-clause-ok c =
+    let rows = c.self.inside.rows.entries in
+    let new = (c.get_mut.follows.lender c.carry_out.new.row).entries in
+    let found = sym c.get_mut.ensures.value ∙ ap option_copied_mut c.in-Some.is in
+    let wrote = c.get_mut.follows.holds c.carry_out.new.row in
+    let all = with_rows c.self.inside.number c.self.inside.admission c.self.inside.works c.args.job c.args.session c.args.command.now in
+    if_ok c.carry_out.result c.carry_out.ensures.ok (λ o h.
+    subst (λ old. Steps old (event.Call c.args.job c.args.session c.args.command.now) (given_of o) (all new)) c.self.view_is
+    (call_steps c.self.inside.number c.self.inside.admission c.self.inside.works c.args.job c.args.session c.args.command.now rows new c.in-Some.row.now c.carry_out.new.row (given_of o)
+    found (wrote.3 (ap is_some found)).0 c.requires h))
+
+pub returns-clause-err : goal.returns-clause-err
+returns-clause-err c =
+    let rows = c.self.inside.rows.entries in
+    let found = sym c.get_mut.ensures.value ∙ ap option_copied_mut c.in-Some.is in
+    let wrote = c.get_mut.follows.holds c.carry_out.new.row in
+    let all = with_rows c.self.inside.number c.self.inside.admission c.self.inside.works c.args.job c.args.session c.args.command.now in
+    on_err c.carry_out.result c.carry_out.ensures.err (λ same.
+    ap all (wrote.0 ∙ ap (set_value (same_job c.args.job) rows) same ∙ set_value_same (same_job c.args.job) rows c.in-Some.row.now found) ∙ c.self.view_is)

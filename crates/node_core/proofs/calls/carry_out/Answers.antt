@@ -1,0 +1,53 @@
+use Rattle.std.proofs.Common.{◌≡◌, ℕ, ◌==◌, true, List, sym, ap, subst, ◌∙◌}
+use Rattle.obj_id.specs.declared.ids.ObjectId.{ObjectId}
+use Rattle.obj_id.specs.declared.commands.Command.{Command}
+use Rattle.obj_id.specs.declared.commands.Command.TheVariants as command
+use Rattle.private_store.specs.declared.inputs.Input.TheVariants as input
+use Rattle.node_table.specs.Outcomes.{given_of}
+use Rattle.node_table.specs.Shown.{TakesStep}
+use Rattle.node_core.specs.Calls.{is_own}
+use Rattle.node_core.proofs.Calling.{not_granted, told_so}
+use Rattle.node_core.proofs.calls.carry_out.Goals as goal
+use Rattle.node_core.proofs.calls.carry_out.Goals.{in-Write, in-Read+in_ok-reply-in-Read, in-Release, in-List+in_ok-reply-in-List, in-Usage, in-Leave}
+
+pub returns-then-not-is_own-clause-ok : goal.returns-then-not-is_own-clause-ok
+returns-then-not-is_own-clause-ok c contents own h =
+    subst (λ told. TakesStep c.args.node c.args.row.now c.args.works.now contents (input.Call c.args.session c.args.command.now) told c.args.row.now c.args.works.now)
+    (sym c.only.ensures)
+    (not_granted c.args.node c.args.job.0 c.args.row.now c.args.works.now c.args.session contents own h c.args.command.now (sym c.is_own.ensures ∙ c.if-not-is_own.true))
+
+pub returns-clause-ok : goal.returns-clause-ok
+returns-clause-ok c contents own h =
+    let mine : (d : Command (List ℕ)) → c.args.command.now ≡ d → is_own c.args.job.0 d ≡ true = λ d is. ap (is_own c.args.job.0) (sym is) ∙ sym c.is_own.ensures ∙ c.if-not-is_own.false in
+    let own_id : (id : ObjectId) → (id.job.0 == c.args.job.0) ≡ true → (id.job.0 == c.args.row.now.job) ≡ true = λ id e. ap (λ n. id.job.0 == n) own ∙ e in
+    let so = told_so c.args.node c.args.row.now c.args.works.now c.args.session contents c.args.command.now in
+    elim c.match-command.branch [
+      | in-Write w ↦
+          let d = command.Write w.in-Write.id w.in-Write.offset w.in-Write.bytes in
+          let e = command.Write w.in-Write.id w.in-Write.offset w.deref.result.now in
+          so e (given_of c.only-2.result) c.match-command.reply w.write-reply.result c.match-command.row w.write-reply.new.self
+          (w.in-Write.is ∙ ap (λ bs. command.Write w.in-Write.id w.in-Write.offset bs) (sym w.deref.ensures)) c.only-2.ensures w.reply-is w.row-is
+          (w.write-reply.ensures c.args.node c.args.works.now contents (own_id w.in-Write.id (mine d w.in-Write.is)) h)
+      | in-Read+in_ok-reply-in-Read w ↦
+          let d = command.Read w.in-Read.id w.in-Read.offset w.in-Read.len in
+          so d (given_of c.only-2.result) c.match-command.reply w.in_ok-reply-in-Read.reply c.match-command.row c.args.row.now
+          w.in-Read.is c.only-2.ensures w.reply-is w.row-is
+          (w.in_ok-reply-in-Read.ensures c.args.node c.args.works.now contents (own_id w.in-Read.id (mine d w.in-Read.is)) h)
+      | in-Release w ↦
+          let d = command.Release w.in-Release.id in
+          so d (given_of c.only-2.result) c.match-command.reply w.release-reply.result c.match-command.row w.release-reply.new.self
+          w.in-Release.is c.only-2.ensures w.reply-is w.row-is
+          (w.release-reply.ensures c.args.node c.args.works.now contents (own_id w.in-Release.id (mine d w.in-Release.is)) h)
+      | in-List+in_ok-reply-in-List w ↦
+          so command.List (given_of c.only-2.result) c.match-command.reply w.in_ok-reply-in-List.reply c.match-command.row c.args.row.now
+          w.in-List.is c.only-2.ensures w.reply-is w.row-is
+          (w.in_ok-reply-in-List.ensures c.args.node c.args.session c.args.works.now contents h)
+      | in-Usage w ↦
+          so command.Usage (given_of c.only-2.result) c.match-command.reply w.tell_usage-reply.result c.match-command.row c.args.row.now
+          w.in-Usage.is c.only-2.ensures w.reply-is w.row-is
+          (w.tell_usage-reply.ensures c.args.node c.args.session contents h)
+      | in-Leave w ↦
+          so command.Leave (given_of c.only-2.result) c.match-command.reply _ c.match-command.row w.leave.new.self
+          w.in-Leave.is c.only-2.ensures w.reply-is w.row-is
+          (w.leave.ensures c.args.node c.args.works.now contents h)
+    ]

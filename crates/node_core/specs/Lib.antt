@@ -1,0 +1,3 @@
+pub mod Hosted
+pub mod Steps
+pub mod Calls

@@ -1,0 +1,63 @@
+//! The commands of a session, carried out on the row of its job.
+ghost use Rattle.std.specs.Prelude.{◌≡◌, true, IfOk, OnErr, IsErrOf};
+ghost use Rattle.obj_id.specs.declared.refusals.Refusal.{Refusal};
+ghost use Rattle.obj_id.specs.declared.refusals.Refusal.TheVariants.{NoMemory};
+ghost use Rattle.node_table.specs.Outcomes.{given_of};
+ghost use Rattle.node_core.specs.Calls.{is_own as is_own_lem, Obeys};
+ghost use Rattle.node_core.specs.Steps.{is_built_command};
+
+use bytes::Bytes;
+use node_table::{JobRow, Outcome};
+use obj_id::{Command, JobNo, Refusal, Reply};
+use spill_work::Works;
+use std::alloc::Global;
+
+/// Carries out a command on the row of the session's job. `NotGranted` for another job's object. The error
+/// is want of memory, and then nothing has changed.
+pub(crate) fn carry_out(
+    alloc: Global,
+    node: u32,
+    job: JobNo,
+    row: &mut JobRow,
+    works: &Works,
+    session: u32,
+    command: &Command<Bytes>,
+) -> Result<Outcome, Refusal>
+    requires { is_built_command command.now ≡ true }
+    ensures ok { IfOk result (λ o. Obeys node job.0 row.old works.now session command.now (given_of o) row.new) }
+    ensures memory { (r : Refusal) → IsErrOf result r → r ≡ NoMemory }
+    ensures err { OnErr result (row.new ≡ row.old) }
+{
+    if !is_own(job, command) {
+        return Ok(Outcome::only(alloc, Reply::Refused(Refusal::NotGranted)));
+    }
+    let reply = match command {
+        Command::Seal(id) => return Ok(row.seal(alloc, node, session, id)?),
+        Command::Get(id) => return row.get(alloc, node, session, id),
+        Command::Write(id, offset, bytes) => row.write(session, id, *offset, bytes),
+        Command::Read(id, offset, len) => row.read(alloc, session, id, *offset, *len)?,
+        Command::Release(id) => row.release(session, id),
+        Command::List => row.list(alloc)?,
+        Command::Usage => row.tell_usage(works),
+        Command::Leave => {
+            row.leave(session);
+            Reply::Ok
+        }
+        _ => return Err(Refusal::NoMemory),
+    };
+    Ok(Outcome::only(alloc, reply))
+}
+
+/// Whether the object that the command names, if it names one, is the job's.
+fn is_own(job: JobNo, command: &Command<Bytes>) -> bool
+    ensures { result ≡ is_own_lem job.0 command.now }
+{
+    match command {
+        Command::Write(id, _, _)
+        | Command::Seal(id)
+        | Command::Get(id)
+        | Command::Read(id, _, _)
+        | Command::Release(id) => id.job().0 == job.0,
+        _ => true,
+    }
+}

@@ -1,0 +1,126 @@
+-- The commands of the private store, by their checks: the refusal, and else what is done.
+use Rattle.std.proofs.Common.{◌≡◌, ℕ, Bool, true, false, not, cond, ◌==◌, ◌+◌, nat_lt, List, [], ◌∷◌, ◌++◌, Option, Some, None, option_map, refl, sym, ap, subst, ◌∙◌}
+use Rattle.std.specs.Option.{option_map_or, option_and_then}
+use Rattle.obj_id.specs.declared.ids.ObjectId.{ObjectId}
+use Rattle.obj_id.specs.declared.refusals.Refusal.{Refusal}
+use Rattle.obj_id.specs.declared.refusals.Refusal.TheVariants.{Absent, AlreadySealed, BadSize, NotSealed, NotHeld, OutOfBounds, NotAdmitted, NotGranted}
+use Rattle.obj_id.specs.declared.commands.CopyState.TheVariants.{Sealed}
+use Rattle.obj_id.specs.declared.commands.Command.{Command}
+use Rattle.obj_id.specs.declared.commands.Reply.TheVariants as reply
+use Rattle.private_store.specs.declared.inputs.Judged.TheVariants as judged
+use Rattle.private_store.specs.Limits.{most_bytes}
+use Rattle.private_store.specs.Tables.{ById, at}
+use Rattle.private_store.specs.Shape.{Copy, Shape, Change, Sending, add_location}
+use Rattle.private_store.specs.Copies.{is_created, visible}
+use Rattle.private_store.specs.Room.{set_copy}
+use Rattle.private_store.specs.Change.{replied, refused, done, checked, needing, sending, erasing, settled}
+use Rattle.private_store.specs.Commands.{write, seal, read, release, holds_of, is_unsealed, with_holds}
+use Rattle.private_store.specs.Step.{step, owned, commanded}
+use Rattle.private_store.proofs.Checks.{checked-nil, checked-false}
+use Rattle.spill_work.specs.Line.{WorkLine}
+use Rattle.node_table.specs.Kept.{Kept}
+use Rattle.node_table.specs.Row.{Row, copies_of, shape_of}
+use Rattle.node_table.specs.Checks.{write_check, write_check_of, seal_check, seal_check_of, read_check, read_check_of, release_check}
+use Rattle.node_table.proofs.CopyTables.{at-copies}
+
+-- the refusal, or else the rest
+abbrev pub unless_refused : Shape → Option Refusal → Change → Change
+unless_refused store check rest = option_map_or (refused store) check rest
+
+checked-if : (store : Shape) (b : Bool) (r : Refusal) (cs : List (Bool × Refusal)) (c : Change) → checked store ((b, r) ∷ cs) c ≡ cond b (refused store r) (checked store cs c)
+unfolding checked
+checked-if store b r cs c = refl
+
+pub needing-by : {X : Type 0} (store : Shape) (o : Option X) (r : Refusal) (f : X → Change) → needing store o r f ≡ option_map_or f o (refused store r)
+unfolding needing
+needing-by store o r f = refl
+
+-- a check before others
+pub first-check : (store : Shape) (b : Bool) (r : Refusal) (cs : List (Bool × Refusal)) (c : Change) (rest : Option Refusal) (d : Change) → checked store cs c ≡ unless_refused store rest d → checked store ((b, r) ∷ cs) c ≡ unless_refused store (cond b (Some r) rest) d
+first-check store b r cs c rest d h = checked-if store b r cs c ∙ ap (cond b (refused store r)) h ∙ by b
+  where
+    by : (b : Bool) → cond b (refused store r) (unless_refused store rest d) ≡ unless_refused store (cond b (Some r) rest) d
+    by true = refl
+    by false = refl
+
+pub last-check : (store : Shape) (c : Change) → checked store [] c ≡ unless_refused store None c
+last-check store c = checked-nil store c
+
+-- a live job's command of a session
+pub called : (row : Row) (line : WorkLine) (session : ℕ) (c : Command ℕ) → step row.order (shape_of row line) (judged.Call session c) ≡ erasing (shape_of row line) (commanded row.order (shape_of row line) session c)
+called row line session c =
+    checked-false (shape_of row line) false NotAdmitted [] (erasing (shape_of row line) (commanded row.order (shape_of row line) session c)) refl
+    ∙ checked-nil (shape_of row line) (erasing (shape_of row line) (commanded row.order (shape_of row line) session c))
+
+-- a command on the job's own object
+pub own : (row : Row) (line : WorkLine) (id : ObjectId) (c : Change) → (id.job.0 == row.job) ≡ true → owned (shape_of row line) id c ≡ c
+own row line id c mine = checked-false (shape_of row line) (not (id.job.0 == row.job)) NotGranted [] c (ap not mine) ∙ checked-nil (shape_of row line) c
+
+-- one on another job's
+pub foreign : (row : Row) (line : WorkLine) (id : ObjectId) (c : Change) → (id.job.0 == row.job) ≡ false → owned (shape_of row line) id c ≡ refused (shape_of row line) NotGranted
+foreign row line id c other = checked-if (shape_of row line) (not (id.job.0 == row.job)) NotGranted [] c ∙ ap (λ b. cond (not b) (refused (shape_of row line) NotGranted) (checked (shape_of row line) [] c)) other
+
+module _ (row : Row) (line : WorkLine) (id : ObjectId) where
+  abbrev s : Shape
+  s = shape_of row line
+
+  -- of a copy that isn't doomed
+  in_sight : (f : Copy → Change) (check : Kept → Option Refusal) (d : Change)
+      → ((k : Kept) → at row.copies id ≡ Some k → k.copy.doomed ≡ false → f k.copy ≡ unless_refused s (check k) d)
+      → needing s (visible s id) Absent f ≡ unless_refused s (elim (at row.copies id) [ None ↦ Some Absent | Some k ↦ cond k.copy.doomed (Some Absent) (check k) ]) d
+  in_sight f check d h =
+      needing-by s (visible s id) Absent f
+      ∙ ap (λ o. option_map_or f (option_and_then (λ copy. cond copy.doomed None (Some copy)) o) (refused s Absent)) (at-copies row.copies id)
+      ∙ by (at row.copies id) h
+    where
+      by : (o : Option Kept) → ((k : Kept) → o ≡ Some k → k.copy.doomed ≡ false → f k.copy ≡ unless_refused s (check k) d)
+          → option_map_or f (option_and_then (λ copy. cond copy.doomed None (Some copy)) (option_map (λ k. k.copy) o)) (refused s Absent)
+          ≡ unless_refused s (elim o [ None ↦ Some Absent | Some k ↦ cond k.copy.doomed (Some Absent) (check k) ]) d
+      by None h = refl
+      by (Some k) h = doomed k.copy.doomed (h k refl)
+        where
+          doomed : (b : Bool) → (b ≡ false → f k.copy ≡ unless_refused s (check k) d) → option_map_or f (cond b None (Some k.copy)) (refused s Absent) ≡ unless_refused s (cond b (Some Absent) (check k)) d
+          doomed true g = refl
+          doomed false g = g refl
+
+  -- of any copy
+  pub in_table : (f : Copy → Change) (check : Kept → Option Refusal) (d : Change)
+      → ((k : Kept) → at row.copies id ≡ Some k → f k.copy ≡ unless_refused s (check k) d)
+      → needing s (at s.copies id) Absent f ≡ unless_refused s (elim (at row.copies id) [ None ↦ Some Absent | Some k ↦ check k ]) d
+  in_table f check d h =
+      needing-by s (at s.copies id) Absent f ∙ ap (λ o. option_map_or f o (refused s Absent)) (at-copies row.copies id) ∙ by (at row.copies id) h
+    where
+      by : (o : Option Kept) → ((k : Kept) → o ≡ Some k → f k.copy ≡ unless_refused s (check k) d)
+          → option_map_or f (option_map (λ k. k.copy) o) (refused s Absent) ≡ unless_refused s (elim o [ None ↦ Some Absent | Some k ↦ check k ]) d
+      by None h = refl
+      by (Some k) h = h k refl
+
+  pub write-by : (offset n : ℕ) → write s id offset n ≡ unless_refused s (write_check row.copies id offset n) (done s)
+  write-by offset n =
+      first-check s (nat_lt most_bytes n) BadSize [] _ _ (done s)
+      (checked-nil s _ ∙ in_sight _ (λ k. cond (not (is_created k.copy.state)) (Some AlreadySealed) (cond (nat_lt k.copy.length (offset + n)) (Some OutOfBounds) None)) (done s) (λ k found seen.
+      first-check s (not (is_created k.copy.state)) AlreadySealed _ _ _ (done s)
+      (first-check s (nat_lt k.copy.length (offset + n)) OutOfBounds [] _ None (done s) (checked-nil s (done s)))))
+
+  pub read-by : (session offset n : ℕ) → read s session id offset n ≡ unless_refused s (read_check row.copies session id offset n) (replied s (reply.Bytes n))
+  read-by session offset n =
+      first-check s (nat_lt most_bytes n) BadSize [] _ _ _
+      (checked-nil s _ ∙ in_table _ (λ k. read_check_of k session offset n) _ (λ k found.
+      first-check s (is_unsealed k.copy.state) NotSealed _ _ _ _
+      (first-check s (holds_of k.copy session == 0) NotHeld _ _ _ _
+      (first-check s (nat_lt k.copy.length (offset + n)) OutOfBounds [] _ None _ (checked-nil s _)))))
+
+  -- what sealing does to the copy that is there
+  abbrev pub seal_done : Change
+  seal_done = option_map_or (λ copy. sending (add_location id ∷ []) (done (set_copy s id (record copy { state = Sealed })))) (at s.copies id) (refused s Absent)
+
+  pub seal-by : seal s id ≡ unless_refused s (seal_check row.copies id) seal_done
+  seal-by =
+      in_sight _ (λ k. cond (not (is_created k.copy.state)) (Some AlreadySealed) None) seal_done (λ k found seen.
+      first-check s (not (is_created k.copy.state)) AlreadySealed [] _ None seal_done
+      (checked-nil s _ ∙ sym (ap (λ o. option_map_or (λ copy. sending (add_location id ∷ []) (done (set_copy s id (record copy { state = Sealed })))) o (refused s Absent)) (at-copies row.copies id ∙ ap (option_map (λ k. k.copy)) found))))
+
+-- what is sent first
+pub sending-is : (sent : List Sending) (c : Change) → sending sent c ≡ record c { sent = sent ++ c.sent }
+unfolding sending
+sending-is sent c = refl

@@ -1,0 +1,50 @@
+-- The copies of a row as its store's table has them.
+use Rattle.std.proofs.Common.{◌≡◌, ℕ, Bool, true, false, not, cond, List, [], ◌∷◌, map, filter, Option, Some, None, option_map, refl, sym, ap, ◌∙◌}
+use Rattle.std.specs.Ordering.{is_eq}
+use Rattle.std.specs.declared.cmp.Ordering.{Ordering}
+use Rattle.std.specs.declared.cmp.Ordering.TheVariants.{Less, Equal, Greater}
+use Rattle.std.specs.FinMap.Entries.{by_order}
+use Rattle.obj_id.specs.declared.ids.ObjectId.{ObjectId}
+use Rattle.obj_id.specs.Ids.{id_cmp, same_id}
+use Rattle.private_store.specs.Tables.{ById, at, with_entry, without_entry}
+use Rattle.private_store.specs.Shape.{Copy}
+use Rattle.node_table.specs.Entries.{changed}
+use Rattle.node_table.specs.Kept.{Kept}
+use Rattle.node_table.specs.Row.{copies_of}
+use Rattle.node_table.proofs.Changes.{changed-found}
+
+pub at-copies : (es : ById Kept) (id : ObjectId) → at (copies_of es) id ≡ option_map (λ k. k.copy) (at es id)
+at-copies [] id = refl
+at-copies (e ∷ es) id = by (same_id id e.0) (at-copies es id)
+  where
+    by : (b : Bool) → at (copies_of es) id ≡ option_map (λ k. k.copy) (at es id) → cond b (Some e.1.copy) (at (copies_of es) id) ≡ option_map (λ k. k.copy) (cond b (Some e.1) (at es id))
+    by true h = refl
+    by false h = h
+
+pub copies-with : (es : ById Kept) (id : ObjectId) (k : Kept) → copies_of (with_entry es id k) ≡ with_entry (copies_of es) id k.copy
+copies-with [] id k = refl
+copies-with (e ∷ es) id k = by (id_cmp id e.0) (copies-with es id k)
+  where
+    by : (o : Ordering) → copies_of (with_entry es id k) ≡ with_entry (copies_of es) id k.copy
+        → copies_of (by_order o ((id, k) ∷ e ∷ es) ((e.0, k) ∷ es) (e ∷ with_entry es id k)) ≡ by_order o ((id, k.copy) ∷ (e.0, e.1.copy) ∷ copies_of es) ((e.0, k.copy) ∷ copies_of es) ((e.0, e.1.copy) ∷ with_entry (copies_of es) id k.copy)
+    by Less h = refl
+    by Equal h = refl
+    by Greater h = ap (λ t. (e.0, e.1.copy) ∷ t) h
+
+pub copies-without : (es : ById Kept) (id : ObjectId) → copies_of (without_entry es id) ≡ without_entry (copies_of es) id
+copies-without [] id = refl
+copies-without (e ∷ es) id = by (same_id id e.0) (copies-without es id)
+  where
+    by : (b : Bool) → copies_of (without_entry es id) ≡ without_entry (copies_of es) id → copies_of (cond (not b) (e ∷ without_entry es id) (without_entry es id)) ≡ cond (not b) ((e.0, e.1.copy) ∷ without_entry (copies_of es) id) (without_entry (copies_of es) id)
+    by true h = h
+    by false h = ap (λ t. (e.0, e.1.copy) ∷ t) h
+
+-- a copy that is there changed
+pub copies-changed : (f : Kept → Kept) (es : ById Kept) (id : ObjectId) (k : Kept) → at es id ≡ Some k → copies_of (changed f es id) ≡ with_entry (copies_of es) id (f k).copy
+copies-changed f es id k found = ap copies_of (changed-found f id es k found) ∙ copies-with es id (f k)
+
+pub at-copies_found : (es : ById Kept) (id : ObjectId) (k : Kept) → at es id ≡ Some k → at (copies_of es) id ≡ Some k.copy
+at-copies_found es id k found = at-copies es id ∙ ap (option_map (λ k. k.copy)) found
+
+pub at-copies_none : (es : ById Kept) (id : ObjectId) → at es id ≡ None → at (copies_of es) id ≡ None
+at-copies_none es id none = at-copies es id ∙ ap (option_map (λ k. k.copy)) none

@@ -1,0 +1,171 @@
+-- A row takes Get of a copy that is sealed.
+use Rattle.std.proofs.Common.{◌≡◌, ℕ, ◌+◌, Bool, true, false, cond, ◌==◌, nat_le, List, [], ◌∷◌, map, Option, Some, None, is_some, option_map, refl, sym, ap, subst, ◌∙◌}
+use Rattle.std.specs.Option.{option_map_or}
+use Rattle.obj_id.specs.declared.ids.ObjectId.{ObjectId}
+use Rattle.obj_id.specs.declared.refusals.Refusal.{Refusal}
+use Rattle.obj_id.specs.declared.refusals.Refusal.TheVariants.{Absent, Gone, TooMany, Pending, NotSealed}
+use Rattle.obj_id.specs.declared.commands.CopyState.{CopyState}
+use Rattle.obj_id.specs.declared.commands.CopyState.TheVariants.{Created, Sealed, Restoring, Fetching, Away}
+use Rattle.obj_id.specs.declared.commands.Command.TheVariants as command
+use Rattle.obj_id.specs.declared.commands.Reply.TheVariants as reply
+use Rattle.private_store.specs.declared.inputs.Input.{Input}
+use Rattle.private_store.specs.declared.inputs.Input.TheVariants as input
+use Rattle.private_store.specs.Limits.{most_holds}
+use Rattle.private_store.specs.Tables.{ById, at, with_entry, is_among}
+use Rattle.private_store.specs.Shape.{Copy, Shape, Change}
+use Rattle.private_store.specs.Copies.{is_sealed, is_created}
+use Rattle.private_store.specs.Room.{set_copy}
+use Rattle.private_store.specs.Change.{replied, refused, erasing, checked, needing}
+use Rattle.private_store.specs.Commands.{get, get_copy, get_sealed, get_away, get_fetching, begin_fetch, with_holds, holds_of, all_holds}
+use Rattle.private_store.specs.Contents.{Contents, judge}
+use Rattle.private_store.specs.Private.{key_of}
+use Rattle.private_store.specs.Step.{step}
+use Rattle.private_store.proofs.Checks.{checked-false, checked-nil}
+use Rattle.private_store.proofs.Rows.{at-put_here}
+use Rattle.std.specs.Prelude.{IfOk, Ok, Err}
+use Rattle.std.specs.declared.result.Result.{Result}
+use Rattle.private_store.specs.Kept.{is_fetching}
+use Rattle.private_store.proofs.Tests.{true_false, false_true, some_value, none_some}
+use Rattle.lru_evictor.specs.Orders.{AreThere, last_used, touched}
+use Rattle.lru_evictor.proofs.Reorders.{reordered-used}
+use Rattle.spill_work.specs.Line.{WorkLine}
+use Rattle.node_table.specs.Entries.{changed}
+use Rattle.node_table.specs.Kept.{Kept, held}
+use Rattle.node_table.specs.Row.{Row, copies_of, shape_of}
+use Rattle.node_table.specs.Checks.{hold_check, hold_check_of}
+use Rattle.node_table.specs.Shown.{seen, is_plain, IsPlain, IsShown, Given, only, TakesStep}
+use Rattle.node_table.proofs.ByChecks.{unless_refused, first-check, called, own}
+use Rattle.node_table.proofs.CopyTables.{at-copies_found, copies-changed}
+use Rattle.node_table.proofs.Changing.{there_still, bytes_stay, digests_stay, works_stay, plain_stay, listed_stay, keys_with}
+use Rattle.node_table.proofs.Orders.{touched-listed, there_last, listed_last}
+use Rattle.node_table.proofs.Stepping.{Moves, moved, stays}
+
+-- what is so of each answer
+pub each_ok : {T E : Type 0} {P Q : T → Type 0} (r : Result T E) → ((t : T) → P t → Q t) → IfOk r P → IfOk r Q
+each_ok (Ok t) f h = f t h
+each_ok (Err e) f h = tt
+
+-- the copy whose state was looked up
+pub some_at : (copies : ById Kept) (id : ObjectId) (state : CopyState) → option_map (λ k. k.copy.state) (at copies id) ≡ Some state → (k : Kept) × (at copies id ≡ Some k) × (k.copy.state ≡ state)
+some_at copies id state e = by (at copies id) e
+  where
+    by : (o : Option Kept) → option_map (λ k. k.copy.state) o ≡ Some state → (k : Kept) × (o ≡ Some k) × (k.copy.state ≡ state)
+    by (Some k) e = (k, refl, some_value k.copy.state state e)
+    by None e = none_some state e
+
+pub none_at : (copies : ById Kept) (id : ObjectId) → option_map (λ k. k.copy.state) (at copies id) ≡ None → at copies id ≡ None
+none_at copies id e = by (at copies id) e
+  where
+    by : (o : Option Kept) → option_map (λ k. k.copy.state) o ≡ None → o ≡ None
+    by (Some k) e = none_some k.copy.state (sym e)
+    by None e = refl
+
+sealed_is : (state : CopyState) → is_sealed state ≡ true → state ≡ Sealed
+sealed_is Created e = true_false e
+sealed_is Sealed e = refl
+sealed_is Restoring e = true_false e
+sealed_is Fetching e = true_false e
+sealed_is Away e = true_false e
+
+module _ (node : ℕ) (row : Row) (line : WorkLine) (contents : Contents) (session : ℕ) (id : ObjectId) (mine : (id.job.0 == row.job) ≡ true) (h : IsShown row line contents) where
+  abbrev pub s : Shape
+  s = shape_of row line
+
+  abbrev pub x : Input
+  x = input.Call session (command.Get id)
+
+  -- what Get does with what is there
+  abbrev pub by_copy : Option Copy → Change
+  by_copy o = elim o [ None ↦ begin_fetch s id | Some copy ↦ checked s ((copy.doomed, Absent) ∷ []) (get_copy row.order s session id copy) ]
+
+  pub get_is : step row.order s (judge node (seen row line contents) x) ≡ erasing s (by_copy (at s.copies id))
+  get_is =
+      called row line session (command.Get id)
+      ∙ ap (erasing s) (own row line id _ mine ∙ checked-false s false Gone [] (by_copy (at s.copies id)) refl ∙ checked-nil s (by_copy (at s.copies id)))
+
+  module _ (k : Kept) (found : at row.copies id ≡ Some k) where
+    pub get_found : step row.order s (judge node (seen row line contents) x) ≡ erasing s (get_copy row.order s session id k.copy)
+    get_found = get_is ∙ ap (erasing s) (ap by_copy (at-copies_found row.copies id k found) ∙ checked-false s k.copy.doomed Absent [] (get_copy row.order s session id k.copy) (h.plain id k found).doomed ∙ checked-nil s (get_copy row.order s session id k.copy))
+
+    -- what Get does by the state of the copy
+    abbrev pub by_state : CopyState → Change
+    by_state state = elim state [
+      | Created ↦ refused s NotSealed
+      | Sealed ↦ get_sealed s session id k.copy
+      | Restoring ↦ refused s Pending
+      | Fetching ↦ needing s k.copy.fetch Absent (λ fetch. get_fetching row.order s id k.copy fetch fetch.phase)
+      | Away ↦ get_away row.order s id k.copy
+    ]
+
+    pub get_at : (state : CopyState) → k.copy.state ≡ state → step row.order s (judge node (seen row line contents) x) ≡ erasing s (by_state state)
+    get_at state is = get_found ∙ ap (λ st. erasing s (by_state st)) is
+
+    -- where the copy is being written, or is read back
+    pub created_told : k.copy.state ≡ Created → TakesStep node row line contents x (only (reply.Refused NotSealed)) row line
+    created_told is = stays node row line contents h x (reply.Refused NotSealed) (get_at Created is) refl refl
+
+    pub restoring_told : k.copy.state ≡ Restoring → TakesStep node row line contents x (only (reply.Refused Pending)) row line
+    restoring_told is = stays node row line contents h x (reply.Refused Pending) (get_at Restoring is) refl refl
+
+    -- a copy that is away can't be there
+    pub pending_told : is_created k.copy.state ≡ false → is_sealed k.copy.state ≡ false → is_fetching k.copy.state ≡ false → TakesStep node row line contents x (only (reply.Refused Pending)) row line
+    pending_told made sealed fetching = by k.copy.state refl made sealed fetching
+      where
+        by : (state : CopyState) → k.copy.state ≡ state → is_created state ≡ false → is_sealed state ≡ false → is_fetching state ≡ false → TakesStep node row line contents x (only (reply.Refused Pending)) row line
+        by Created is a b f = false_true a
+        by Sealed is a b f = false_true b
+        by Restoring is a b f = restoring_told is
+        by Fetching is a b f = false_true f
+        by Away is a b f = true_false (ap (λ st. is_plain st k.copy.fetch) (sym is) ∙ (h.plain id k found).state)
+
+    module _ (is : is_sealed k.copy.state ≡ true) where
+      abbrev now : Copy
+      now = with_holds k.copy session (holds_of k.copy session + 1)
+
+      abbrev c : Change
+      c = record (replied (set_copy s id now) (reply.Got k.copy.length)) { used = Some id }
+
+      sealed_change : step row.order s (judge node (seen row line contents) x) ≡ erasing s (unless_refused s (hold_check row.copies id) c)
+      sealed_change =
+          get_at Sealed (sealed_is k.copy.state is)
+          ∙ ap (erasing s) (first-check s (nat_le most_holds (all_holds k.copy)) TooMany [] c None c (checked-nil s c)
+          ∙ sym (ap (λ (o : Option Kept). unless_refused s (elim o [ None ↦ Some Absent | Some z ↦ hold_check_of z ]) c) found))
+
+      pub hold_refused : (r : Refusal) → hold_check row.copies id ≡ Some r → TakesStep node row line contents x (only (reply.Refused r)) row line
+      hold_refused r e = stays node row line contents h x (reply.Refused r) (sealed_change ∙ ap (λ o. erasing s (unless_refused s o c)) e) refl refl
+
+      keeps : (z : Kept) → ((held session z).copy.offset ≡ z.copy.offset) × ((held session z).copy.length ≡ z.copy.length)
+      keeps z = (refl, refl)
+
+      abbrev pub row_held : Row
+      row_held = record row { copies = changed (held session) row.copies id; order = touched id row.order }
+
+      copies_is : with_entry (copies_of row.copies) id now ≡ copies_of row_held.copies
+      copies_is = sym (copies-changed (held session) row.copies id k found)
+
+      last : touched id row.order ≡ last_used id row.order
+      last = touched-listed id row.order (h.listed id k found)
+
+      here : is_some (at (copies_of row_held.copies) id) ≡ true
+      here = ap (λ t. is_some (at t id)) (sym copies_is) ∙ ap is_some (at-put_here (copies_of row.copies) id now)
+
+      plain_now : IsPlain now
+      plain_now = let p = h.plain id k found in record { state = p.state; doomed = p.doomed; backed = p.backed; fault = p.fault }
+
+      m : Moves node row line contents h x (erasing s c) (only (reply.Got k.copy.length)) row_held line
+      m = record {
+        shape = ap (λ t. record s { copies = t }) copies_is;
+        order = sym (last ∙ reordered-used row.order (copies_of row_held.copies) id (there_still node row line contents h x id k found (held session) keeps row.order h.there));
+        there = subst (λ ids. AreThere (copies_of row_held.copies) ids) (sym last)
+            (there_last (copies_of row_held.copies) id row.order (there_still node row line contents h x id k found (held session) keeps row.order h.there) here);
+        listed = λ q y e. ap (λ ids. is_among ids q) last ∙ listed_last id q row.order (listed_stay node row line contents h x id k found (held session) keeps row.order h.listed q y e);
+        bytes = bytes_stay node row line contents h x id k found (held session) keeps (erasing s c) refl;
+        digests = digests_stay node row line contents h x id k found (held session) keeps (erasing s c) refl refl (λ e. e);
+        working = works_stay node row line contents h x id k found (held session) keeps refl;
+        plain = plain_stay node row line contents h x id k found (held session) keeps plain_now;
+        reply = refl;
+        erased = sym (ap (map (key_of row.job)) (keys_with (copies_of row.copies) id now));
+      }
+
+      pub hold_done : hold_check row.copies id ≡ None → TakesStep node row line contents x (only (reply.Got k.copy.length)) row_held line
+      hold_done passed = moved node row line contents h x (erasing s c) (sealed_change ∙ ap (λ o. erasing s (unless_refused s o c)) passed) (only (reply.Got k.copy.length)) row_held line m refl

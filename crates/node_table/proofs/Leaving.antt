@@ -1,0 +1,229 @@
+-- A row takes Leave: each of its copies is changed once, by rising id.
+use Rattle.std.proofs.Common.{◌≡◌, ℕ, Bool, true, false, cond, List, [], ◌∷◌, fold, map, take, Option, Some, None, is_some, option_map, unwrap_or, refl, sym, ap, subst, ◌∙◌, T}
+use Rattle.std.specs.Option.{option_map_or, option_and_then}
+use Rattle.std.specs.List.{list_all}
+use Rattle.std.specs.Ordering.{is_eq, is_lt, ordering_reverse}
+use Rattle.std.specs.declared.cmp.Ordering.TheVariants.{Less}
+use Rattle.std.specs.Cmp.{tied_itself}
+use Rattle.std.specs.FinMap.{is_sorted}
+use Rattle.std.specs.FinMap.Entries.{below_all, by_order}
+use Rattle.obj_id.specs.declared.ids.ObjectId.{ObjectId}
+use Rattle.obj_id.specs.declared.commands.Command.TheVariants as command
+use Rattle.obj_id.specs.declared.commands.Reply.TheVariants as reply
+use Rattle.obj_id.specs.Ids.{id_cmp, same_id}
+use Rattle.obj_id.proofs.SameIds.{id_cmp-IsTotalOrder}
+use Rattle.private_store.specs.declared.inputs.Input.{Input}
+use Rattle.private_store.specs.declared.inputs.Input.TheVariants as input
+use Rattle.private_store.specs.Tables.{ById, at, with_entry, ids_of}
+use Rattle.private_store.specs.Shape.{Copy, Shape, Change}
+use Rattle.private_store.specs.Copies.{extent_of}
+use Rattle.private_store.specs.Room.{set_copy}
+use Rattle.private_store.specs.Change.{done, sending, erasing, settled}
+use Rattle.private_store.specs.Commands.{leave, leave_one, at_each, with_holds}
+use Rattle.private_store.specs.Contents.{Contents, judge, keeps_digest, no_digest}
+use Rattle.private_store.specs.Private.{key_of}
+use Rattle.private_store.specs.Step.{step}
+use Rattle.private_store.proofs.Filling.{filled}
+use Rattle.private_store.proofs.KeptLists.{all_weaker}
+use Rattle.private_store.proofs.RefusingLemmas.{keys_none, all_found}
+use Rattle.private_store.proofs.Rows.{at-put, at-put_here}
+use Rattle.private_store.proofs.Tests.{and_left, and_right, both, some_value, none_some, less_is, true_T, T_true}
+use Rattle.job_region.specs.Region.{bytes_at as placed_bytes}
+use Rattle.lru_evictor.specs.Orders.{AreThere}
+use Rattle.lru_evictor.proofs.Reorders.{reordered-unused}
+use Rattle.spill_work.specs.Line.{WorkLine}
+use Rattle.node_table.specs.Entries.{changed, all_changed}
+use Rattle.node_table.specs.Kept.{Kept, left}
+use Rattle.node_table.specs.Row.{Row, copies_of, shape_of, place_of, ArePlaced}
+use Rattle.node_table.specs.Shown.{seen, IsPlain, IsShown, only, TakesStep}
+use Rattle.node_table.proofs.ByChecks.{called}
+use Rattle.node_table.proofs.CopyTables.{at-copies}
+use Rattle.node_table.proofs.Places.{same_places}
+use Rattle.node_table.proofs.Releasing.{settled-stays, plain-holds}
+use Rattle.node_table.proofs.Stepping.{Moves, moved, same_bytes}
+
+-- ---- a table whose entries are changed one after another
+
+module _ {X : Type 0} (f : X → X) where
+  abbrev turns : ById X → List ObjectId → ById X
+  turns es ids = fold (λ t id. changed f t id) es ids
+
+  -- an id above the first is changed among the rest
+  changed-above : (e : ObjectId × X) (es : ById X) (id : ObjectId) → id_cmp e.0 id ≡ Less → changed f (e ∷ es) id ≡ e ∷ changed f es id
+  changed-above e es id less =
+      ap (λ r. option_map_or (λ x. by_order r ((id, f x) ∷ e ∷ es) ((e.0, f x) ∷ es) (e ∷ with_entry es id (f x))) (cond (is_eq r) (Some e.1) (at es id)) (e ∷ es))
+      (id_cmp-IsTotalOrder.antisymm id e.0 ∙ ap ordering_reverse less)
+      ∙ by (at es id)
+    where
+      by : (o : Option X) → option_map_or (λ x. e ∷ with_entry es id (f x)) o (e ∷ es) ≡ e ∷ option_map_or (λ x. with_entry es id (f x)) o es
+      by None = refl
+      by (Some x) = refl
+
+  changed-first : (e : ObjectId × X) (es : ById X) → changed f (e ∷ es) e.0 ≡ (e.0, f e.1) ∷ es
+  changed-first e es =
+      ap (λ r. option_map_or (λ x. by_order r ((e.0, f x) ∷ e ∷ es) ((e.0, f x) ∷ es) (e ∷ with_entry es e.0 (f x))) (cond (is_eq r) (Some e.1) (at es e.0)) (e ∷ es))
+      (tied_itself id_cmp-IsTotalOrder e.0)
+
+  turns-above : (ids : List ObjectId) (e : ObjectId × X) (es : ById X) → T (list_all (λ id. is_lt (id_cmp e.0 id)) ids) → turns (e ∷ es) ids ≡ e ∷ turns es ids
+  turns-above [] e es h = refl
+  turns-above (id ∷ ids) e es h =
+      ap (λ t. turns t ids) (changed-above e es id (less_is (id_cmp e.0 id) (and_left _ _ h)))
+      ∙ turns-above ids e (changed f es id) (and_right (is_lt (id_cmp e.0 id)) _ h)
+
+  below-ids : (id : ObjectId) (es : ById X) → T (below_all id_cmp id es) → T (list_all (λ q. is_lt (id_cmp id q)) (ids_of es))
+  below-ids id [] h = tt
+  below-ids id (e ∷ es) h =
+      T_true _ (both _ _ (true_T _ (and_left (is_lt (id_cmp id e.0)) _ h)) (true_T _ (below-ids id es (and_right (is_lt (id_cmp id e.0)) _ h))))
+
+  -- each once, by rising id
+  turns-all : (es : ById X) → T (is_sorted id_cmp es) → turns es (ids_of es) ≡ all_changed f es
+  turns-all [] h = refl
+  turns-all (e ∷ es) h =
+      ap (λ t. turns t (ids_of es)) (changed-first e es)
+      ∙ turns-above (ids_of es) (e.0, f e.1) es (below-ids e.0 es (and_left (below_all id_cmp e.0 es) _ h))
+      ∙ ap (λ t. (e.0, f e.1) ∷ t) (turns-all es (and_right (below_all id_cmp e.0 es) _ h))
+
+  at-all : (es : ById X) (q : ObjectId) → at (all_changed f es) q ≡ option_map f (at es q)
+  at-all [] q = refl
+  at-all (e ∷ es) q = by (same_id q e.0) (at-all es q)
+    where
+      by : (b : Bool) → at (all_changed f es) q ≡ option_map f (at es q) → cond b (Some (f e.1)) (at (all_changed f es) q) ≡ option_map f (cond b (Some e.1) (at es q))
+      by true h = refl
+      by false h = h
+
+  from_all : (es : ById X) (q : ObjectId) (y : X) → at (all_changed f es) q ≡ Some y → (z : X) × (at es q ≡ Some z) × (y ≡ f z)
+  from_all es q y e = by (at es q) (sym (at-all es q) ∙ e)
+    where
+      by : (o : Option X) → option_map f o ≡ Some y → (z : X) × (o ≡ Some z) × (y ≡ f z)
+      by (Some z) e = (z, refl, sym (some_value (f z) y e))
+      by None e = none_some y e
+
+  -- what is there stays there
+  found_all : (es : ById X) (q : ObjectId) → is_some (at es q) ≡ true → is_some (at (all_changed f es) q) ≡ true
+  found_all es q h = ap is_some (at-all es q) ∙ by (at es q) h
+    where
+      by : (o : Option X) → is_some o ≡ true → is_some (option_map f o) ≡ true
+      by (Some z) h = refl
+      by None h = h
+
+-- ---- the definition
+
+abbrev unheld : ℕ → Copy → Copy
+unheld session copy = with_holds copy session 0
+
+copies-left : (session : ℕ) (es : ById Kept) → copies_of (all_changed (left session) es) ≡ all_changed (unheld session) (copies_of es)
+copies-left session [] = refl
+copies-left session (e ∷ es) = ap (λ t. (e.0, unheld session e.1.copy) ∷ t) (copies-left session es)
+
+from_copies : (es : ById Kept) (q : ObjectId) (copy : Copy) → at (copies_of es) q ≡ Some copy → (k : Kept) × (at es q ≡ Some k) × (k.copy ≡ copy)
+from_copies es q copy e = by (at es q) (sym (at-copies es q) ∙ e)
+  where
+    by : (o : Option Kept) → option_map (λ k. k.copy) o ≡ Some copy → (k : Kept) × (o ≡ Some k) × (k.copy ≡ copy)
+    by (Some k) e = (k, refl, some_value k.copy copy e)
+    by None e = none_some copy e
+
+abbrev NoneDoomed : ById Copy → Type 0
+NoneDoomed es = (q : ObjectId) (copy : Copy) → at es q ≡ Some copy → copy.doomed ≡ false
+
+sound-still : (session : ℕ) (es : ById Copy) (id : ObjectId) → NoneDoomed es → NoneDoomed (changed (unheld session) es id)
+sound-still session es id h = by (at es id) refl
+  where
+    by : (o : Option Copy) → at es id ≡ o → NoneDoomed (option_map_or (λ x. with_entry es id (unheld session x)) o es)
+    by None e = h
+    by (Some x) e = λ q copy found. here q copy (same_id q id) (sym (at-put es id (unheld session x) q) ∙ found)
+      where
+        here : (q : ObjectId) (copy : Copy) (b : Bool) → cond b (Some (unheld session x)) (at es q) ≡ Some copy → copy.doomed ≡ false
+        here q copy true found = ap (λ y. y.doomed) (sym (some_value (unheld session x) copy found)) ∙ h id x e
+        here q copy false found = h q copy found
+
+-- one copy: nothing is removed, and nothing sent
+leaves-one : (session : ℕ) (store : Shape) (id : ObjectId) → NoneDoomed store.copies → sending [] (leave_one session store id) ≡ done (record store { copies = changed (unheld session) store.copies id })
+unfolding sending
+leaves-one session store id h = by (at store.copies id) refl
+  where
+    by : (o : Option Copy) → at store.copies id ≡ o → sending [] (option_map_or (λ copy. done (settled (set_copy store id (unheld session copy)) id)) o (done store)) ≡ done (record store { copies = option_map_or (λ x. with_entry store.copies id (unheld session x)) o store.copies })
+    by None e = refl
+    by (Some copy) e = ap done (settled-stays (set_copy store id (unheld session copy)) id (unheld session copy) (at-put_here store.copies id (unheld session copy)) (h id copy e))
+
+leaves-each : (session : ℕ) (ids : List ObjectId) (store : Shape) → NoneDoomed store.copies → at_each (leave_one session) ids (done store) ≡ done (record store { copies = turns (unheld session) store.copies ids })
+leaves-each session [] store h = refl
+leaves-each session (id ∷ ids) store h =
+    ap (λ c. at_each (leave_one session) ids c) (leaves-one session store id h)
+    ∙ leaves-each session ids (record store { copies = changed (unheld session) store.copies id }) (sound-still session store.copies id h)
+
+-- ---- the step
+
+module _ (node : ℕ) (row : Row) (line : WorkLine) (contents : Contents) (session : ℕ) (h : IsShown row line contents) where
+  abbrev s : Shape
+  s = shape_of row line
+
+  abbrev x : Input
+  x = input.Call session command.Leave
+
+  -- the row without the session's holds
+  abbrev pub row_left : Row
+  row_left = record row { copies = all_changed (left session) row.copies }
+
+  abbrev c : Change
+  c = erasing s (done (shape_of row_left line))
+
+  one : (q : ObjectId) (y : Kept) → at row_left.copies q ≡ Some y → (z : Kept) × (at row.copies q ≡ Some z) × (y ≡ left session z)
+  one = from_all (left session) row.copies
+
+  sound : NoneDoomed s.copies
+  sound q copy found =
+      let k = from_copies row.copies q copy found in
+      ap (λ y. y.doomed) (sym k.2) ∙ (h.plain q k.0 k.1).doomed
+
+  leave-is : leave s session ≡ done (shape_of row_left line)
+  leave-is =
+      leaves-each session (ids_of s.copies) s sound
+      ∙ ap (λ t. done (record s { copies = t })) (turns-all (unheld session) s.copies (T_true _ h.kept.kept.shape.by_id) ∙ sym (copies-left session row.copies))
+
+  step_is : step row.order s (judge node (seen row line contents) x) ≡ c
+  step_is = called row line session command.Leave ∙ ap (erasing s) leave-is
+
+  still : (q : ObjectId) → is_some (at s.copies q) ≡ true → is_some (at (copies_of row_left.copies) q) ≡ true
+  still q t = ap (λ es. is_some (at es q)) (copies-left session row.copies) ∙ found_all (unheld session) s.copies q t
+
+  there : AreThere (copies_of row_left.copies) row.order
+  there = all_weaker (λ q. is_some (at s.copies q)) (λ q. is_some (at (copies_of row_left.copies) q)) row.order still h.there
+
+  keys : T (list_all (λ e. is_some (at (copies_of row_left.copies) e.0)) s.copies)
+  keys = T_true _ (all_weaker (λ e. is_some (at s.copies e.0)) (λ e. is_some (at (copies_of row_left.copies) e.0)) s.copies (λ e. still e.0) (true_T _ (all_found s.copies)))
+
+  m : Moves node row line contents h x c (only reply.Ok) row_left line
+  m = record {
+    shape = refl;
+    order = sym (reordered-unused row.order (copies_of row_left.copies) there);
+    there = there;
+    listed = λ q y e. h.listed q (one q y e).0 (one q y e).1;
+    bytes = λ q y e is lies.
+        let z = one q y is in
+        ap (λ y. filled (at contents.bytes q) y.copy) z.2
+        ∙ same_bytes node row line contents h x q z.0 e z.1 (sym (ap (λ y. extent_of y.copy) z.2) ∙ lies)
+        ∙ ap (λ y. take y.copy.length (placed_bytes e row.window.placed)) (sym z.2);
+    digests = λ q y is keep.
+        let z = one q y is in
+        h.digests q z.0 z.1 (ap (λ y. keeps_digest y.copy) (sym z.2) ∙ keep) ∙ ap (λ y. unwrap_or y.digest no_digest) (sym z.2);
+    working = λ q y is. let z = one q y is in ap (λ y. y.working) z.2 ∙ h.working q z.0 z.1;
+    plain = λ q y is. let z = one q y is in subst (λ y. IsPlain y.copy) (sym z.2) (plain-holds z.0.copy session 0 (h.plain q z.0 z.1));
+    reply = refl;
+    erased = sym (ap (map (key_of row.job)) (keys_none s.copies (copies_of row_left.copies) keys));
+  }
+
+  pub leave_done : TakesStep node row line contents x (only reply.Ok) row_left line
+  leave_done = moved node row line contents h x c step_is (only reply.Ok) row_left line m refl
+
+-- ---- where the copies lie
+
+pub places-left : (session : ℕ) (es : ById Kept) (q : ObjectId) → place_of (all_changed (left session) es) q ≡ place_of es q
+places-left session es q = ap (λ o. option_and_then (λ kept. extent_of kept.copy) o) (at-all (left session) es q) ∙ by (at es q)
+  where
+    by : (o : Option Kept) → option_and_then (λ kept. extent_of kept.copy) (option_map (left session) o) ≡ option_and_then (λ kept. extent_of kept.copy) o
+    by None = refl
+    by (Some k) = refl
+
+pub left_placed : (placed : List (ℕ × List ℕ)) (es : ById Kept) → ArePlaced placed (place_of es) → (session : ℕ) (now : ById Kept) → now ≡ all_changed (left session) es → ArePlaced placed (place_of now)
+left_placed placed es h session now is =
+    subst (λ t. ArePlaced placed (place_of t)) (sym is) (same_places placed (place_of es) (place_of (all_changed (left session) es)) (places-left session es) h)

@@ -1,0 +1,124 @@
+-- A row takes Release.
+use Rattle.std.proofs.Common.{◌≡◌, ℕ, ◌-◌, true, false, cond, ◌==◌, ◌&&◌, [], map, Option, Some, None, option_map, refl, sym, ap, ◌∙◌}
+use Rattle.std.specs.Option.{option_map_or}
+use Rattle.std.specs.Map.{lookup}
+use Rattle.obj_id.specs.declared.ids.ObjectId.{ObjectId}
+use Rattle.obj_id.specs.declared.refusals.Refusal.{Refusal}
+use Rattle.obj_id.specs.declared.refusals.Refusal.TheVariants.{Absent, NotHeld}
+use Rattle.obj_id.specs.declared.commands.Command.TheVariants as command
+use Rattle.obj_id.specs.declared.commands.Reply.TheVariants as reply
+use Rattle.private_store.specs.declared.inputs.Input.{Input}
+use Rattle.private_store.specs.declared.inputs.Input.TheVariants as input
+use Rattle.private_store.specs.Tables.{ById, at}
+use Rattle.private_store.specs.Shape.{Copy, Shape, Change}
+use Rattle.private_store.specs.Copies.{is_idle}
+use Rattle.private_store.specs.Room.{set_copy, drop_copy}
+use Rattle.private_store.specs.Change.{refused, done, erasing, settled}
+use Rattle.private_store.specs.Commands.{release, holds_of, with_holds}
+use Rattle.private_store.specs.Contents.{Contents, judge}
+use Rattle.private_store.specs.Private.{key_of}
+use Rattle.private_store.specs.Step.{step}
+use Rattle.private_store.proofs.Checks.{checked-nil}
+use Rattle.private_store.proofs.ObjectMaps.{is_id, at-lookup}
+use Rattle.private_store.proofs.Rows.{at-put_here}
+use Rattle.private_store.proofs.Tests.{some_value}
+use Rattle.lru_evictor.proofs.Reorders.{reordered-unused}
+use Rattle.spill_work.specs.Line.{WorkLine}
+use Rattle.node_table.specs.Entries.{changed}
+use Rattle.node_table.specs.Kept.{Kept, released}
+use Rattle.node_table.specs.Row.{Row, copies_of, shape_of}
+use Rattle.node_table.specs.Checks.{release_check}
+use Rattle.node_table.specs.Shown.{seen, IsPlain, IsShown, only, TakesStep}
+use Rattle.node_table.proofs.ByChecks.{unless_refused, first-check, in_table, called, own}
+use Rattle.node_table.proofs.CopyTables.{at-copies, at-copies_found, copies-changed}
+use Rattle.node_table.proofs.Passed.{there}
+use Rattle.node_table.proofs.Changing.{there_still, bytes_stay, digests_stay, works_stay, plain_stay, listed_stay, keys_with}
+use Rattle.node_table.proofs.Stepping.{Moves, moved, stays}
+
+-- what isn't doomed stays
+pub settled-stays : (store : Shape) (id : ObjectId) (copy : Copy) → at store.copies id ≡ Some copy → copy.doomed ≡ false → settled store id ≡ store
+settled-stays store id copy found sound =
+    ap (λ o. option_map_or (λ copy. cond (copy.doomed && is_idle store id copy) (drop_copy store id) store) o store) found
+    ∙ ap (λ b. cond (b && is_idle store id copy) (drop_copy store id) store) sound
+
+-- other holds leave a copy plain
+pub plain-holds : (copy : Copy) (session n : ℕ) → IsPlain copy → IsPlain (with_holds copy session n)
+plain-holds copy session n p = record { state = p.state; doomed = p.doomed; backed = p.backed; fault = p.fault }
+
+-- what the check of a copy that a map lends says
+pub check-found : (es now : ById Kept) (session : ℕ) (id : ObjectId) (k : Kept) (r : Option Refusal) → es ≡ now → lookup (is_id id) es ≡ Some k → cond (holds_of k.copy session == 0) (Some NotHeld) None ≡ r → release_check now session id ≡ r
+check-found es now session id k r seen found is =
+    ap (λ t. release_check t session id) (sym seen) ∙ by (at es id) (at-lookup id es ∙ found) ∙ is
+  where
+    by : (o : Option Kept) → o ≡ Some k → ◌≡◌ {A = Option Refusal} (elim o [ None ↦ Some Absent | Some k ↦ cond (holds_of k.copy session == 0) (Some NotHeld) None ]) (cond (holds_of k.copy session == 0) (Some NotHeld) None)
+    by None e = absurd cc
+    by (Some z) e = ap (λ z. cond (holds_of z.copy session == 0) (Some NotHeld) None) (some_value z k e)
+
+module _ (node : ℕ) (row : Row) (line : WorkLine) (contents : Contents) (session : ℕ) (id : ObjectId) (mine : (id.job.0 == row.job) ≡ true) (h : IsShown row line contents) where
+  abbrev s : Shape
+  s = shape_of row line
+
+  abbrev x : Input
+  x = input.Call session (command.Release id)
+
+  -- the copy with a hold less, unless it is doomed
+  abbrev less : Copy → Change
+  less copy = done (settled (set_copy s id (with_holds copy session (holds_of copy session - 1))) id)
+
+  -- what releasing does to the copy that is there
+  abbrev release_done : Change
+  release_done = option_map_or less (at s.copies id) (refused s Absent)
+
+  release-by : release s session id ≡ unless_refused s (release_check row.copies session id) release_done
+  release-by =
+      in_table row line id _ (λ k. cond (holds_of k.copy session == 0) (Some NotHeld) None) release_done (λ k found.
+      first-check s (holds_of k.copy session == 0) NotHeld [] _ None release_done
+      (checked-nil s _ ∙ sym (ap (λ o. option_map_or less o (refused s Absent)) (at-copies row.copies id ∙ ap (option_map (λ k. k.copy)) found))))
+
+  pub release_refused : (r : Refusal) → release_check row.copies session id ≡ Some r → TakesStep node row line contents x (only (reply.Refused r)) row line
+  release_refused r e =
+      stays node row line contents h x (reply.Refused r)
+      (called row line session (command.Release id) ∙ ap (erasing s) (own row line id _ mine ∙ release-by ∙ ap (λ o. unless_refused s o release_done) e)) refl refl
+
+  -- the row with a hold less
+  abbrev pub row_released : Row
+  row_released = record row { copies = changed (released session) row.copies id }
+
+  module _ (k : Kept) (found : at row.copies id ≡ Some k) (passed : release_check row.copies session id ≡ None) where
+    abbrev now : Copy
+    now = (released session k).copy
+
+    abbrev c : Change
+    c = erasing s (done (set_copy s id now))
+
+    keeps : (z : Kept) → ((released session z).copy.offset ≡ z.copy.offset) × ((released session z).copy.length ≡ z.copy.length)
+    keeps z = (refl, refl)
+
+    m : Moves node row line contents h x c (only reply.Ok) row_released line
+    m = record {
+      shape = ap (λ t. record s { copies = t }) (sym (copies-changed (released session) row.copies id k found));
+      order = sym (reordered-unused row.order (copies_of row_released.copies) (there_still node row line contents h x id k found (released session) keeps row.order h.there));
+      there = there_still node row line contents h x id k found (released session) keeps row.order h.there;
+      listed = listed_stay node row line contents h x id k found (released session) keeps row.order h.listed;
+      bytes = bytes_stay node row line contents h x id k found (released session) keeps c refl;
+      digests = digests_stay node row line contents h x id k found (released session) keeps c refl refl (λ keep. keep);
+      working = works_stay node row line contents h x id k found (released session) keeps refl;
+      plain = plain_stay node row line contents h x id k found (released session) keeps (plain-holds k.copy session (holds_of k.copy session - 1) (h.plain id k found));
+      reply = refl;
+      erased = sym (ap (map (key_of row.job)) (keys_with (copies_of row.copies) id now));
+    }
+
+    step_is : step row.order s (judge node (seen row line contents) x) ≡ c
+    step_is =
+        called row line session (command.Release id)
+        ∙ ap (erasing s) (own row line id _ mine ∙ release-by ∙ ap (λ o. unless_refused s o release_done) passed
+        ∙ ap (λ o. option_map_or less o (refused s Absent)) (at-copies_found row.copies id k found)
+        ∙ ap done (settled-stays (set_copy s id now) id now (at-put_here (copies_of row.copies) id now) ((h.plain id k found).doomed)))
+
+    released_there : TakesStep node row line contents x (only reply.Ok) row_released line
+    released_there = moved node row line contents h x c step_is (only reply.Ok) row_released line m refl
+
+  pub release_done_so : release_check row.copies session id ≡ None → TakesStep node row line contents x (only reply.Ok) row_released line
+  release_done_so passed =
+      let k = there (λ k. cond (holds_of k.copy session == 0) (Some NotHeld) None) Absent (at row.copies id) passed in
+      released_there k.0 k.1 passed

@@ -1,0 +1,169 @@
+-- A row takes Write and Read.
+use Rattle.std.proofs.Common.{◌≡◌, ◌≢◌, ℕ, ◌+◌, ◌-◌, ◌≤◌, Bool, true, false, cond, ◌==◌, List, [], ◌∷◌, ◌++◌, map, take, drop, length, Option, Some, None, is_some, unwrap_or, nat_eq, refl, sym, ap, subst, ◌∙◌, arith}
+use Rattle.std.specs.Map.{set_value}
+use Rattle.obj_id.specs.declared.ids.ObjectId.{ObjectId}
+use Rattle.obj_id.specs.declared.works.Extent.{Extent}
+use Rattle.obj_id.specs.declared.refusals.Refusal.{Refusal}
+use Rattle.obj_id.specs.declared.commands.Command.{Command}
+use Rattle.obj_id.specs.declared.commands.Command.TheVariants as command
+use Rattle.obj_id.specs.declared.commands.Reply.{Reply}
+use Rattle.obj_id.specs.declared.commands.Reply.TheVariants as reply
+use Rattle.obj_id.specs.Ids.{same_id}
+use Rattle.obj_id.proofs.SameIds.{same_id-equal, same_id-itself}
+use Rattle.private_store.specs.declared.inputs.Input.{Input}
+use Rattle.private_store.specs.declared.inputs.Input.TheVariants as input
+use Rattle.private_store.specs.Tables.{ById, at, with_entry}
+use Rattle.private_store.specs.Shape.{Shape}
+use Rattle.private_store.specs.Copies.{extent_of}
+use Rattle.private_store.specs.Change.{replied, done, erasing}
+use Rattle.private_store.specs.Contents.{Contents, bytes_at, overwritten}
+use Rattle.std.specs.Ordering.{nat_cmp}
+use Rattle.std.specs.FinMap.{find}
+use Rattle.private_store.specs.Kept.{are_held}
+use Rattle.private_store.specs.Copies.{is_sealed}
+use Rattle.private_store.proofs.Tests.{some_value, true_false}
+use Rattle.private_store.proofs.Filling.{filled}
+use Rattle.private_store.proofs.RefusingLemmas.{keys_none, all_found}
+use Rattle.private_store.proofs.Rows.{at-put}
+use Rattle.private_store.specs.Private.{key_of}
+use Rattle.job_region.specs.Region.{bytes_at as placed_bytes}
+use Rattle.job_region.proofs.Parts.{part_over_within}
+use Rattle.lru_evictor.proofs.Reorders.{reordered-unused}
+use Rattle.spill_work.specs.Line.{WorkLine}
+use Rattle.node_table.specs.Kept.{Kept}
+use Rattle.node_table.specs.Row.{Row, copies_of, shape_of, place_of, ArePlaced}
+use Rattle.node_table.specs.Checks.{write_check, read_check}
+use Rattle.node_table.specs.Shown.{seen, IsShown, Given, only, TakesStep}
+use Rattle.node_table.proofs.ByChecks.{unless_refused, called, own, write-by, read-by}
+use Rattle.node_table.proofs.CopyTables.{at-copies_found}
+use Rattle.node_table.proofs.Passed.{IsWritten, write_passed, IsRead, read_passed, placed_at, place_found, created_resides, sealed_resides, at_most_rounded}
+use Rattle.node_table.proofs.Places.{bytes-written, bytes-other, long_at}
+use Rattle.node_table.proofs.Stepping.{Moves, moved, stays, same_bytes}
+
+-- a session that has a hold is among the holds
+some_hold : (session : ℕ) (holds : List (ℕ × ℕ)) → (unwrap_or (find nat_cmp session holds) 0 == 0) ≡ false → are_held holds ≡ true
+some_hold session [] e = absurd cc
+some_hold session (hold ∷ holds) e = refl
+
+module _ (node : ℕ) (row : Row) (line : WorkLine) (contents : Contents) (session : ℕ) (id : ObjectId) (offset : ℕ) (mine : (id.job.0 == row.job) ≡ true) (h : IsShown row line contents) where
+  abbrev s : Shape
+  s = shape_of row line
+
+  module _ (bytes : List ℕ) where
+    abbrev x : Input
+    x = input.Call session (command.Write id offset bytes)
+
+    pub write_refused : (r : Refusal) → write_check row.copies id offset (length bytes) ≡ Some r → TakesStep node row line contents x (only (reply.Refused r)) row line
+    write_refused r e =
+        stays node row line contents h x (reply.Refused r)
+        (called row line session (command.Write id offset (length bytes)) ∙ ap (erasing s) (own row line id _ mine ∙ write-by row line id offset (length bytes) ∙ ap (λ o. unless_refused s o (done s)) e)) refl refl
+
+    module _ (passed : write_check row.copies id offset (length bytes) ≡ None) where
+      abbrev w : IsWritten row.copies id offset (length bytes)
+      w = write_passed row.copies id offset (length bytes) passed
+
+      abbrev resident : is_some w.copy.copy.offset ≡ true
+      resident = (h.kept.kept.shape.each id w.copy.copy (at-copies_found row.copies id w.copy w.found)).resident ∙ created_resides w.copy.copy.state w.copy.copy.fetch w.created
+
+      abbrev e : Extent
+      e = (placed_at w.copy.copy resident).0
+
+      lies : extent_of w.copy.copy ≡ Some e
+      lies = (placed_at w.copy.copy resident).1
+
+      is_place : place_of row.copies id ≡ Some e
+      is_place = place_found row.copies id w.copy w.found ∙ lies
+
+      fits : offset + length bytes ≤ e.length
+      fits = let a = at_most_rounded w.copy.copy.length in let b = (placed_at w.copy.copy resident).2 in omega (arith, a, b, w.within)
+
+      abbrev old_bytes : List ℕ
+      old_bytes = placed_bytes e row.window.placed
+
+      -- the row with the bytes written
+      abbrev pub wrote : Row
+      wrote = record row { window = record row.window { placed = set_value (nat_eq e.offset) row.window.placed (overwritten old_bytes offset bytes) } }
+
+      pub put_so : (new : Row)
+          → ((e : Extent) → place_of row.copies id ≡ Some e → offset + length bytes ≤ e.length → new ≡ record row { window = record row.window { placed = set_value (nat_eq e.offset) row.window.placed (overwritten (placed_bytes e row.window.placed) offset bytes) } })
+          → new ≡ wrote
+      put_so new put = put e is_place fits
+
+      module _ (placed : ArePlaced row.window.placed (place_of row.copies)) where
+        long : length old_bytes ≡ e.length
+        long = long_at row.window.placed e (placed.there id e is_place)
+
+        -- what is written shows in the copy's own bytes
+        here : take w.copy.copy.length (overwritten old_bytes offset bytes) ≡ overwritten (bytes_at contents.bytes id) offset bytes
+        here =
+            let a = at_most_rounded w.copy.copy.length in
+            let b = (placed_at w.copy.copy resident).2 in
+            let z : offset ≡ 0 + offset = omega arith in
+            ap (λ o. take w.copy.copy.length (overwritten old_bytes o bytes)) z
+            ∙ part_over_within old_bytes (record { offset = 0; length = w.copy.copy.length }) offset bytes (omega (arith, a, b, long)) w.within
+            ∙ ap (λ bs. overwritten bs offset bytes) (sym (h.bytes id w.copy e w.found lies))
+
+        here_now : (k : Kept) (f : Extent) → at row.copies id ≡ Some k → extent_of k.copy ≡ Some f → filled (Some (overwritten (bytes_at contents.bytes id) offset bytes)) k.copy ≡ take k.copy.length (placed_bytes f wrote.window.placed)
+        here_now k f found place =
+            let is : k ≡ w.copy = some_value k w.copy (sym found ∙ w.found) in
+            let at_e : f ≡ e = some_value f e (sym place ∙ ap (λ k. extent_of k.copy) is ∙ lies) in
+            sym (ap (λ k. take k.copy.length (placed_bytes f wrote.window.placed)) is
+            ∙ ap (λ g. take w.copy.copy.length (placed_bytes g wrote.window.placed)) at_e
+            ∙ ap (take w.copy.copy.length) (bytes-written row.window.placed e (placed.there id e is_place) (overwritten old_bytes offset bytes))
+            ∙ here)
+
+        elsewhere : (q : ObjectId) (k : Kept) (f : Extent) → same_id q id ≡ false → at row.copies q ≡ Some k → extent_of k.copy ≡ Some f → filled (at contents.bytes q) k.copy ≡ take k.copy.length (placed_bytes f wrote.window.placed)
+        elsewhere q k f differ found place =
+            same_bytes node row line contents h x q k f found place
+            ∙ ap (take k.copy.length) (sym (bytes-other row.window.placed e (placed.there id e is_place) (overwritten old_bytes offset bytes) f (λ same.
+            true_false (sym differ ∙ ap (λ y. same_id y id) (sym (placed.apart id q e f is_place (place_found row.copies q k found ∙ place) same)) ∙ same_id-itself id))))
+
+        pub write_done : TakesStep node row line contents x (only reply.Ok) wrote line
+        write_done =
+            moved node row line contents h x (erasing s (done s))
+            (called row line session (command.Write id offset (length bytes)) ∙ ap (erasing s) (own row line id _ mine ∙ write-by row line id offset (length bytes) ∙ ap (λ o. unless_refused s o (done s)) passed))
+            (only reply.Ok) wrote line (record {
+              shape = refl;
+              order = sym (reordered-unused row.order (copies_of row.copies) h.there);
+              there = h.there;
+              listed = h.listed;
+              bytes = λ q k f found place.
+                  ap (λ o. filled o k.copy) (at-put contents.bytes id (overwritten (bytes_at contents.bytes id) offset bytes) q)
+                  ∙ (elim (same_id q id) as (λ b. same_id q id ≡ b → filled (cond b (Some (overwritten (bytes_at contents.bytes id) offset bytes)) (at contents.bytes q)) k.copy ≡ take k.copy.length (placed_bytes f wrote.window.placed)) [
+                    | true ↦ λ t. here_now k f (ap (at row.copies) (sym (same_id-equal q id t)) ∙ found) place
+                    | false ↦ λ t. elsewhere q k f t found place
+                  ]) refl;
+              digests = h.digests;
+              plain = h.plain;
+              working = h.working;
+              reply = refl;
+              erased = sym (ap (map (key_of row.job)) (keys_none (copies_of row.copies) (copies_of row.copies) (all_found (copies_of row.copies))));
+            }) refl
+
+  module _ (n : ℕ) where
+    abbrev y : Input
+    y = input.Call session (command.Read id offset n)
+
+    pub read_refused : (r : Refusal) → read_check row.copies session id offset n ≡ Some r → TakesStep node row line contents y (only (reply.Refused r)) row line
+    read_refused r e =
+        stays node row line contents h y (reply.Refused r)
+        (called row line session (command.Read id offset n) ∙ ap (erasing s) (own row line id _ mine ∙ read-by row line id session offset n ∙ ap (λ o. unless_refused s o (replied s (reply.Bytes n))) e)) refl refl
+
+    module _ (passed : read_check row.copies session id offset n ≡ None) where
+      abbrev got : IsRead row.copies session id offset n
+      got = read_passed row.copies session id offset n passed
+
+      pub read_done : (told : List ℕ) → told ≡ take n (drop offset (bytes_at contents.bytes id)) → TakesStep node row line contents y (only (reply.Bytes told)) row line
+      read_done told is = subst (λ bs. TakesStep node row line contents y (only (reply.Bytes bs)) row line) (sym is)
+          (stays node row line contents h y (reply.Bytes n)
+          (called row line session (command.Read id offset n) ∙ ap (erasing s) (own row line id _ mine ∙ read-by row line id session offset n ∙ ap (λ o. unless_refused s o (replied s (reply.Bytes n))) passed)) refl refl)
+
+      -- what is held is sealed
+      held_sealed : is_sealed got.copy.copy.state ≡ true
+      held_sealed = (h.kept.kept.shape.each id got.copy.copy (at-copies_found row.copies id got.copy got.found)).held (some_hold session got.copy.copy.holds got.held)
+
+      pub read_found : (shown : List ℕ) → ((k : Kept) (e : Extent) → at row.copies id ≡ Some k → extent_of k.copy ≡ Some e → shown ≡ take k.copy.length (placed_bytes e row.window.placed)) → shown ≡ bytes_at contents.bytes id
+      read_found shown are =
+          let resident = (h.kept.kept.shape.each id got.copy.copy (at-copies_found row.copies id got.copy got.found)).resident ∙ sealed_resides got.copy.copy.state got.copy.copy.fetch held_sealed in
+          let p = placed_at got.copy.copy resident in
+          are got.copy p.0 got.found p.1 ∙ sym (h.bytes id got.copy p.0 got.found p.1)

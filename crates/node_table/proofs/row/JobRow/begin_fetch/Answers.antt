@@ -1,0 +1,35 @@
+use Rattle.std.proofs.Common.{◌≡◌, ℕ, ◌+◌, [], Some, None, sym, ap, subst, ◌∙◌}
+use Rattle.obj_id.specs.declared.refusals.Refusal.TheVariants.{Pending}
+use Rattle.obj_id.specs.declared.commands.Command.TheVariants as command
+use Rattle.obj_id.specs.declared.commands.Reply.TheVariants as reply
+use Rattle.private_store.specs.declared.inputs.Input.TheVariants as input
+use Rattle.node_table.specs.Checks.{fetch_check}
+use Rattle.obj_id.specs.declared.ids.ObjectId.{ObjectId}
+use Rattle.obj_id.specs.declared.messages.DirectoryMessage.TheVariants.{Locate}
+use Rattle.private_store.specs.Tables.{with_entry}
+use Rattle.private_store.specs.Private.{to_directory}
+use Rattle.lru_evictor.specs.Orders.{last_used}
+use Rattle.node_table.specs.Kept.{fetched_kept}
+use Rattle.node_table.specs.Row.{Row}
+use Rattle.node_table.specs.Shown.{only, TakesStep}
+use Rattle.node_table.proofs.Fetching.{fetch_refused, fetch_done}
+use Rattle.node_table.proofs.row.JobRow.begin_fetch.Goals as goal
+
+pub returns-in-Some-clause-ok : goal.returns-in-Some-clause-ok
+returns-in-Some-clause-ok c session line contents mine h =
+    subst (λ told. TakesStep c.args.node c.args.self.now line contents (input.Call session (command.Get c.args.id.now)) told c.args.self.now line) (sym c.only.ensures)
+    (fetch_refused c.args.node c.args.self.now line contents session c.args.id.now mine h c.requires c.in-Some.refusal
+    (ap (λ n. fetch_check c.args.self.now.copies n) (sym c.fetches_begun-begun.ensures) ∙ ap (λ t. fetch_check t c.fetches_begun-begun.result) (sym c.copies.ensures.copies) ∙ sym c.fetch_check.ensures ∙ c.in-Some.is))
+
+pub returns-clause-ok : goal.returns-clause-ok
+returns-clause-ok c session line contents mine h =
+    let begun = c.fetches_begun-begun.ensures in
+    let passed = ap (λ n. fetch_check c.args.self.now.copies n) (sym begun) ∙ ap (λ t. fetch_check t c.fetches_begun-begun.result) (sym c.copies.ensures.copies) ∙ sym c.fetch_check.ensures ∙ c.in_default.is in
+    let row = c.in_ok-enter_fetch.ensures.ok ∙ ap (λ n. entered c.args.self.now c.args.id.now (n + 1)) begun in
+    let sent = c.in_ok-messages.ensures ∙ ap (λ n. to_directory (Locate c.args.id.now c.args.node (n + 1))) begun in
+    subst (λ r. TakesStep c.args.node c.args.self.now line contents (input.Call session (command.Get c.args.id.now)) (record { reply = reply.Refused Pending; posts = c.in_ok-messages.messages; erased = [] }) r line) (sym row)
+    (subst (λ ms. TakesStep c.args.node c.args.self.now line contents (input.Call session (command.Get c.args.id.now)) (record { reply = reply.Refused Pending; posts = ms; erased = [] }) (entered c.args.self.now c.args.id.now (c.args.self.now.fetches_begun + 1)) line) (sym sent)
+    (fetch_done c.args.node c.args.self.now line contents session c.args.id.now mine h c.requires passed))
+  where
+    entered : Row → ObjectId → ℕ → Row
+    entered row id number = record row { copies = with_entry row.copies id (fetched_kept number); order = last_used id row.order; fetches_begun = number }

@@ -1,0 +1,32 @@
+use Rattle.std.proofs.Common.{◌≡◌, List, None, refl, sym, ap, subst, ◌∙◌}
+use Rattle.obj_id.specs.declared.ids.ObjectId.{ObjectId}
+use Rattle.lru_evictor.specs.Orders.{order_of}
+use Rattle.private_store.specs.Tables.{ById, at, with_entry, without_entry}
+use Rattle.node_table.specs.Kept.{Kept, fetched_kept}
+use Rattle.node_table.specs.Row.{Row, place_of, ArePlaced}
+use Rattle.node_table.proofs.Changes.{put_back, of_err}
+use Rattle.node_table.proofs.Places.{entered_placed}
+use Rattle.node_table.proofs.row.JobRow.enter_fetch.Goals as goal
+
+pub invariant_of-self-then-is_err : goal.invariant_of-self-then-is_err
+invariant_of-self-then-is_err c =
+    let none : at c.self.inside.copies c.args.id.now ≡ None = ap (λ r. at r.copies c.args.id.now) c.self.view_is ∙ c.requires in
+    let back = c.remove.ensures ∙ ap (λ t. without_entry t c.args.id.now) c.in_ok-insert.ensures.ok ∙ put_back c.args.id.now c.self.inside.copies _ none in
+    subst (λ t. ArePlaced c.self.inside.window.placed (place_of t)) (sym back) c.self.invariant
+
+pub invariant_of-self-2 : goal.invariant_of-self-2
+invariant_of-self-2 c =
+    let none : at c.self.inside.copies c.args.id.now ≡ None = ap (λ r. at r.copies c.args.id.now) c.self.view_is ∙ c.requires in
+    entered_placed c.self.inside.window.placed c.self.inside.copies c.args.id.now (fetched_kept c.args.number) c.insert.new.self none refl
+    (c.in_ok-insert.ensures.ok ∙ ap (with_entry c.self.inside.copies c.args.id.now) c.fetching.ensures) c.self.invariant
+
+pub returns-then-is_err-clause-err : goal.returns-then-is_err-clause-err
+returns-then-is_err-clause-err c =
+    let none : at c.self.inside.copies c.args.id.now ≡ None = ap (λ r. at r.copies c.args.id.now) c.self.view_is ∙ c.requires in
+    let back = c.remove.ensures ∙ ap (λ t. without_entry t c.args.id.now) c.in_ok-insert.ensures.ok ∙ put_back c.args.id.now c.self.inside.copies _ none in
+    let undone = of_err c.enter.result c.enter.ensures.err (sym c.is_err.ensures.value ∙ c.if-is_err.true) in
+    ap (λ (t : ById Kept). row_of t (order_of c.self.inside.job.0 c.enter.new.self)) back
+    ∙ ap (λ o. row_of c.self.inside.copies (order_of c.self.inside.job.0 o)) undone ∙ c.self.view_is
+  where
+    row_of : ById Kept → List ObjectId → Row
+    row_of copies order = record { job = c.self.inside.job.0; window = c.self.inside.window; device = c.self.inside.device; copies = copies; order = order; fetches_begun = c.self.inside.fetches_begun }

@@ -1,0 +1,7 @@
+use Rattle.std.proofs.Common.{refl}
+use Rattle.node_table.specs.Kept.{held}
+use Rattle.node_table.proofs.Places.{now_placed}
+use Rattle.node_table.proofs.row.JobRow.hold_copy.Goals as goal
+
+pub invariant_of-self-2 : goal.invariant_of-self-2
+invariant_of-self-2 c = now_placed c.self.inside.window.placed c.self.inside.copies c.self.invariant (held c.args.session) (λ z. refl) c.args.id.now c.hold.new.self c.in_ok-hold.ensures.ok

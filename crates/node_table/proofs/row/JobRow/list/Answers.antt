@@ -1,0 +1,8 @@
+use Rattle.std.proofs.Common.{ap, ◌∙◌, map}
+use Rattle.node_table.specs.Usages.{item_of}
+use Rattle.node_table.proofs.Telling.{list_done}
+use Rattle.node_table.proofs.row.JobRow.list.Goals as goal
+
+pub returns : goal.returns
+returns c node session line contents h =
+    list_done node c.args.self.now line contents session h c.in_ok-own.own c.new.result (c.in_ok-own.ensures ∙ ap (map item_of) c.copies.ensures.copies) c.new.ensures

@@ -1,0 +1,57 @@
+-- Why a command can't be carried out, in the order of its checks; its own job's object is meant.
+use Rattle.std.specs.Prelude.{ℕ, ◌+◌, ◌==◌, nat_lt, nat_le, not, length, if◌then◌else◌, Option, Some, None}
+use Rattle.obj_id.specs.declared.ids.ObjectId.{ObjectId}
+use Rattle.obj_id.specs.declared.refusals.Refusal.{Refusal}
+use Rattle.obj_id.specs.declared.refusals.Refusal.TheVariants.{BadSize, Absent, AlreadySealed, NotSealed, NotHeld, OutOfBounds, TooMany}
+use Rattle.private_store.specs.Limits.{most_bytes, most_holds, most_copies, has_numbers}
+use Rattle.private_store.specs.Tables.{ById, at}
+use Rattle.private_store.specs.Copies.{is_created}
+use Rattle.private_store.specs.Commands.{holds_of, all_holds, is_unsealed}
+use Rattle.node_table.specs.Kept.{Kept}
+
+-- of a copy that is there
+abbrev pub write_check_of : Kept → ℕ → ℕ → Option Refusal
+write_check_of kept offset n =
+    if kept.copy.doomed then Some Absent else
+    (if not (is_created kept.copy.state) then Some AlreadySealed else
+    (if nat_lt kept.copy.length (offset + n) then Some OutOfBounds else None))
+
+abbrev pub write_check : ById Kept → ObjectId → ℕ → ℕ → Option Refusal
+write_check copies id offset n =
+    if nat_lt most_bytes n then Some BadSize else
+    elim (at copies id) [ None ↦ Some Absent | Some kept ↦ write_check_of kept offset n ]
+
+abbrev pub seal_check_of : Kept → Option Refusal
+seal_check_of kept =
+    if kept.copy.doomed then Some Absent else
+    (if not (is_created kept.copy.state) then Some AlreadySealed else None)
+
+abbrev pub seal_check : ById Kept → ObjectId → Option Refusal
+seal_check copies id = elim (at copies id) [ None ↦ Some Absent | Some kept ↦ seal_check_of kept ]
+
+abbrev pub read_check_of : Kept → ℕ → ℕ → ℕ → Option Refusal
+read_check_of kept session offset n =
+    if is_unsealed kept.copy.state then Some NotSealed else
+    (if holds_of kept.copy session == 0 then Some NotHeld else
+    (if nat_lt kept.copy.length (offset + n) then Some OutOfBounds else None))
+
+abbrev pub read_check : ById Kept → ℕ → ObjectId → ℕ → ℕ → Option Refusal
+read_check copies session id offset n =
+    if nat_lt most_bytes n then Some BadSize else
+    elim (at copies id) [ None ↦ Some Absent | Some kept ↦ read_check_of kept session offset n ]
+
+abbrev pub release_check : ById Kept → ℕ → ObjectId → Option Refusal
+release_check copies session id =
+    elim (at copies id) [ None ↦ Some Absent | Some kept ↦ if holds_of kept.copy session == 0 then Some NotHeld else None ]
+
+abbrev pub hold_check_of : Kept → Option Refusal
+hold_check_of kept = if nat_le most_holds (all_holds kept.copy) then Some TooMany else None
+
+abbrev pub hold_check : ById Kept → ObjectId → Option Refusal
+hold_check copies id = elim (at copies id) [ None ↦ Some Absent | Some kept ↦ hold_check_of kept ]
+
+-- whether another copy is too many, or no number is left for its fetch
+abbrev pub fetch_check : ById Kept → ℕ → Option Refusal
+fetch_check copies begun =
+    if nat_le most_copies (length copies) then Some TooMany else
+    (if has_numbers begun 1 then None else Some TooMany)

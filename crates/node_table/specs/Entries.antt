@@ -1,0 +1,13 @@
+-- A change of one entry of a table by object, or of each.
+use Rattle.std.specs.Prelude.{map}
+use Rattle.std.specs.Option.{option_map_or}
+use Rattle.obj_id.specs.declared.ids.ObjectId.{ObjectId}
+use Rattle.private_store.specs.Tables.{ById, at, with_entry}
+
+-- the entry of the id changed, if there is one
+abbrev pub changed : {X : Type 0} → (X → X) → ById X → ObjectId → ById X
+changed f table id = option_map_or (λ x. with_entry table id (f x)) (at table id) table
+
+-- each entry changed
+abbrev pub all_changed : {X : Type 0} → (X → X) → ById X → ById X
+all_changed f table = map (λ e. (e.0, f e.1)) table

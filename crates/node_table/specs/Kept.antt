@@ -1,0 +1,104 @@
+-- One copy as its row keeps it: the store's copy, its digest, and which work is in flight for it.
+use Rattle.std.specs.Prelude.{◌≡◌, ℕ, ◌+◌, ◌-◌, Bool, true, false, not, ◌&&◌, ◌||◌, Option, Some, None, is_some, is_none, option_map}
+use Rattle.std.specs.Option.{option_map_or}
+use Rattle.obj_id.specs.declared.commands.Kind.{Kind}
+use Rattle.obj_id.specs.declared.commands.CopyState.{CopyState}
+use Rattle.obj_id.specs.declared.commands.CopyState.TheVariants.{Sealed, Restoring, Away}
+use Rattle.obj_id.specs.declared.messages.Digest.{Digest}
+use Rattle.obj_id.specs.declared.works.Extent.{Extent}
+use Rattle.obj_id.specs.declared.works.WorkKind.{WorkKind}
+use Rattle.obj_id.specs.declared.works.WorkKind.TheVariants.{Write, Read}
+use Rattle.private_store.specs.Extents.{rounded}
+use Rattle.private_store.specs.Shape.{Copy, Fetch}
+use Rattle.private_store.specs.Copies.{extent_of, is_sealed, is_primary, is_away}
+use Rattle.private_store.specs.Commands.{new_copy, fetched_copy, with_holds, holds_of}
+use Rattle.object_state.specs.Marks.{Marks}
+use Rattle.pins_holds.specs.Pinned.{Pinned}
+use Rattle.fetch_core.specs.Fetching.{Fetching, pull_begun}
+
+pub record Kept : Type 0 where
+  pub copy : Copy
+  -- from the seal, or from the source that a fetch chose
+  pub digest : Option Digest
+  -- the work in flight that writes it or reads it back
+  pub working : Option WorkKind
+
+-- a fetch, without the length and the digest that stand in the copy as well
+abbrev pub fetch_of : Fetching → Fetch
+fetch_of fetch = record { number = fetch.number; phase = fetch.phase }
+
+-- the copy that has these marks, pins, place and fetch
+abbrev pub kept_of : Marks → Pinned → Option ℕ → Option Fetching → Kept
+kept_of marks pins offset fetch =
+    record {
+      copy = record {
+        state = marks.state;
+        kind = marks.kind;
+        length = marks.length;
+        offset = offset;
+        pinned = pins.pinned;
+        borrowers = pins.borrowers;
+        holds = pins.holds;
+        backed = marks.backed;
+        doomed = marks.doomed;
+        fault = marks.fault;
+        fetch = option_map fetch_of fetch;
+      };
+      digest = marks.digest;
+      working = marks.working;
+    }
+
+-- marks and fetch say the same of what both know
+pub record Agrees (marks : Marks) (pins : Pinned) (fetch : Option Fetching) : Type 0 where
+  pub kind : pins.kind ≡ marks.kind
+  pub length : option_map_or (λ f. f.length) fetch marks.length ≡ marks.length
+
+-- ---- new copies
+
+-- a copy to be written
+abbrev pub new_kept : Kind → ℕ → ℕ → Kept
+new_kept kind n offset = record { copy = new_copy kind n offset; digest = None; working = None }
+
+-- a copy that is on its way, its source not known yet
+abbrev pub fetched_kept : ℕ → Kept
+fetched_kept number = record { copy = fetched_copy number; digest = None; working = None }
+
+-- ---- which change a copy can take
+
+-- a sealed primary without bytes on the device, and no work of it
+abbrev pub can_spill : Kept → Bool
+can_spill kept = is_sealed kept.copy.state && is_primary kept.copy.kind && is_none kept.copy.backed && is_none kept.working
+
+-- sealed, with its bytes on the device
+abbrev pub can_go_away : Kept → Bool
+can_go_away kept = is_sealed kept.copy.state && is_some kept.copy.backed
+
+-- on the device alone, with no fault to tell of
+abbrev pub can_restore : Kept → Bool
+can_restore kept = is_away kept.copy.state && is_none kept.copy.fault
+
+-- ---- the changes
+
+abbrev pub held : ℕ → Kept → Kept
+held session kept = record kept { copy = with_holds kept.copy session (holds_of kept.copy session + 1) }
+
+abbrev pub released : ℕ → Kept → Kept
+released session kept = record kept { copy = with_holds kept.copy session (holds_of kept.copy session - 1) }
+
+abbrev pub left : ℕ → Kept → Kept
+left session kept = record kept { copy = with_holds kept.copy session 0 }
+
+abbrev pub sealed : Digest → Kept → Kept
+sealed digest kept = record kept { copy = record kept.copy { state = Sealed }; digest = Some digest }
+
+abbrev pub spilling : Kept → Kept
+spilling kept = record kept { working = Some Write }
+
+abbrev pub gone_away : Kept → Kept
+gone_away kept = record kept { copy = record kept.copy { state = Away; offset = None } }
+
+abbrev pub restoring : ℕ → Kept → Kept
+restoring offset kept = record kept { copy = record kept.copy { state = Restoring; offset = Some offset }; working = Some Read }
+
+abbrev pub fault_told : Kept → Kept
+fault_told kept = record kept { copy = record kept.copy { fault = None } }

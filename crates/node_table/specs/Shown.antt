@@ -1,0 +1,79 @@
+-- Which contents a row shows of its job's store, and what it is that a row takes the private step.
+use Rattle.std.specs.Prelude.{◌≡◌, ℕ, Bool, true, false, is_none, None, if◌then◌else◌, List, [], find, take, Option, Some, unwrap_or, option_map}
+use Rattle.obj_id.specs.declared.ids.ObjectId.{ObjectId}
+use Rattle.obj_id.specs.declared.works.DeviceKey.{DeviceKey}
+use Rattle.obj_id.specs.declared.works.Extent.{Extent}
+use Rattle.obj_id.specs.declared.works.WorkKind.{WorkKind}
+use Rattle.obj_id.specs.declared.works.WorkKind.TheVariants.{Write, Read}
+use Rattle.obj_id.specs.declared.commands.Reply.{Reply}
+use Rattle.obj_id.specs.Ids.{same_id}
+use Rattle.private_store.specs.declared.inputs.Input.{Input}
+use Rattle.private_store.specs.Tables.{at, is_among}
+use Rattle.std.specs.Option.{option_map_or}
+use Rattle.obj_id.specs.declared.commands.CopyState.{CopyState}
+use Rattle.obj_id.specs.declared.commands.CopyState.TheVariants.{Created, Sealed, Fetching}
+use Rattle.private_store.specs.Shape.{Copy, Fetch, WorkInFlight}
+use Rattle.private_store.specs.Copies.{extent_of}
+use Rattle.private_store.specs.Contents.{Contents, View, bytes_at, digest_at, keeps_digest, no_digest, is_locating}
+use Rattle.private_store.specs.Private.{Post, view_step}
+use Rattle.private_store.specs.Kept.{IsViewKept}
+use Rattle.job_region.specs.Region.{bytes_at as placed_bytes}
+use Rattle.lru_evictor.specs.Orders.{AreThere}
+use Rattle.spill_work.specs.Line.{WorkLine, works_of}
+use Rattle.node_table.specs.Kept.{Kept}
+use Rattle.node_table.specs.Row.{Row, copies_of, shape_of}
+
+-- the work that is in flight for an object, if there is one
+abbrev pub work_on : List WorkInFlight → ObjectId → Option WorkKind
+work_on works id = option_map (λ w. if w.writes then Write else Read) (find (λ w. same_id id w.id) works)
+
+abbrev pub is_plain : CopyState → Option Fetch → Bool
+is_plain Created fetch = is_none fetch
+is_plain Sealed fetch = is_none fetch
+is_plain Fetching fetch = option_map_or (λ f. is_locating f.phase) fetch false
+is_plain _ fetch = false
+
+-- the view of a job whose row and works these are
+abbrev pub seen : Row → WorkLine → Contents → View
+seen row line contents = record { shape = shape_of row line; order = row.order; contents = contents }
+
+-- a copy as the events that are built make them: written, sealed, or on its way from an unknown source;
+-- and not doomed, nor on the device
+pub record IsPlain (copy : Copy) : Type 0 where
+  pub state : is_plain copy.state copy.fetch ≡ true
+  pub doomed : copy.doomed ≡ false
+  pub backed : copy.backed ≡ None
+  pub fault : copy.fault ≡ None
+
+-- the row shows these contents: they are what lies in its window, and the digests that it keeps
+pub record IsShown (row : Row) (line : WorkLine) (contents : Contents) : Type 0 where
+  pub kept : IsViewKept (seen row line contents)
+  -- the order of use has the copies, and nothing else
+  pub there : AreThere (copies_of row.copies) row.order
+  pub listed : (id : ObjectId) (k : Kept) → at row.copies id ≡ Some k → is_among row.order id ≡ true
+  pub bytes : (id : ObjectId) (k : Kept) (e : Extent) → at row.copies id ≡ Some k → extent_of k.copy ≡ Some e
+      → bytes_at contents.bytes id ≡ take k.copy.length (placed_bytes e row.window.placed)
+  pub digests : (id : ObjectId) (k : Kept) → at row.copies id ≡ Some k → keeps_digest k.copy ≡ true
+      → digest_at contents.digests id ≡ unwrap_or k.digest no_digest
+  pub plain : (id : ObjectId) (k : Kept) → at row.copies id ≡ Some k → IsPlain k.copy
+  pub working : (id : ObjectId) (k : Kept) → at row.copies id ≡ Some k
+      → k.working ≡ work_on (works_of line (record { 0 = row.job })) id
+
+-- what a step gives: the reply, the messages to be sent, and the device keys to be erased
+pub record Given : Type 0 where
+  pub reply : Reply (List ℕ)
+  pub posts : List Post
+  pub erased : List DeviceKey
+
+-- a reply, and nothing else
+abbrev pub only : Reply (List ℕ) → Given
+only told = record { reply = told; posts = []; erased = [] }
+
+-- the row takes the private step at its node on this input, whatever contents it shows
+pub record TakesStep (node : ℕ) (old : Row) (before : WorkLine) (contents : Contents) (x : Input) (told : Given) (new : Row) (after : WorkLine) : Type 0 where
+  pub shape : (view_step node (seen old before contents) x).view.shape ≡ shape_of new after
+  pub order : (view_step node (seen old before contents) x).view.order ≡ new.order
+  pub shown : IsShown new after (view_step node (seen old before contents) x).view.contents
+  pub reply : told.reply ≡ (view_step node (seen old before contents) x).reply
+  pub posts : told.posts ≡ (view_step node (seen old before contents) x).posts
+  pub erased : told.erased ≡ (view_step node (seen old before contents) x).erased

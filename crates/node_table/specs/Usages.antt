@@ -1,0 +1,44 @@
+-- What List and Usage tell of a row.
+use Rattle.std.specs.Prelude.{ℕ, ◌-◌, ◌^◌, min, Bool, false, ◌||◌, if◌then◌else◌, length, sum_by, is_some}
+use Rattle.std.specs.Option.{option_map_or}
+use Rattle.obj_id.specs.declared.ids.ObjectId.{ObjectId}
+use Rattle.obj_id.specs.declared.commands.OwnItem.{OwnItem}
+use Rattle.obj_id.specs.declared.commands.Usage.{Usage}
+use Rattle.private_store.specs.Tables.{ById}
+use Rattle.private_store.specs.Extents.{rounded}
+use Rattle.private_store.specs.Copies.{extent_of}
+use Rattle.spill_work.specs.Line.{WorkLine, is_write, in_flight}
+use Rattle.node_table.specs.Kept.{Kept}
+use Rattle.node_table.specs.Row.{Row}
+
+-- a copy, as List shows it
+abbrev pub item_of : ObjectId × Kept → OwnItem
+item_of e = record { id = e.0; state = e.1.copy.state; kind = e.1.copy.kind; length = e.1.copy.length }
+
+-- whether a write of it is in flight
+abbrev pub is_spilling : Kept → Bool
+is_spilling kept = option_map_or is_write kept.working false
+
+-- the bytes that it takes in the window
+abbrev pub window_bytes : Kept → ℕ
+window_bytes kept = option_map_or (λ e. e.length) (extent_of kept.copy) 0
+
+-- the device bytes that count for it
+abbrev pub device_bytes : Kept → ℕ
+device_bytes kept = if is_some kept.copy.backed || is_spilling kept then rounded kept.copy.length else 0
+
+-- the bytes of all copies, as far as 64 bits have room for their number
+abbrev pub total : (Kept → ℕ) → ById Kept → ℕ
+total bytes table = min (sum_by (λ e. bytes e.1) table) (2 ^ 64 - 1)
+
+-- the quotas, and what is used of them
+abbrev pub used : Row → WorkLine → Usage
+used row line =
+    record {
+      window = row.window.quota;
+      window_used = total window_bytes row.copies;
+      device = row.device;
+      device_used = total device_bytes row.copies;
+      copies = length row.copies;
+      works = in_flight line (record { 0 = row.job });
+    }

@@ -1,0 +1,113 @@
+//! The commands that move bytes: Write, Seal and Read.
+ghost use Rattle.std.specs.Prelude.{◌≡◌, ◌==◌, ℕ, true, Some, take, drop, IfOk, OnErr};
+ghost use Rattle.obj_id.specs.declared.works.Extent.{Extent};
+ghost use Rattle.private_store.specs.Tables.{at};
+ghost use Rattle.private_store.specs.Copies.{extent_of};
+ghost use Rattle.obj_id.specs.declared.commands.Command.TheVariants as command;
+ghost use Rattle.private_store.specs.declared.inputs.Input.TheVariants as input;
+ghost use Rattle.private_store.specs.Contents.{Contents, digest_of};
+ghost use Rattle.job_region.specs.Region.{bytes_at as placed_bytes};
+ghost use Rattle.node_table.specs.Kept.{Kept};
+ghost use Rattle.node_table.specs.Outcomes.{given_of};
+ghost use Rattle.spill_work.specs.Line.{WorkLine};
+ghost use Rattle.node_table.specs.Shown.{IsShown, TakesStep, only};
+
+use crate::row::JobRow;
+use bytes::Bytes;
+use crate::outcome::{Erase, Outcome};
+use obj_id::{Digest, DirectoryMessage, Location, Message, ObjectId, Place, Reply};
+use sha2::{Digest as _, Sha256};
+use std::alloc::{AllocError, Global};
+
+impl JobRow {
+    /// Write: the bytes are replaced from the offset on, while the copy is being written. `BadSize` for
+    /// more than 65,536 bytes, `Absent`, `AlreadySealed`, `OutOfBounds`; a refusal changes nothing.
+    /// Takes no memory.
+    pub fn write(&mut self, session: u32, id: &ObjectId, offset: u32, bytes: &[u8]) -> Reply<Bytes>
+        ensures { (node : ℕ) (line : WorkLine) (contents : Contents) → (id.now.job.0 == self.old.job) ≡ true → IsShown self.old line contents
+            → TakesStep node self.old line contents (input.Call session (command.Write id.now offset bytes.now)) (only result) self.new line }
+    {
+        if let Some(refusal) = self.copies().write_check(id, offset, bytes.len()) {
+            return Reply::Refused(refusal);
+        }
+        self.put_bytes(id, offset, bytes);
+        Reply::Ok
+    }
+
+    /// Seal: the copy is immutable from now on, and its node is told to the directory. `Absent`,
+    /// `AlreadySealed`; a refusal changes nothing. The error is want of memory, and then nothing has
+    /// changed.
+    pub fn seal(
+        &mut self,
+        alloc: Global,
+        node: u32,
+        session: u32,
+        id: &ObjectId,
+    ) -> Result<Outcome, AllocError>
+        ensures ok { IfOk result (λ o. (line : WorkLine) (contents : Contents) → (id.now.job.0 == self.old.job) ≡ true → IsShown self.old line contents
+            → TakesStep node self.old line contents (input.Call session (command.Seal id.now)) (given_of o) self.new line) }
+        ensures err { OnErr result (self.new ≡ self.old) }
+    {
+        if let Some(refusal) = self.copies().seal_check(id) {
+            return Ok(Outcome::only(alloc, Reply::Refused(refusal)));
+        }
+        let entry = self.location(node, id);
+        let message = Message::ToDirectory(DirectoryMessage::AddLocation(*id, entry));
+        let messages = Outcome::one_message(alloc, Place::Directory, message)?;
+        self.seal_copy(id, entry.digest);
+        Ok(Outcome {
+            reply: Reply::Ok,
+            messages,
+            erase: Erase::NoKey,
+        })
+    }
+
+    /// Read: bytes of a copy that the session holds. `BadSize` for more than 65,536 bytes, `Absent`,
+    /// `NotSealed`, `NotHeld`, `OutOfBounds`. Changes nothing; the error is want of memory.
+    pub fn read(
+        &self,
+        alloc: Global,
+        session: u32,
+        id: &ObjectId,
+        offset: u32,
+        len: u32,
+    ) -> Result<Reply<Bytes>, AllocError>
+        ensures { IfOk result (λ told. (node : ℕ) (line : WorkLine) (contents : Contents) → (id.now.job.0 == self.now.job) ≡ true → IsShown self.now line contents
+            → TakesStep node self.now line contents (input.Call session (command.Read id.now offset len)) (only told) self.now line) }
+    {
+        if let Some(refusal) = self.copies().read_check(session, id, offset, len) {
+            return Ok(Reply::Refused(refusal));
+        }
+        let bytes = Bytes::copy_from_slice(alloc, part_of(self.bytes(id), offset, len))?;
+        Ok(Reply::Bytes(bytes))
+    }
+}
+
+impl JobRow {
+    /// The copy as the directory is to know it.
+    fn location(&self, node: u32, id: &ObjectId) -> Location
+        ensures node { result.node ≡ node }
+        ensures length { (k : Kept) → at self.now.copies id.now ≡ Some k → result.length ≡ k.copy.length }
+        ensures digest { (k : Kept) (e : Extent) → at self.now.copies id.now ≡ Some k → extent_of k.copy ≡ Some e
+            → result.digest ≡ digest_of (take k.copy.length (placed_bytes e self.now.window.placed)) }
+    {
+        let length = match self.copies().get(id) {
+            Some(copy) => copy.length(),
+            None => 0,
+        };
+        Location {
+            node,
+            length,
+            digest: Digest(Sha256::digest(self.bytes(id))),
+        }
+    }
+}
+
+/// `len` bytes from the offset on, or as many of them as there are.
+fn part_of(bytes: &[u8], offset: u32, len: u32) -> &[u8]
+    ensures { result.now ≡ take len (drop offset bytes.now) }
+{
+    let start = (offset as usize).min(bytes.len());
+    let left = &bytes[start..];
+    &left[..(len as usize).min(left.len())]
+}

@@ -1,0 +1,172 @@
+//! Why a command can't be carried out.
+ghost use Rattle.std.specs.Prelude.{◌≡◌, Some, option_map};
+ghost use Rattle.node_table.specs.Checks.{write_check_of, write_check as write_check_lem, seal_check_of, seal_check as seal_check_lem, read_check_of, read_check as read_check_lem, release_check as release_check_lem, hold_check as hold_check_lem, fetch_check as fetch_check_lem};
+ghost use Rattle.private_store.specs.Tables.{at};
+ghost use Rattle.private_store.specs.Shape.{Fetch};
+ghost use Rattle.node_table.specs.Kept.{Kept};
+
+use crate::copies::Copies;
+use crate::copy::RowCopy;
+use obj_id::{CopyState, ObjectId, Refusal};
+
+/// The bytes that one Write, Read or Peek may carry.
+const MOST_BYTES: usize = 65_536;
+
+/// How many copies a job may have at a node, fetches among them.
+const MOST_COPIES: usize = 1_024;
+
+impl RowCopy {
+    /// Why `len` bytes can't be written from the offset on: `Absent`, `AlreadySealed`, `OutOfBounds`.
+    fn write_check(&self, offset: u32, len: u32) -> Option<Refusal>
+        ensures { result ≡ write_check_of self.now offset len }
+    {
+        if self.doomed() {
+            return Some(Refusal::Absent);
+        }
+        if !matches!(self.state(), CopyState::Created) {
+            return Some(Refusal::AlreadySealed);
+        }
+        if u64::from(self.length()) < u64::from(offset) + u64::from(len) {
+            return Some(Refusal::OutOfBounds);
+        }
+        None
+    }
+
+    /// Why it can't be sealed: `Absent`, `AlreadySealed`.
+    fn seal_check(&self) -> Option<Refusal>
+        ensures { result ≡ seal_check_of self.now }
+    {
+        if self.doomed() {
+            return Some(Refusal::Absent);
+        }
+        if !matches!(self.state(), CopyState::Created) {
+            return Some(Refusal::AlreadySealed);
+        }
+        None
+    }
+
+    /// Why the session can't read `len` bytes from the offset on: `NotSealed`, `NotHeld`, `OutOfBounds`.
+    fn read_check(&self, session: u32, offset: u32, len: u32) -> Option<Refusal>
+        ensures { result ≡ read_check_of self.now session offset len }
+    {
+        if matches!(self.state(), CopyState::Created | CopyState::Fetching) {
+            return Some(Refusal::NotSealed);
+        }
+        if self.holds_of(session) == 0 {
+            return Some(Refusal::NotHeld);
+        }
+        if u64::from(self.length()) < u64::from(offset) + u64::from(len) {
+            return Some(Refusal::OutOfBounds);
+        }
+        None
+    }
+}
+
+impl Copies {
+    /// Why `len` bytes can't be written into the copy: `BadSize`, `Absent`, `AlreadySealed`,
+    /// `OutOfBounds`, or nothing.
+    pub fn write_check(&self, id: &ObjectId, offset: u32, len: usize) -> Option<Refusal>
+        ensures { result ≡ write_check_lem self.now id.now offset len }
+    {
+        if len > MOST_BYTES {
+            return Some(Refusal::BadSize);
+        }
+        match self.get(id) {
+            None => Some(Refusal::Absent),
+            Some(copy) => copy.write_check(offset, len as u32),
+        }
+    }
+
+    /// Why the copy can't be sealed: `Absent`, `AlreadySealed`, or nothing.
+    pub fn seal_check(&self, id: &ObjectId) -> Option<Refusal>
+        ensures { result ≡ seal_check_lem self.now id.now }
+    {
+        match self.get(id) {
+            None => Some(Refusal::Absent),
+            Some(copy) => copy.seal_check(),
+        }
+    }
+
+    /// Why the session can't read `len` bytes of the copy: `BadSize`, `Absent`, `NotSealed`, `NotHeld`,
+    /// `OutOfBounds`, or nothing.
+    pub fn read_check(
+        &self,
+        session: u32,
+        id: &ObjectId,
+        offset: u32,
+        len: u32,
+    ) -> Option<Refusal>
+        ensures { result ≡ read_check_lem self.now session id.now offset len }
+    {
+        if len as usize > MOST_BYTES {
+            return Some(Refusal::BadSize);
+        }
+        match self.get(id) {
+            None => Some(Refusal::Absent),
+            Some(copy) => copy.read_check(session, offset, len),
+        }
+    }
+
+    /// Why the session has no hold of the copy to give up: `Absent`, `NotHeld`, or nothing.
+    pub fn release_check(&self, session: u32, id: &ObjectId) -> Option<Refusal>
+        ensures { result ≡ release_check_lem self.now session id.now }
+    {
+        match self.get(id) {
+            None => Some(Refusal::Absent),
+            Some(copy) => {
+                if copy.holds_of(session) == 0 {
+                    Some(Refusal::NotHeld)
+                } else {
+                    None
+                }
+            }
+        }
+    }
+
+    /// Why the copy can't have one more hold: `Absent`, `TooMany`, or nothing.
+    pub fn hold_check(&self, id: &ObjectId) -> Option<Refusal>
+        ensures { result ≡ hold_check_lem self.now id.now }
+    {
+        match self.get(id) {
+            None => Some(Refusal::Absent),
+            Some(copy) => copy.hold_check(),
+        }
+    }
+
+    /// Why no fetch can begin, where this was the last one's number: `TooMany`, or nothing.
+    pub fn fetch_check(&self, begun: u64) -> Option<Refusal>
+        ensures { result ≡ fetch_check_lem self.now begun }
+    {
+        if self.len() >= MOST_COPIES || begun == u64::MAX {
+            return Some(Refusal::TooMany);
+        }
+        None
+    }
+
+    /// The length of the copy in bytes; 0 where there is none.
+    pub fn length_of(&self, id: &ObjectId) -> u32
+        ensures { (k : Kept) → at self.now id.now ≡ Some k → result ≡ k.copy.length }
+    {
+        match self.get(id) {
+            None => 0,
+            Some(copy) => copy.length(),
+        }
+    }
+
+    /// The number of the fetch that brings the object; 0 where none does.
+    pub fn fetch_of(&self, id: &ObjectId) -> u64
+        ensures { (k : Kept) (f : Fetch) → at self.now id.now ≡ Some k → k.copy.fetch ≡ Some f → result ≡ f.number }
+    {
+        let Some(copy) = self.get(id) else {
+            return 0;
+        };
+        copy.fetch_number().unwrap_or(0)
+    }
+
+    /// The state of the copy, if there is one.
+    pub fn state_of(&self, id: &ObjectId) -> Option<CopyState>
+        ensures { result ≡ option_map (λ k. k.copy.state) (at self.now id.now) }
+    {
+        Some(self.get(id)?.state())
+    }
+}

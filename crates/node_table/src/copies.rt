@@ -1,0 +1,210 @@
+//! The copies of a job, by their ids.
+ghost use Rattle.std.specs.Option.{option_copied, option_map_or};
+ghost use Rattle.private_store.specs.Tables.{at, with_entry, without_entry};
+ghost use Rattle.node_table.specs.Entries.{changed, all_changed};
+ghost use Rattle.node_table.specs.Kept.{held, released, left, sealed, spilling, gone_away, restoring as restoring_lem, fault_told, can_spill, can_go_away, can_restore};
+ghost use Rattle.private_store.specs.Copies.{is_created};
+ghost use Rattle.obj_id.specs.declared.refusals.Refusal.{Refusal};
+ghost use Rattle.node_table.specs.Checks.{release_check as release_check_lem};
+ghost use Rattle.std.specs.Prelude.{◌≡◌, [], true, Some, OnOk, OnErr, IsErrOf, IfOk, IfSome, IfNone, map, length, is_some};
+ghost use Rattle.node_table.specs.Usages.{item_of, total, window_bytes as window_bytes_lem, device_bytes as device_bytes_lem};
+
+use crate::copy::RowCopy;
+use obj_id::{Digest, Items, ObjectId, OwnItem, Refusal};
+use std::alloc::{AllocError, Global};
+use std::collections::BTreeMap;
+use std::marker::Model;
+
+/// The copies of a job. A contract sees them by rising id.
+#[derive(Drop)]
+pub struct Copies {
+    by_id: BTreeMap<ObjectId, RowCopy>,
+}
+
+impl Model for Copies {
+    ghost use Rattle.private_store.specs.Tables.{ById};
+    ghost use Rattle.node_table.specs.Kept.{Kept};
+
+    ghost Value = { ById Kept };
+
+    ghost view = { λ c. c.by_id.entries };
+
+    ghost use Rattle.std.specs.List.Sorted.{IsStrictlySortedBy};
+    ghost use Rattle.std.specs.Map.{keys_of};
+    ghost use Rattle.obj_id.specs.Ids.{id_cmp};
+
+    ghost invariant = { λ c. IsStrictlySortedBy id_cmp (keys_of c.by_id.entries) };
+}
+
+impl Copies {
+    /// No copies. Takes no memory.
+    pub fn new(alloc: Global) -> Copies
+        ensures { result ≡ [] }
+    {
+        Copies {
+            by_id: BTreeMap::new(alloc),
+        }
+    }
+
+    /// How many there are.
+    pub fn len(&self) -> usize
+        ensures { result ≡ length self.now }
+    {
+        self.by_id.len()
+    }
+
+    /// The copy of the id, if there is one.
+    pub fn get(&self, id: &ObjectId) -> Option<&RowCopy>
+        ensures { option_copied result ≡ at self.now id.now }
+    {
+        self.by_id.get(id)
+    }
+
+    /// The copies as List shows them, by rising id. Takes a walk over them, and memory for each.
+    pub fn items(&self, alloc: Global) -> Result<Items<OwnItem>, AllocError>
+        ensures { IfOk result (λ items. items ≡ map item_of self.now) }
+    {
+        let mut items = Items::new(alloc);
+        for (id, copy) in &self.by_id {
+            items.push(copy.item(id))?;
+        }
+        Ok(items)
+    }
+
+    /// The bytes that they take in the window, or `u64::MAX` where they are more. Takes a walk over them.
+    pub fn window_bytes(&self) -> u64
+        ensures { result ≡ total window_bytes_lem self.now }
+    {
+        let mut bytes: u64 = 0;
+        for (_, copy) in &self.by_id {
+            bytes = bytes.saturating_add(copy.window_bytes());
+        }
+        bytes
+    }
+
+    /// The device bytes that count for them, or `u64::MAX` where they are more. Takes a walk over them.
+    pub fn device_bytes(&self) -> u64
+        ensures { result ≡ total device_bytes_lem self.now }
+    {
+        let mut bytes: u64 = 0;
+        for (_, copy) in &self.by_id {
+            bytes = bytes.saturating_add(copy.device_bytes());
+        }
+        bytes
+    }
+
+    /// The copy under its id, in place of what was there. A failure changes nothing.
+    pub fn insert(&mut self, id: ObjectId, copy: RowCopy) -> Result<(), AllocError>
+        ensures ok { OnOk result (self.new ≡ with_entry self.old id copy) }
+        ensures err { OnErr result (self.new ≡ self.old) }
+    {
+        self.by_id.insert(id, copy)?;
+        Ok(())
+    }
+
+    /// The copy of the id goes, if there is one. Takes no memory.
+    pub fn remove(&mut self, id: &ObjectId)
+        ensures { self.new ≡ without_entry self.old id.now }
+    {
+        self.by_id.remove(id);
+    }
+
+    /// One more hold of the session on the copy. `TooMany` at 64 holds, `NoMemory` last; a refusal changes
+    /// nothing.
+    pub fn hold(&mut self, id: &ObjectId, session: u32) -> Result<(), Refusal>
+        ensures ok { OnOk result (self.new ≡ changed (held session) self.old id.now) }
+        ensures err { OnErr result (self.new ≡ self.old) }
+    {
+        let Some(copy) = self.by_id.get_mut(id) else {
+            return Ok(());
+        };
+        copy.hold(session)
+    }
+
+    /// One hold of the session on the copy less. `NotHeld` where it has none, and then nothing changes.
+    /// Takes no memory.
+    pub fn release(&mut self, id: &ObjectId, session: u32) -> Result<(), Refusal>
+        ensures ok { OnOk result (self.new ≡ changed (released session) self.old id.now) }
+        ensures refused { (r : Refusal) → IsErrOf result r → release_check_lem self.old session id.now ≡ Some r }
+        ensures err { OnErr result (self.new ≡ self.old) }
+    {
+        let Some(copy) = self.by_id.get_mut(id) else {
+            return Ok(());
+        };
+        copy.release(session)
+    }
+
+    /// No hold of the session on the copy. Takes no memory.
+    pub fn leave(&mut self, id: &ObjectId, session: u32)
+        ensures { self.new ≡ changed (left session) self.old id.now }
+    {
+        let Some(copy) = self.by_id.get_mut(id) else {
+            return;
+        };
+        copy.leave(session);
+    }
+
+    /// No hold of the session on any copy. Takes a walk over them, and no memory.
+    pub fn leave_all(&mut self, session: u32)
+        ensures { self.new ≡ all_changed (left session) self.old }
+    {
+        self.by_id.retain(|_, copy| {
+            copy.leave(session);
+            true
+        });
+    }
+
+    /// The copy is immutable from now on, with this digest of its bytes.
+    pub fn seal(&mut self, id: &ObjectId, digest: Digest)
+        requires { option_map_or (λ k. is_created k.copy.state) (at self.old id.now) true ≡ true }
+        ensures { self.new ≡ changed (sealed digest) self.old id.now }
+    {
+        let Some(copy) = self.by_id.get_mut(id) else {
+            return;
+        };
+        copy.seal(digest);
+    }
+
+    /// A write of the copy is in flight.
+    pub fn begin_spill(&mut self, id: &ObjectId)
+        requires { option_map_or can_spill (at self.old id.now) true ≡ true }
+        ensures { self.new ≡ changed spilling self.old id.now }
+    {
+        let Some(copy) = self.by_id.get_mut(id) else {
+            return;
+        };
+        copy.begin_spill();
+    }
+
+    /// The bytes of the copy are on the device alone.
+    pub fn mark_away(&mut self, id: &ObjectId)
+        requires { option_map_or can_go_away (at self.old id.now) true ≡ true }
+        ensures { self.new ≡ changed gone_away self.old id.now }
+    {
+        let Some(copy) = self.by_id.get_mut(id) else {
+            return;
+        };
+        copy.mark_away();
+    }
+
+    /// A read of the copy is in flight, to this offset of the window.
+    pub fn begin_restore(&mut self, id: &ObjectId, offset: u64)
+        requires { option_map_or can_restore (at self.old id.now) true ≡ true }
+        ensures { self.new ≡ changed (restoring_lem offset) self.old id.now }
+    {
+        let Some(copy) = self.by_id.get_mut(id) else {
+            return;
+        };
+        copy.begin_restore(offset);
+    }
+
+    /// The fault of the copy was told.
+    pub fn tell_fault(&mut self, id: &ObjectId)
+        ensures { self.new ≡ changed fault_told self.old id.now }
+    {
+        let Some(copy) = self.by_id.get_mut(id) else {
+            return;
+        };
+        let _ = copy.take_fault();
+    }
+}

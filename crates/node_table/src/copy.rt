@@ -1,0 +1,225 @@
+//! One copy of a row.
+ghost use Rattle.std.specs.Prelude.{◌≡◌, ◌≢◌, ◌+◌, ◌==◌, nat_le, if◌then◌else◌, true, false, Some, None, OnOk, OnErr, IsErrOf, IsOk, is_some, option_map};
+ghost use Rattle.obj_id.specs.declared.refusals.Refusal.{Refusal};
+ghost use Rattle.obj_id.specs.declared.refusals.Refusal.TheVariants.{NoMemory, TooMany, NotHeld};
+ghost use Rattle.private_store.specs.Copies.{extent_of, is_primary, is_created, is_held};
+ghost use Rattle.private_store.specs.Commands.{holds_of as holds_of_lem, all_holds};
+ghost use Rattle.private_store.specs.Limits.{most_holds};
+ghost use Rattle.node_table.specs.Kept.{new_kept, fetched_kept, held, released, left, sealed, spilling, gone_away, restoring as restoring_lem, fault_told, can_spill, can_go_away, can_restore};
+ghost use Rattle.node_table.specs.Usages.{is_spilling as is_spilling_lem};
+
+use fetch_core::FetchIn;
+use obj_id::{CopyState, Digest, Extent, Kind, Refusal, WorkKind};
+use object_state::ObjectCopy;
+use pins_holds::Pins;
+use std::alloc::Global;
+use std::marker::Model;
+
+/// A copy of a job: its marks, what keeps it, where its bytes lie in the job's window, and the fetch that
+/// brings it. A contract sees the store's copy, with its digest and the kind of the work in flight.
+#[derive(Drop)]
+pub struct RowCopy {
+    marks: ObjectCopy,
+    pins: Pins,
+    // in the window, in bytes, while it is resident
+    offset: Option<u64>,
+    fetch: Option<FetchIn>,
+}
+
+impl Model for RowCopy {
+    ghost use Rattle.node_table.specs.Kept.{Kept, kept_of, Agrees};
+
+    ghost Value = { Kept };
+
+    ghost view = { λ c. kept_of c.marks c.pins c.offset c.fetch };
+
+    ghost invariant = { λ c. Agrees c.marks c.pins c.fetch };
+}
+
+impl RowCopy {
+    /// A copy to be written, of `len` bytes, at an offset of the window. Takes no memory.
+    pub fn created(alloc: Global, kind: Kind, len: u32, offset: u64) -> RowCopy
+        ensures { result ≡ new_kept kind len offset }
+    {
+        RowCopy {
+            marks: ObjectCopy::created(kind, len),
+            pins: Pins::new(alloc, kind),
+            offset: Some(offset),
+            fetch: None,
+        }
+    }
+
+    /// A copy that is fetched under this number. Takes no memory.
+    pub fn fetching(alloc: Global, number: u64) -> RowCopy
+        ensures { result ≡ fetched_kept number }
+    {
+        RowCopy {
+            marks: ObjectCopy::fetching(),
+            pins: Pins::new(alloc, Kind::Secondary),
+            offset: None,
+            fetch: Some(FetchIn::new(alloc, number)),
+        }
+    }
+
+    /// Its state.
+    pub fn state(&self) -> CopyState
+        ensures { result ≡ self.now.copy.state }
+    {
+        self.marks.state()
+    }
+
+    /// Whether it is the object's first copy or one made by a transfer.
+    pub fn kind(&self) -> Kind
+        ensures { result ≡ self.now.copy.kind }
+    {
+        self.marks.kind()
+    }
+
+    /// The object's bytes; of a fetch that isn't sized, 0.
+    pub fn length(&self) -> u32
+        ensures { result ≡ self.now.copy.length }
+    {
+        self.marks.length()
+    }
+
+    /// Where its bytes begin in the window, if it is resident.
+    pub fn offset(&self) -> Option<u64>
+        ensures { result ≡ self.now.copy.offset }
+    {
+        self.offset
+    }
+
+    /// Its bytes in the window, in whole units of 16, if it is resident.
+    pub fn extent(&self) -> Option<Extent>
+        ensures { result ≡ extent_of self.now.copy }
+    {
+        let offset = self.offset?;
+        Some(Extent {
+            offset,
+            length: (u64::from(self.length()) + 15) / 16 * 16,
+        })
+    }
+
+    /// Whether it goes as soon as nothing keeps it.
+    pub fn doomed(&self) -> bool
+        ensures { result ≡ self.now.copy.doomed }
+    {
+        self.marks.doomed()
+    }
+
+    /// Whether a work of it is in flight.
+    pub fn is_working(&self) -> bool
+        ensures { result ≡ is_some self.now.working }
+    {
+        self.marks.working().is_some()
+    }
+
+    /// The number of the fetch that brings it, if it is on its way.
+    pub fn fetch_number(&self) -> Option<u64>
+        ensures { result ≡ option_map (λ f. f.number) self.now.copy.fetch }
+    {
+        Some(self.fetch.as_ref()?.number())
+    }
+
+    /// Whether its bytes are on the device.
+    pub fn is_backed(&self) -> bool
+        ensures { result ≡ is_some self.now.copy.backed }
+    {
+        self.marks.backed().is_some()
+    }
+
+    /// Whether a write of it is in flight.
+    pub fn is_spilling(&self) -> bool
+        ensures { result ≡ is_spilling_lem self.now }
+    {
+        matches!(self.marks.working(), Some(WorkKind::Write))
+    }
+
+    /// Whether a session holds it.
+    pub fn is_held(&self) -> bool
+        ensures { result ≡ is_held self.now.copy }
+    {
+        self.pins.is_held()
+    }
+
+    /// How many holds the session has.
+    pub fn holds_of(&self, session: u32) -> u32
+        ensures { result ≡ holds_of_lem self.now.copy session }
+    {
+        self.pins.holds_of(session)
+    }
+
+    /// One more hold of the session. `TooMany` at 64 holds of all sessions, `NoMemory` last; a refusal
+    /// changes nothing.
+    pub fn hold(&mut self, session: u32) -> Result<(), Refusal>
+        ensures ok { OnOk result (self.new ≡ held session self.old) }
+        ensures err { OnErr result (self.new ≡ self.old) }
+    {
+        self.pins.hold(session)
+    }
+
+    /// One hold of the session less. `NotHeld` where it has none, and then nothing changes. Takes no memory.
+    pub fn release(&mut self, session: u32) -> Result<(), Refusal>
+        ensures ok { OnOk result (self.new ≡ released session self.old) }
+        ensures refused { (r : Refusal) → IsErrOf result r → (if holds_of_lem self.old.copy session == 0 then Some NotHeld else None) ≡ Some r }
+        ensures err { OnErr result (self.new ≡ self.old) }
+    {
+        self.pins.release(session)
+    }
+
+    /// No hold of the session. Takes no memory.
+    pub fn leave(&mut self, session: u32)
+        ensures { self.new ≡ left session self.old }
+    {
+        self.pins.leave(session);
+    }
+
+    /// Why there can be no more holds: `TooMany`, or nothing.
+    pub fn hold_check(&self) -> Option<Refusal>
+        ensures { result ≡ (if nat_le most_holds (all_holds self.now.copy) then Some TooMany else None) }
+    {
+        self.pins.hold_check()
+    }
+
+    /// It is immutable from now on, with this digest of its bytes.
+    pub fn seal(&mut self, digest: Digest)
+        requires { is_created self.old.copy.state ≡ true }
+        ensures { self.new ≡ sealed digest self.old }
+    {
+        let _ = self.marks.seal(digest);
+    }
+
+    /// A write of it is in flight.
+    pub fn begin_spill(&mut self)
+        requires { can_spill self.old ≡ true }
+        ensures { self.new ≡ spilling self.old }
+    {
+        self.marks.begin_spill();
+    }
+
+    /// Its bytes are on the device alone, and its place in the window is no longer its own.
+    pub fn mark_away(&mut self)
+        requires { can_go_away self.old ≡ true }
+        ensures { self.new ≡ gone_away self.old }
+    {
+        self.marks.mark_away();
+        self.offset = None;
+    }
+
+    /// A read of it is in flight, to this offset of the window.
+    pub fn begin_restore(&mut self, offset: u64)
+        requires { can_restore self.old ≡ true }
+        ensures { self.new ≡ restoring_lem offset self.old }
+    {
+        self.marks.begin_restore();
+        self.offset = Some(offset);
+    }
+
+    /// What its restore came to, which is told once.
+    pub fn take_fault(&mut self) -> Option<Refusal>
+        ensures fault { result ≡ self.old.copy.fault }
+        ensures copy { self.new ≡ fault_told self.old }
+    {
+        self.marks.take_fault()
+    }
+}

@@ -1,0 +1,146 @@
+//! Get: a hold on a copy that is here, and else what brings it here.
+ghost use Rattle.std.specs.Prelude.{◌≡◌, ◌==◌, ℕ, true, false, Some, None, IsOk, IfOk, OnErr, IsErrOf};
+ghost use Rattle.obj_id.specs.declared.refusals.Refusal.{Refusal};
+ghost use Rattle.obj_id.specs.declared.refusals.Refusal.TheVariants.{NoMemory};
+ghost use Rattle.obj_id.specs.declared.commands.Command.TheVariants as command;
+ghost use Rattle.obj_id.specs.declared.commands.Reply.TheVariants as reply;
+ghost use Rattle.private_store.specs.declared.inputs.Input.TheVariants as input;
+ghost use Rattle.private_store.specs.Tables.{at};
+ghost use Rattle.private_store.specs.Copies.{is_sealed};
+ghost use Rattle.private_store.specs.Kept.{is_fetching};
+ghost use Rattle.private_store.specs.Contents.{Contents};
+ghost use Rattle.private_store.specs.Private.{to_directory};
+ghost use Rattle.obj_id.specs.declared.messages.DirectoryMessage.TheVariants.{Locate};
+ghost use Rattle.spill_work.specs.Line.{WorkLine};
+ghost use Rattle.node_table.specs.Kept.{Kept};
+ghost use Rattle.node_table.specs.Outcomes.{given_of};
+ghost use Rattle.node_table.specs.Shown.{IsShown, TakesStep, only};
+
+use crate::outcome::{Erase, Outcome};
+use crate::row::JobRow;
+use obj_id::{CopyState, DirectoryMessage, Items, Message, ObjectId, Place, Refusal, Reply};
+use std::alloc::{AllocError, Global};
+
+impl JobRow {
+    /// Get of a sealed copy: one more hold of the session, and the copy is the most recently used one.
+    /// `TooMany` at 64 holds.
+    fn get_sealed(
+        &mut self,
+        alloc: Global,
+        session: u32,
+        id: &ObjectId,
+    ) -> Result<Outcome, Refusal>
+        ensures ok { IfOk result (λ o. (node : ℕ) (line : WorkLine) (contents : Contents) → (id.now.job.0 == self.old.job) ≡ true → IsShown self.old line contents
+            → (k : Kept) → at self.old.copies id.now ≡ Some k → is_sealed k.copy.state ≡ true
+            → TakesStep node self.old line contents (input.Call session (command.Get id.now)) (given_of o) self.new line) }
+        ensures memory { (r : Refusal) → IsErrOf result r → r ≡ NoMemory }
+        ensures err { OnErr result (self.new ≡ self.old) }
+    {
+        if let Some(refusal) = self.copies().hold_check(id) {
+            return Ok(Outcome::only(alloc, Reply::Refused(refusal)));
+        }
+        let length = self.copies().length_of(id);
+        if self.hold_copy(id, session).is_err() {
+            return Err(Refusal::NoMemory);
+        }
+        Ok(Outcome::only(alloc, Reply::Got(length)))
+    }
+}
+
+impl JobRow {
+    /// Get of an object that isn't here: its fetch begins, under the job's next number, and its source is
+    /// asked for. `TooMany` at 1,024 copies, and where no number is left; else the answer is `Pending`.
+    fn begin_fetch(
+        &mut self,
+        alloc: Global,
+        node: u32,
+        id: &ObjectId,
+    ) -> Result<Outcome, Refusal>
+        requires { at self.old.copies id.now ≡ None }
+        ensures ok { IfOk result (λ o. (session : ℕ) (line : WorkLine) (contents : Contents) → (id.now.job.0 == self.old.job) ≡ true → IsShown self.old line contents
+            → TakesStep node self.old line contents (input.Call session (command.Get id.now)) (given_of o) self.new line) }
+        ensures memory { (r : Refusal) → IsErrOf result r → r ≡ NoMemory }
+        ensures err { OnErr result (self.new ≡ self.old) }
+    {
+        let begun = self.fetches_begun();
+        if let Some(refusal) = self.copies().fetch_check(begun) {
+            return Ok(Outcome::only(alloc, Reply::Refused(refusal)));
+        }
+        let messages = locate(alloc, node, *id, begun + 1)?;
+        self.enter_fetch(alloc, id, begun + 1)?;
+        Ok(Outcome {
+            reply: Reply::Refused(Refusal::Pending),
+            messages,
+            erase: Erase::NoKey,
+        })
+    }
+}
+
+impl JobRow {
+    /// Get of an object that is on its way and whose source isn't known yet: it is asked for again, and
+    /// the answer is `Pending`. Changes nothing; the error is want of memory.
+    fn locate_again(
+        &self,
+        alloc: Global,
+        node: u32,
+        id: &ObjectId,
+    ) -> Result<Outcome, Refusal>
+        ensures ok { IfOk result (λ o. (session : ℕ) (line : WorkLine) (contents : Contents) → (id.now.job.0 == self.now.job) ≡ true → IsShown self.now line contents
+            → (k : Kept) → at self.now.copies id.now ≡ Some k → is_fetching k.copy.state ≡ true
+            → TakesStep node self.now line contents (input.Call session (command.Get id.now)) (given_of o) self.now line) }
+        ensures memory { (r : Refusal) → IsErrOf result r → r ≡ NoMemory }
+    {
+        let messages = locate(alloc, node, *id, self.copies().fetch_of(id))?;
+        Ok(Outcome {
+            reply: Reply::Refused(Refusal::Pending),
+            messages,
+            erase: Erase::NoKey,
+        })
+    }
+
+    /// Get: a hold on a copy that is here, and else what brings it here. `NotSealed`, `Pending`,
+    /// `TooMany`. The error is want of memory, and then nothing has changed.
+    pub fn get(
+        &mut self,
+        alloc: Global,
+        node: u32,
+        session: u32,
+        id: &ObjectId,
+    ) -> Result<Outcome, Refusal>
+        ensures ok { IfOk result (λ o. (line : WorkLine) (contents : Contents) → (id.now.job.0 == self.old.job) ≡ true → IsShown self.old line contents
+            → TakesStep node self.old line contents (input.Call session (command.Get id.now)) (given_of o) self.new line) }
+        ensures memory { (r : Refusal) → IsErrOf result r → r ≡ NoMemory }
+        ensures err { OnErr result (self.new ≡ self.old) }
+    {
+        match self.copies().state_of(id) {
+            None => self.begin_fetch(alloc, node, id),
+            Some(CopyState::Sealed) => self.get_sealed(alloc, session, id),
+            Some(CopyState::Fetching) => self.locate_again(alloc, node, id),
+            Some(CopyState::Created) => told(alloc, Refusal::NotSealed),
+            Some(CopyState::Restoring) => told(alloc, Refusal::Pending),
+            // no event that is built puts a copy there
+            Some(CopyState::Away) => told(alloc, Refusal::Pending),
+        }
+    }
+}
+
+/// A refusal that is told, and nothing else.
+fn told(alloc: Global, refusal: Refusal) -> Result<Outcome, Refusal>
+    ensures ok { IfOk result (λ o. given_of o ≡ only (reply.Refused refusal)) }
+    ensures told { IsOk result }
+{
+    Ok(Outcome::only(alloc, Reply::Refused(refusal)))
+}
+
+/// The question where copies of the object are.
+fn locate(
+    alloc: Global,
+    node: u32,
+    id: ObjectId,
+    number: u64,
+) -> Result<Items<(Place, Message)>, AllocError>
+    ensures { IfOk result (λ messages. messages ≡ to_directory (Locate id node number)) }
+{
+    let message = Message::ToDirectory(DirectoryMessage::Locate(id, node, number));
+    Outcome::one_message(alloc, Place::Directory, message)
+}

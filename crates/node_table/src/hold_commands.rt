@@ -1,0 +1,37 @@
+//! The commands that give holds up: Release and Leave.
+ghost use Rattle.std.specs.Prelude.{◌≡◌, ◌==◌, ℕ, true};
+ghost use Rattle.obj_id.specs.declared.commands.Command.TheVariants as command;
+ghost use Rattle.obj_id.specs.declared.commands.Reply.TheVariants as reply;
+ghost use Rattle.private_store.specs.declared.inputs.Input.TheVariants as input;
+ghost use Rattle.private_store.specs.Contents.{Contents};
+ghost use Rattle.spill_work.specs.Line.{WorkLine};
+ghost use Rattle.node_table.specs.Shown.{IsShown, TakesStep, only};
+
+use crate::row::JobRow;
+use bytes::Bytes;
+use obj_id::{ObjectId, Reply};
+
+impl JobRow {
+    /// Release: one hold of the session on the copy less. `Absent`, `NotHeld`; a refusal changes nothing.
+    /// Takes no memory.
+    pub fn release(&mut self, session: u32, id: &ObjectId) -> Reply<Bytes>
+        ensures { (node : ℕ) (line : WorkLine) (contents : Contents) → (id.now.job.0 == self.old.job) ≡ true → IsShown self.old line contents
+            → TakesStep node self.old line contents (input.Call session (command.Release id.now)) (only result) self.new line }
+    {
+        if let Some(refusal) = self.copies().release_check(session, id) {
+            return Reply::Refused(refusal);
+        }
+        match self.release_copy(id, session) {
+            Ok(()) => Reply::Ok,
+            Err(refusal) => Reply::Refused(refusal),
+        }
+    }
+
+    /// Leave: no hold of the session on any copy. Takes a walk over the job's copies, and no memory.
+    pub fn leave(&mut self, session: u32)
+        ensures { (node : ℕ) (line : WorkLine) (contents : Contents) → IsShown self.old line contents
+            → TakesStep node self.old line contents (input.Call session command.Leave) (only reply.Ok) self.new line }
+    {
+        self.leave_copies(session);
+    }
+}

@@ -1,0 +1,18 @@
+//! The row of one job at a node: its window, its copies and its order of use, and what the commands of its
+//! sessions do to them. A row knows no other job.
+#![tactic(auto)]
+
+mod bytes_commands;
+mod checks;
+mod copies;
+mod copy;
+mod get_command;
+mod hold_commands;
+mod listing;
+mod outcome;
+mod row;
+
+pub use copies::Copies;
+pub use copy::RowCopy;
+pub use outcome::{Erase, Outcome};
+pub use row::JobRow;

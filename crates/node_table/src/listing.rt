@@ -1,0 +1,90 @@
+//! The commands that tell of a row: List and Usage.
+ghost use Rattle.std.specs.Prelude.{◌≡◌, ℕ, IfOk};
+ghost use Rattle.obj_id.specs.declared.commands.Command.TheVariants as command;
+ghost use Rattle.private_store.specs.declared.inputs.Input.TheVariants as input;
+ghost use Rattle.private_store.specs.Commands.{usage_of};
+ghost use Rattle.private_store.specs.Contents.{Contents};
+ghost use Rattle.spill_work.specs.Line.{WorkLine};
+ghost use Rattle.node_table.specs.Row.{shape_of};
+ghost use Rattle.node_table.specs.Shown.{IsShown, TakesStep, only};
+ghost use Rattle.node_table.specs.Usages.{item_of, window_bytes as window_bytes_lem, device_bytes as device_bytes_lem, used};
+
+use crate::copy::RowCopy;
+use crate::row::JobRow;
+use bytes::Bytes;
+use obj_id::{Items, ObjectId, OwnItem, Reply, Usage};
+use spill_work::Works;
+use std::alloc::{AllocError, Global};
+
+impl RowCopy {
+    /// The copy of the id, as List shows it.
+    pub fn item(&self, id: &ObjectId) -> OwnItem
+        ensures { result ≡ item_of (id.now, self.now) }
+    {
+        OwnItem {
+            id: *id,
+            state: self.state(),
+            kind: self.kind(),
+            length: self.length(),
+        }
+    }
+
+    /// The bytes that it takes in the window: none unless it is resident.
+    pub fn window_bytes(&self) -> u64
+        ensures { result ≡ window_bytes_lem self.now }
+    {
+        match self.extent() {
+            Some(extent) => extent.length,
+            None => 0,
+        }
+    }
+
+    /// The device bytes that count for it: none unless it is backed or is being written.
+    pub fn device_bytes(&self) -> u64
+        ensures { result ≡ device_bytes_lem self.now }
+    {
+        if self.is_backed() || self.is_spilling() {
+            (u64::from(self.length()) + 15) / 16 * 16
+        } else {
+            0
+        }
+    }
+}
+
+impl JobRow {
+    /// List: the own copies by rising id, and nothing granted. Takes a walk over the job's copies and
+    /// memory for each. Changes nothing; the error is want of memory.
+    pub fn list(&self, alloc: Global) -> Result<Reply<Bytes>, AllocError>
+        ensures { IfOk result (λ told. (node session : ℕ) (line : WorkLine) (contents : Contents) → IsShown self.now line contents
+            → TakesStep node self.now line contents (input.Call session command.List) (only told) self.now line) }
+    {
+        let own = self.copies().items(alloc)?;
+        Ok(Reply::List(own, Items::new(alloc)))
+    }
+
+    /// The job's quotas and what is used of them, in bytes and in numbers. Takes two walks over the job's
+    /// copies and one over the line of works, and no memory. A sum that passes `u64::MAX` is told as that,
+    /// which no row of a node has.
+    pub fn usage(&self, works: &Works) -> Usage
+        ensures told { result ≡ used self.now works.now }
+        ensures shown { (contents : Contents) → IsShown self.now works.now contents → result ≡ usage_of (shape_of self.now works.now) }
+    {
+        let quota = self.quota();
+        Usage {
+            window: quota.window,
+            window_used: self.copies().window_bytes(),
+            device: quota.device,
+            device_used: self.copies().device_bytes(),
+            copies: self.copies().len() as u64,
+            works: works.in_flight(self.job()) as u64,
+        }
+    }
+
+    /// Usage: what `usage` says. Changes nothing, and takes no memory.
+    pub fn tell_usage(&self, works: &Works) -> Reply<Bytes>
+        ensures { (node session : ℕ) (contents : Contents) → IsShown self.now works.now contents
+            → TakesStep node self.now works.now contents (input.Call session command.Usage) (only result) self.now works.now }
+    {
+        Reply::Usage(self.usage(works))
+    }
+}

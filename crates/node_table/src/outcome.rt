@@ -1,0 +1,51 @@
+//! What a step of a row gives.
+ghost use Rattle.std.specs.Prelude.{◌≡◌, ◌∷◌, [], IfOk};
+ghost use Rattle.node_table.specs.Shown.{only as only_lem};
+ghost use Rattle.node_table.specs.Outcomes.{given_of};
+
+use bytes::Bytes;
+use obj_id::{DeviceKey, Items, Message, Place, Reply};
+use std::alloc::{AllocError, Global};
+
+/// What an event gave: the answer, the messages that are to be sent, in their order and each with its
+/// place, and the device keys that are to be erased, in order of id.
+#[derive(Drop)]
+pub struct Outcome {
+    pub reply: Reply<Bytes>,
+    pub messages: Items<(Place, Message)>,
+    pub erase: Erase,
+}
+
+/// Device keys that are to be erased: one takes no memory.
+#[derive(Drop)]
+pub enum Erase {
+    NoKey,
+    One(DeviceKey),
+    Many(Items<DeviceKey>),
+}
+
+impl Outcome {
+    /// A reply, and nothing else. Takes no memory.
+    pub fn only(alloc: Global, reply: Reply<Bytes>) -> Outcome
+        ensures { given_of result ≡ only_lem reply }
+    {
+        Outcome {
+            reply,
+            messages: Items::new(alloc),
+            erase: Erase::NoKey,
+        }
+    }
+
+    /// A list of one message.
+    pub fn one_message(
+        alloc: Global,
+        to: Place,
+        message: Message,
+    ) -> Result<Items<(Place, Message)>, AllocError>
+        ensures { IfOk result (λ messages. messages ≡ (to, message) ∷ []) }
+    {
+        let mut messages = Items::new(alloc);
+        messages.push((to, message))?;
+        Ok(messages)
+    }
+}

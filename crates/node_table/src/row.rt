@@ -1,0 +1,207 @@
+//! The row of one job.
+ghost use Rattle.std.specs.Prelude.{◌≡◌, ℕ, ◌+◌, ◌≤◌, nat_eq, take, drop, length, true, Some, None, IfOk, OnOk, OnErr, IsErrOf};
+ghost use Rattle.std.specs.Map.{set_value};
+ghost use Rattle.obj_id.specs.declared.works.Extent.{Extent};
+ghost use Rattle.obj_id.specs.declared.refusals.Refusal.{Refusal};
+ghost use Rattle.obj_id.specs.declared.refusals.Refusal.TheVariants.{NoMemory};
+ghost use Rattle.private_store.specs.Tables.{at, with_entry};
+ghost use Rattle.private_store.specs.Copies.{extent_of};
+ghost use Rattle.private_store.specs.Contents.{overwritten};
+ghost use Rattle.job_region.specs.Region.{bytes_at as placed_bytes};
+ghost use Rattle.std.specs.Option.{option_map_or};
+ghost use Rattle.private_store.specs.Copies.{is_created};
+ghost use Rattle.lru_evictor.specs.Orders.{touched, last_used};
+ghost use Rattle.node_table.specs.Entries.{changed, all_changed};
+ghost use Rattle.node_table.specs.Kept.{Kept, sealed, held, released, left, fetched_kept};
+ghost use Rattle.node_table.specs.Checks.{release_check};
+ghost use Rattle.node_table.specs.Row.{Row, new_row, place_of, ArePlaced};
+
+use crate::copies::Copies;
+use crate::copy::RowCopy;
+use job_region::Window;
+use lru_evictor::UseOrder;
+use obj_id::{Digest, Extent, JobNo, ObjectId, Quota, Refusal};
+use std::alloc::Global;
+use std::marker::Model;
+
+/// What a node keeps of one live job. A contract sees the job's store without contents in it, and the
+/// contents that it shows.
+#[derive(Drop)]
+pub struct JobRow {
+    alloc: Global,
+    job: JobNo,
+    window: Window,
+    // what the job may have on the device, in bytes
+    device: u64,
+    copies: Copies,
+    order: UseOrder,
+    // the last number that a fetch had
+    fetches_begun: u64,
+}
+
+impl Model for JobRow {
+    ghost use Rattle.lru_evictor.specs.Orders.{order_of};
+    ghost use Rattle.node_table.specs.Row.{Row, place_of, ArePlaced};
+
+    ghost Value = { Row };
+
+    ghost view = { λ r. record { job = r.job.0; window = r.window; device = r.device; copies = r.copies; order = order_of r.job.0 r.order; fetches_begun = r.fetches_begun } };
+
+    ghost invariant = { λ r. ArePlaced r.window.placed (place_of r.copies) };
+}
+
+impl JobRow {
+    /// The row of a job that was admitted now: no copies, and a window of zeros. `BadSize` unless the
+    /// window's size is one, and `NoMemory`.
+    pub fn new(alloc: Global, job: JobNo, quota: Quota) -> Result<JobRow, Refusal>
+        ensures { IfOk result (λ r. r ≡ new_row job.0 quota) }
+    {
+        let window = Window::new(alloc, quota.window)?;
+        Ok(JobRow {
+            alloc,
+            job,
+            window,
+            device: quota.device,
+            copies: Copies::new(alloc),
+            order: UseOrder::new(alloc),
+            fetches_begun: 0,
+        })
+    }
+
+    /// The job's number.
+    pub(crate) fn job(&self) -> JobNo
+        ensures { result ≡ record { 0 = self.now.job } }
+    {
+        self.job
+    }
+
+    /// What it may have in its window and on the device, in bytes.
+    pub(crate) fn quota(&self) -> Quota
+        ensures { result ≡ record { window = self.now.window.quota; device = self.now.device } }
+    {
+        Quota {
+            window: self.window.quota(),
+            device: self.device,
+        }
+    }
+
+    /// Its copies.
+    pub(crate) fn copies(&self) -> &Copies
+        ensures copies { result.now ≡ self.now.copies }
+        ensures placed { ArePlaced self.now.window.placed (place_of self.now.copies) }
+    {
+        &self.copies
+    }
+
+    /// Where the copy lies in the window, if it is there and resident.
+    pub(crate) fn place(&self, id: &ObjectId) -> Option<Extent>
+        ensures { result ≡ place_of self.now.copies id.now }
+    {
+        self.copies.get(id)?.extent()
+    }
+
+    /// The bytes of a copy, lent without a copy; none where it isn't resident.
+    pub(crate) fn bytes(&self, id: &ObjectId) -> &[u8]
+        ensures { (k : Kept) (e : Extent) → at self.now.copies id.now ≡ Some k → extent_of k.copy ≡ Some e
+            → result.now ≡ take k.copy.length (placed_bytes e self.now.window.placed) }
+    {
+        let Some(copy) = self.copies.get(id) else {
+            return &[];
+        };
+        let Some(extent) = self.place(id) else {
+            return &[];
+        };
+        first_bytes(self.window.bytes_of(&extent), copy.length())
+    }
+
+    /// The copy is immutable from now on, with this digest of its bytes.
+    pub(crate) fn seal_copy(&mut self, id: &ObjectId, digest: Digest)
+        requires { option_map_or (λ k. is_created k.copy.state) (at self.old.copies id.now) true ≡ true }
+        ensures { self.new ≡ record self.old { copies = changed (sealed digest) self.old.copies id.now } }
+    {
+        self.copies.seal(id, digest);
+    }
+
+    /// One more hold of the session on the copy, which is the most recently used now. `TooMany` at 64
+    /// holds, `NoMemory` last; a refusal changes nothing.
+    pub(crate) fn hold_copy(&mut self, id: &ObjectId, session: u32) -> Result<(), Refusal>
+        ensures ok { OnOk result (self.new ≡ record self.old { copies = changed (held session) self.old.copies id.now; order = touched id.now self.old.order }) }
+        ensures err { OnErr result (self.new ≡ self.old) }
+    {
+        self.copies.hold(id, session)?;
+        self.order.touch(self.job, *id);
+        Ok(())
+    }
+
+    /// The last number that a fetch had.
+    pub(crate) fn fetches_begun(&self) -> u64
+        ensures { result ≡ self.now.fetches_begun }
+    {
+        self.fetches_begun
+    }
+
+    /// A copy that is on its way, under this number, and the most recently used. The error is want of
+    /// memory, and then nothing has changed.
+    pub(crate) fn enter_fetch(
+        &mut self,
+        alloc: Global,
+        id: &ObjectId,
+        number: u64,
+    ) -> Result<(), Refusal>
+        requires { at self.old.copies id.now ≡ None }
+        ensures ok { OnOk result (self.new ≡ record self.old { copies = with_entry self.old.copies id.now (fetched_kept number); order = last_used id.now self.old.order; fetches_begun = number }) }
+        ensures memory { (r : Refusal) → IsErrOf result r → r ≡ NoMemory }
+        ensures err { OnErr result (self.new ≡ self.old) }
+    {
+        self.copies.insert(*id, RowCopy::fetching(alloc, number))?;
+        if self.order.enter(self.job, *id).is_err() {
+            self.copies.remove(id);
+            return Err(Refusal::NoMemory);
+        }
+        self.fetches_begun = number;
+        Ok(())
+    }
+
+    /// No hold of the session on the copy. Takes no memory.
+    pub(crate) fn leave_copy(&mut self, id: &ObjectId, session: u32)
+        ensures { self.new ≡ record self.old { copies = changed (left session) self.old.copies id.now } }
+    {
+        self.copies.leave(id, session);
+    }
+
+    /// One hold of the session on the copy less. `NotHeld` where it has none, and then nothing changes.
+    /// Takes no memory.
+    pub(crate) fn release_copy(&mut self, id: &ObjectId, session: u32) -> Result<(), Refusal>
+        ensures ok { OnOk result (self.new ≡ record self.old { copies = changed (released session) self.old.copies id.now }) }
+        ensures refused { (r : Refusal) → IsErrOf result r → release_check self.old.copies session id.now ≡ Some r }
+        ensures err { OnErr result (self.new ≡ self.old) }
+    {
+        self.copies.release(id, session)?;
+        Ok(())
+    }
+
+    /// No hold of the session on any copy. Takes no memory.
+    pub(crate) fn leave_copies(&mut self, session: u32)
+        ensures { self.new ≡ record self.old { copies = all_changed (left session) self.old.copies } }
+    {
+        self.copies.leave_all(session);
+    }
+
+    /// Writes bytes into a resident copy from the offset on.
+    pub(crate) fn put_bytes(&mut self, id: &ObjectId, offset: u32, bytes: &[u8])
+        ensures { (e : Extent) → place_of self.old.copies id.now ≡ Some e → offset + length bytes.now ≤ e.length
+            → self.new ≡ record self.old { window = record self.old.window { placed = set_value (nat_eq e.offset) self.old.window.placed (overwritten (placed_bytes e self.old.window.placed) offset bytes.now) } } }
+    {
+        let Some(extent) = self.place(id) else {
+            return;
+        };
+        let _ = self.window.write(&extent, offset, bytes);
+    }
+}
+
+/// The first `len` bytes, or all of them where there are fewer.
+fn first_bytes(bytes: &[u8], len: u32) -> &[u8]
+    ensures { result.now ≡ take len bytes.now }
+{
+    &bytes[..(len as usize).min(bytes.len())]
+}

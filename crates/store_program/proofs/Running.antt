@@ -1,0 +1,163 @@
+-- A run with one line more, and how it ends.
+use Rattle.std.proofs.Common.{◌≡◌, ◌≢◌, ℕ, suc, ◌+◌, ◌-◌, true, List, [], ◌∷◌, length, take, Option, None, Some, Result, Ok, Err, OnOk, refl, sym, ap, subst, ◌∙◌, arith}
+use Rattle.std.specs.Prelude.{All, ⊤}
+use Rattle.std.specs.Io.{StopsAt}
+use Rattle.std.specs.Io.KnownBytes.{Keeps, Consumes, IsAtEnd}
+use Rattle.std.proofs.Math.Seq.{take-append_seam}
+use Rattle.std.proofs.lemmas.List.{length-append}
+use Rattle.private_store.specs.declared.schedules.Step.{Step}
+use Rattle.private_store.specs.declared.schedules.Traced.{Traced}
+use Rattle.schedule_text.specs.Reading.{is_skipped}
+use Rattle.world_core.specs.Worlds.{Hosting, IsAfter}
+use Rattle.store_program.specs.declared.fault.Fault.{Fault}
+use Rattle.store_program.specs.declared.fault.Fault.TheVariants.{NotAStep, Input, Output, NoMemory}
+use Rattle.store_program.specs.Lines.{Spells, with_feed, history_of, input_of, output_of}
+use Rattle.store_program.specs.Runs.{RunsStep, RunsLine, StopsRun, IsReadingFault, Progress, IsWorldly, IsOutput, Ran}
+use Rattle.store_program.proofs.KnownBytes.{Appends-none, Appends-then, Appends-kept, Consumes-none, Consumes-then, Consumes-all}
+
+-- ---- one line
+
+pub nothing_line : (nodes : ℕ) (bytes text : List ℕ) (world : Hosting) (a : Option (List ℕ)) → bytes ≡ with_feed text → is_skipped text ≡ true → RunsLine nodes bytes world world a a
+nothing_line nodes bytes text world a is skipped =
+    record { heard = record { text = text; answered = None }; is_text = is; is_answered = skipped; after = λ memory history h. h; written = Appends-none a }
+
+pub step_line : (nodes : ℕ) (bytes text : List ℕ) (step : Step) (old new : Hosting) (a b : Option (List ℕ)) (result : Result ⊤ Fault)
+    → bytes ≡ with_feed text → Spells nodes text step → OnOk result (RunsStep old step new a b) → OnOk result (RunsLine nodes bytes old new a b)
+step_line nodes bytes text step old new a b (Err e) is spells ran = tt
+step_line nodes bytes text step old new a b (Ok u) is spells ran =
+    record {
+      heard = record { text = text; answered = Some (record { step = step; answer = ran.answer }) };
+      is_text = is;
+      is_answered = spells;
+      after = λ memory history h. ran.after nodes memory history h;
+      written = ran.written;
+    }
+
+-- a line without its line feed has none
+pub whole_text : (bytes text : List ℕ) → bytes ≡ with_feed text → StopsAt bytes 10 → All (λ byte. byte ≢ 10) text
+whole_text bytes text is stops =
+    let at : length bytes - 1 ≡ length text = ap (λ b. length b - 1) is ∙ ap (λ n. n - 1) (length-append text (10 ∷ [])) ∙ (omega arith) in
+    subst (All (λ byte. byte ≢ 10)) (ap (λ b. take (length bytes - 1) b) is ∙ ap (λ n. take n (with_feed text)) at ∙ take-append_seam text (10 ∷ [])) stops
+
+-- ---- the run so far
+
+pub worldly : (nodes memory : ℕ) (world : Hosting) (history : List Traced) → IsAfter nodes memory world history → IsWorldly nodes memory history
+worldly nodes memory world [] h = tt
+worldly nodes memory world (entry ∷ history) h = (world, h)
+
+pub begun : (nodes memory : ℕ) (world : Hosting) (a b : Option (List ℕ)) → IsAfter nodes memory world [] → Progress nodes memory 1 world a a b b
+begun nodes memory world a b h = record { lines = []; counted = refl; heard = tt; after = h; consumed = Consumes-none a; written = Appends-none b }
+
+pub no_world : (nodes memory : ℕ) (a b : Option (List ℕ)) → Ran nodes memory a a b b (Err NoMemory)
+no_world nodes memory a b = record { lines = []; rest = []; heard = tt; worldly = tt; consumed = Consumes-none a; written = Appends-none b; ends = tt }
+
+module _ (nodes memory number : ℕ) (world : Hosting) (a r b w : Option (List ℕ)) (so_far : Progress nodes memory number world a r b w) where
+  module _ (r1 : Option (List ℕ)) (bytes : List ℕ) (read : Consumes r r1 bytes) where
+    pub reading_failed : (fault : Fault) → IsReadingFault fault → Ran nodes memory a r1 b w (Err fault)
+    reading_failed (NotAStep n) is = absurd is
+    reading_failed Output is = absurd is
+    reading_failed Input is =
+        record {
+          lines = so_far.lines;
+          rest = bytes;
+          heard = so_far.heard;
+          worldly = worldly nodes memory world (history_of so_far.lines) so_far.after;
+          consumed = Consumes-then a r r1 (input_of so_far.lines) bytes so_far.consumed read;
+          written = so_far.written;
+          ends = tt;
+        }
+    reading_failed NoMemory is =
+        record {
+          lines = so_far.lines;
+          rest = bytes;
+          heard = so_far.heard;
+          worldly = worldly nodes memory world (history_of so_far.lines) so_far.after;
+          consumed = Consumes-then a r r1 (input_of so_far.lines) bytes so_far.consumed read;
+          written = so_far.written;
+          ends = tt;
+        }
+
+    pub input_ended : IsAtEnd r → Ran nodes memory a r1 b w (Ok tt)
+    input_ended end =
+        record {
+          lines = so_far.lines;
+          rest = bytes;
+          heard = so_far.heard;
+          worldly = worldly nodes memory world (history_of so_far.lines) so_far.after;
+          consumed = Consumes-then a r r1 (input_of so_far.lines) bytes so_far.consumed read;
+          written = so_far.written;
+          ends = Consumes-all a r (input_of so_far.lines) so_far.consumed end;
+        }
+
+    pub line_stopped : (w1 : Option (List ℕ)) (fault : Fault) → StopsRun nodes number bytes w w1 fault → Ran nodes memory a r1 b w1 (Err fault)
+    line_stopped w1 (NotAStep n) stops =
+        record {
+          lines = so_far.lines;
+          rest = bytes;
+          heard = so_far.heard;
+          worldly = worldly nodes memory world (history_of so_far.lines) so_far.after;
+          consumed = Consumes-then a r r1 (input_of so_far.lines) bytes so_far.consumed read;
+          written = Appends-kept b w w1 (output_of so_far.lines) so_far.written stops.2;
+          ends = (stops.0 ∙ sym so_far.counted, stops.1);
+        }
+    line_stopped w1 Input stops = absurd stops
+    line_stopped w1 Output stops =
+        record {
+          lines = so_far.lines;
+          rest = bytes;
+          heard = so_far.heard;
+          worldly = worldly nodes memory world (history_of so_far.lines) so_far.after;
+          consumed = Consumes-then a r r1 (input_of so_far.lines) bytes so_far.consumed read;
+          written = tt;
+          ends = tt;
+        }
+    line_stopped w1 NoMemory stops =
+        record {
+          lines = so_far.lines;
+          rest = bytes;
+          heard = so_far.heard;
+          worldly = worldly nodes memory world (history_of so_far.lines) so_far.after;
+          consumed = Consumes-then a r r1 (input_of so_far.lines) bytes so_far.consumed read;
+          written = Appends-kept b w w1 (output_of so_far.lines) so_far.written stops;
+          ends = tt;
+        }
+
+    pub line_more : (new : Hosting) (w1 : Option (List ℕ)) → StopsAt bytes 10 → RunsLine nodes bytes world new w w1 → Progress nodes memory (number + 1) new a r1 b w1
+    line_more new w1 one ran =
+        let counted = so_far.counted in
+        record {
+          lines = ran.heard ∷ so_far.lines;
+          counted = ap suc counted ∙ (omega arith);
+          heard = (record { whole = whole_text bytes ran.heard.text ran.is_text one; answered = ran.is_answered }, so_far.heard);
+          after = ran.after memory (history_of so_far.lines) so_far.after;
+          consumed = Consumes-then a r r1 (input_of so_far.lines) (with_feed ran.heard.text) so_far.consumed (subst (Consumes r r1) ran.is_text read);
+          written = Appends-then b w w1 (output_of so_far.lines) _ so_far.written ran.written;
+        }
+
+  pub too_many : Ran nodes memory a r b w (Err Input)
+  too_many = reading_failed r [] (Consumes-none r) Input tt
+
+-- ---- what the writer kept back
+
+IsOutput-kept : (b w w1 : Option (List ℕ)) (text : List ℕ) (result : Result ⊤ Fault) → IsOutput b w text result → Keeps w w1 → IsOutput b w1 text result
+IsOutput-kept b w w1 text (Ok u) p q = Appends-kept b w w1 text p q
+IsOutput-kept b w w1 text (Err (NotAStep n)) p q = Appends-kept b w w1 text p q
+IsOutput-kept b w w1 text (Err Input) p q = Appends-kept b w w1 text p q
+IsOutput-kept b w w1 text (Err Output) p q = tt
+IsOutput-kept b w w1 text (Err NoMemory) p q = Appends-kept b w w1 text p q
+
+module _ (nodes memory : ℕ) (a r b w w1 : Option (List ℕ)) (result : Result ⊤ Fault) (ran : Ran nodes memory a r b w result) where
+  pub flushed : Keeps w w1 → Ran nodes memory a r b w1 result
+  flushed kept =
+      record {
+        lines = ran.lines;
+        rest = ran.rest;
+        heard = ran.heard;
+        worldly = ran.worldly;
+        consumed = ran.consumed;
+        written = IsOutput-kept b w w1 (output_of ran.lines) result ran.written kept;
+        ends = ran.ends;
+      }
+
+  pub not_flushed : Ran nodes memory a r b w1 (Err Output)
+  not_flushed = record { lines = ran.lines; rest = ran.rest; heard = ran.heard; worldly = ran.worldly; consumed = ran.consumed; written = tt; ends = tt }

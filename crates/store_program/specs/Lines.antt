@@ -1,0 +1,79 @@
+-- What a line says to the program, and the lines of a run with their answers.
+use Rattle.std.specs.Prelude.{◌≡◌, ◌≢◌, ℕ, true, false, List, [], ◌∷◌, ◌++◌, All, Option, Some, None, ⊤}
+use Rattle.std.specs.Str.{IsUtf8}
+use Rattle.private_store.specs.declared.schedules.Step.{Step}
+use Rattle.private_store.specs.declared.schedules.Traced.{Traced}
+use Rattle.schedule_text.specs.declared.line.Line.TheVariants as line
+use Rattle.schedule_text.specs.Prefixes.{prefix_of}
+use Rattle.schedule_text.specs.Printing.{line_text}
+use Rattle.schedule_text.specs.Reading.{IsLine, is_skipped}
+use Rattle.world_core.specs.Worlds.{is_built_step}
+use Rattle.store_program.specs.declared.lines.Said.{Said}
+use Rattle.store_program.specs.declared.lines.Said.TheVariants as said
+
+-- the text spells a step that is built
+pub record Spells (nodes : ℕ) (text : List ℕ) (step : Step) : Type 0 where
+  pub speaks : is_skipped text ≡ false
+  pub spelled : IsLine nodes text (line.Step step)
+  pub built : is_built_step nodes step ≡ true
+
+-- it says something, but no step that is built
+pub record SpellsNone (nodes : ℕ) (text : List ℕ) : Type 0 where
+  pub speaks : is_skipped text ≡ false
+  pub none : IsUtf8 text → (step : Step) → IsLine nodes text (line.Step step) → is_built_step nodes step ≡ false
+
+-- what is made of a text is what it says
+abbrev pub IsSaid : ℕ → List ℕ → Said → Type 0
+IsSaid nodes text said.Nothing = is_skipped text ≡ true
+IsSaid nodes text (said.Step step) = Spells nodes text step
+IsSaid nodes text said.NoStep = SpellsNone nodes text
+
+-- a line that was read, without its line feed, and the answered step of it, if it was one
+pub record Heard : Type 0 where
+  pub text : List ℕ
+  pub answered : Option Traced
+
+-- a line that says nothing has no answer; every other spells the step that was answered
+abbrev pub IsAnswered : ℕ → List ℕ → Option Traced → Type 0
+IsAnswered nodes text None = is_skipped text ≡ true
+IsAnswered nodes text (Some entry) = Spells nodes text entry.step
+
+pub record IsHeard (nodes : ℕ) (heard : Heard) : Type 0 where
+  pub whole : All (λ byte. byte ≢ 10) heard.text
+  pub answered : IsAnswered nodes heard.text heard.answered
+
+abbrev pub AreHeard : ℕ → List Heard → Type 0
+AreHeard nodes [] = ⊤
+AreHeard nodes (heard ∷ lines) = IsHeard nodes heard × AreHeard nodes lines
+
+-- a text with its line feed
+abbrev pub with_feed : List ℕ → List ℕ
+with_feed text = text ++ 10 ∷ []
+
+-- the steps with their answers, of lines that stand newest first
+abbrev pub with_answered : Option Traced → List Traced → List Traced
+with_answered None history = history
+with_answered (Some entry) history = entry ∷ history
+
+abbrev pub history_of : List Heard → List Traced
+history_of [] = []
+history_of (heard ∷ lines) = with_answered heard.answered (history_of lines)
+
+-- the bytes that were read
+abbrev pub input_of : List Heard → List ℕ
+input_of [] = []
+input_of (heard ∷ lines) = input_of lines ++ with_feed heard.text
+
+-- what is printed for a line
+abbrev pub printed : Option Traced → List ℕ
+printed None = []
+printed (Some entry) = line_text (prefix_of entry.step) entry.answer
+
+-- what is printed for all of them
+abbrev pub output_of : List Heard → List ℕ
+output_of [] = []
+output_of (heard ∷ lines) = output_of lines ++ printed heard.answered
+
+-- bytes that aren't a line of a schedule: its line feed is missing, or its text spells no step
+pub record IsNoLine (nodes : ℕ) (bytes : List ℕ) : Type 0 where
+  pub none : (text : List ℕ) → bytes ≡ with_feed text → SpellsNone nodes text

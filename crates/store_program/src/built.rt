@@ -1,0 +1,45 @@
+//! Which steps are built. Nothing else of the program names single commands.
+ghost use Rattle.std.specs.Prelude.{◌≡◌};
+ghost use Rattle.node_core.specs.Steps.{is_built as is_built_lem, is_built_command as is_built_command_lem};
+ghost use Rattle.world_core.specs.Worlds.{is_built_step as is_built_step_lem};
+
+use bytes::Bytes;
+use obj_id::Command;
+use private_store::{Event, Step};
+
+/// Whether the step is built, in a world of so many nodes.
+pub fn is_built_step(nodes: u32, step: &Step) -> bool
+    ensures { result ≡ is_built_step_lem nodes step.now }
+{
+    match step {
+        Step::At(place, event) => *place < nodes && is_built(event),
+        Step::Deliver(..) => false,
+    }
+}
+
+fn is_built(event: &Event) -> bool
+    ensures { result ≡ is_built_lem event.now }
+{
+    match event {
+        Event::Admit(..) | Event::JobEnd(_) => true,
+        Event::Call(_, _, command) => is_built_command(command),
+        Event::Requota(..) | Event::Take | Event::Finish(..) => false,
+    }
+}
+
+fn is_built_command(command: &Command<Bytes>) -> bool
+    ensures { result ≡ is_built_command_lem command.now }
+{
+    match command {
+        Command::Create(..) => false,
+        Command::Write(..) => true,
+        Command::Seal(_) => true,
+        Command::Get(_) => true,
+        Command::Read(..) => true,
+        Command::Release(_) => true,
+        Command::List => true,
+        Command::Usage => true,
+        Command::Leave => true,
+        _ => false,
+    }
+}

@@ -1,0 +1,45 @@
+//! What a line says to the program.
+ghost use Rattle.std.specs.Prelude.{◌≡◌, IfOk};
+ghost use Rattle.schedule_text.specs.Reading.{is_skipped as is_skipped_lem};
+ghost use Rattle.store_program.specs.Lines.{IsSaid};
+
+use crate::built::is_built_step;
+use private_store::Step;
+use schedule_text::{Line, read_line};
+use std::alloc::{AllocError, Global};
+use std::str;
+
+/// What a line says to the program.
+#[derive(Debug, Drop)]
+pub enum Said {
+    /// Nothing: the line is empty, or a comment.
+    Nothing,
+    /// A step that is built.
+    Step(Step),
+    /// Something else.
+    NoStep,
+}
+
+/// What a text says, the line's without its line feed, where there are so many nodes.
+pub fn hear(alloc: Global, text: &[u8], nodes: u32) -> Result<Said, AllocError>
+    ensures { IfOk result (λ said. IsSaid nodes text.now said) }
+{
+    // a comment may hold any bytes
+    if is_skipped(text) {
+        return Ok(Said::Nothing);
+    }
+    let Ok(text) = str::from_utf8(text) else {
+        return Ok(Said::NoStep)
+    };
+    match read_line(alloc, text, nodes)? {
+        Some(Line::Step(step)) if is_built_step(nodes, &step) => Ok(Said::Step(step)),
+        _ => Ok(Said::NoStep),
+    }
+}
+
+/// Whether the text is empty or a comment.
+fn is_skipped(text: &[u8]) -> bool
+    ensures { result ≡ is_skipped_lem text.now }
+{
+    matches!(text, [] | [b'#', ..])
+}

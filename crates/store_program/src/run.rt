@@ -1,0 +1,135 @@
+//! Runs of a schedule's text.
+ghost use Rattle.std.specs.Prelude.{◌≡◌, true, false, length, IfOk, OnOk, IfErr};
+ghost use Rattle.std.specs.Io.{StopsAt};
+ghost use Rattle.std.specs.Io.KnownBytes.{Consumes, IsAtEnd};
+ghost use Rattle.std.specs.String.{string_bytes};
+ghost use Rattle.world_core.specs.Worlds.{is_shape, is_built_step};
+ghost use Rattle.store_program.specs.Runs.{Answers, IsReadingFault, Ran, RunsLine, RunsStep, StopsRun, StopsStep};
+
+use crate::Fault;
+use crate::lines::{Said, hear};
+use private_store::Step;
+use schedule_text::{Prefix, answer_line};
+use std::alloc::{AllocError, Global};
+use std::io::{BufRead, ErrorKind, Write};
+use world_core::{Shape, World};
+
+/// Runs the schedule that the reader gives in a new world, and writes a line for each step.
+///
+/// The steps are those that the lines spell, in order; the world took them one after another, and
+/// what is written is the lines of its answers, whatever ends the run but a failure of the output.
+/// Empty lines and comments are skipped, and counted. `NotAStep` has the number of the first line
+/// that isn't a step which is built, or that lacks its line feed.
+pub fn run_text<R: BufRead, W: Write>(
+    alloc: Global,
+    shape: Shape,
+    reader: &mut R,
+    writer: &mut W,
+) -> Result<(), Fault>
+    requires { is_shape shape ≡ true }
+    ensures { Ran shape.nodes shape.memory (R.remaining reader.old) (R.remaining reader.new) (W.contents writer.old) (W.contents writer.new) result }
+{
+    let outcome = run_lines(alloc, shape, reader, writer);
+    // what was answered before a fault goes out as well
+    match writer.flush() {
+        Ok(()) => outcome,
+        Err(_) => Err(Fault::Output),
+    }
+}
+
+/// The same, without what the writer keeps back.
+fn run_lines<R: BufRead, W: Write>(
+    alloc: Global,
+    shape: Shape,
+    reader: &mut R,
+    writer: &mut W,
+) -> Result<(), Fault>
+    requires { is_shape shape ≡ true }
+    ensures { Ran shape.nodes shape.memory (R.remaining reader.old) (R.remaining reader.new) (W.contents writer.old) (W.contents writer.new) result }
+{
+    let Ok(mut world) = World::new(alloc, shape) else {
+        return Err(Fault::NoMemory)
+    };
+    let mut line = Vec::new(alloc);
+    for number in 1..u64::MAX {
+        match next_line(reader, &mut line) {
+            Err(fault) => return Err(fault),
+            Ok(false) => return Ok(()),
+            Ok(true) => {}
+        }
+        match run_line(alloc, &mut world, shape.nodes, number, &line, writer) {
+            Err(fault) => return Err(fault),
+            Ok(()) => {}
+        }
+    }
+    // more lines than there are numbers
+    Err(Fault::Input)
+}
+
+/// Reads a line with its line feed, the last one perhaps without, unless the input is at its end.
+fn next_line<R: BufRead>(reader: &mut R, line: &mut Vec<u8>) -> Result<bool, Fault>
+    ensures consumed { Consumes (R.remaining reader.old) (R.remaining reader.new) line.new.items }
+    ensures one { StopsAt line.new.items 10 }
+    ensures end { IfOk result (λ is_line. is_line ≡ false → IsAtEnd (R.remaining reader.old)) }
+    ensures fault { IfErr result IsReadingFault }
+{
+    line.clear();
+    match reader.read_until(b'\n', line) {
+        Ok(count) => Ok(count != 0),
+        Err(error) if error.kind() == ErrorKind::OutOfMemory => Err(Fault::NoMemory),
+        Err(_) => Err(Fault::Input),
+    }
+}
+
+/// Takes the step of the line of this number, and writes its answer.
+fn run_line<W: Write>(
+    alloc: Global,
+    world: &mut World,
+    nodes: u32,
+    number: u64,
+    line: &[u8],
+    writer: &mut W,
+) -> Result<(), Fault>
+    requires { length world.old.nodes ≡ nodes }
+    ensures ok { OnOk result (RunsLine nodes line.now world.old world.new (W.contents writer.old) (W.contents writer.new)) }
+    ensures err { IfErr result (λ fault. StopsRun nodes number line.now (W.contents writer.old) (W.contents writer.new) fault) }
+{
+    let Some((b'\n', text)) = line.split_last() else {
+        return Err(Fault::NotAStep(number))
+    };
+    match hear(alloc, text, nodes) {
+        Err(AllocError) => Err(Fault::NoMemory),
+        Ok(Said::Nothing) => Ok(()),
+        Ok(Said::NoStep) => Err(Fault::NotAStep(number)),
+        Ok(Said::Step(step)) => run_step(alloc, world, &step, writer),
+    }
+}
+
+/// Takes the step, and writes its answer.
+fn run_step<W: Write>(
+    alloc: Global,
+    world: &mut World,
+    step: &Step,
+    writer: &mut W,
+) -> Result<(), Fault>
+    requires { is_built_step (length world.old.nodes) step.now ≡ true }
+    ensures ok { OnOk result (RunsStep world.old step.now world.new (W.contents writer.old) (W.contents writer.new)) }
+    ensures err { IfErr result (λ fault. StopsStep (W.contents writer.old) (W.contents writer.new) fault) }
+{
+    let Ok(line) = answered(alloc, world, step) else {
+        return Err(Fault::NoMemory)
+    };
+    match writer.write_all(line.as_bytes()) {
+        Ok(()) => Ok(()),
+        Err(_) => Err(Fault::Output),
+    }
+}
+
+/// Takes the step, and gives the line of its answer.
+fn answered(alloc: Global, world: &mut World, step: &Step) -> Result<String, AllocError>
+    requires { is_built_step (length world.old.nodes) step.now ≡ true }
+    ensures { IfOk result (λ line. Answers world.old step.now (string_bytes line) world.new) }
+{
+    let answer = world.step(step);
+    answer_line(alloc, Prefix::of(step), &answer)
+}

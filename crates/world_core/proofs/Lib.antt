@@ -1,0 +1,10 @@
+mod Numbers
+mod Logging
+mod NoWant
+mod Places
+mod Stores
+mod Inputs
+mod Jobs
+mod Nodes
+mod Stepping
+mod Running

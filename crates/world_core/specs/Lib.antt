@@ -1,0 +1,4 @@
+pub mod Logs
+pub mod Moves
+pub mod Runs
+pub mod Worlds

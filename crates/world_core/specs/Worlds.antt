@@ -1,0 +1,77 @@
+-- A world of nodes, and what it shows after a history: a trace so far, newest first.
+use Rattle.std.specs.Prelude.{◌≡◌, ℕ, ◌==◌, nat_le, nat_lt, Bool, false, ◌&&◌, List, [], length, map, reverse, filter, slice_get, Some}
+use Rattle.std.specs.List.{list_any}
+use Rattle.obj_id.specs.declared.ids.JobNo.{JobNo}
+use Rattle.private_store.specs.declared.schedules.Step.{Step}
+use Rattle.private_store.specs.declared.schedules.Step.TheVariants.{At, Deliver}
+use Rattle.private_store.specs.declared.schedules.Traced.{Traced}
+use Rattle.private_store.specs.Private.{Store, view_of, no_store}
+use Rattle.private_store.specs.Cluster.{Sent, private_run}
+use Rattle.private_store.specs.Trace.{hands_at, inputs_until, cluster_until, replies_of, is_answered}
+use Rattle.private_store.specs.Shared.{lives_after, is_admission, answers_due}
+use Rattle.job_admission.specs.Admissions.{largest_memory, lives_of}
+use Rattle.node_core.specs.Hosted.{Hosted, Shows}
+use Rattle.node_core.specs.Steps.{is_built}
+use Rattle.world_core.specs.declared.Shape.{Shape}
+use Rattle.world_core.specs.Logs.{sent_of}
+
+-- what a contract sees of a world
+pub record Hosting : Type 0 where
+  -- by number
+  pub nodes : List Hosted
+  -- by job, all messages ever sent, oldest first
+  pub messages : List (JobNo × List Sent)
+
+-- the nodes of the largest world
+abbrev pub most_nodes : ℕ
+most_nodes = 8
+
+-- a node at least, and none with more than the largest memory
+abbrev pub is_shape : Shape → Bool
+is_shape shape = nat_le 1 shape.nodes && nat_le shape.nodes most_nodes && nat_le shape.memory largest_memory
+
+-- the steps that are built: an event that is built, at one of the nodes
+abbrev pub is_built_step : ℕ → Step → Bool
+is_built_step nodes (At place e) = nat_lt place nodes && is_built e
+is_built_step nodes (Deliver job from to m damage) = false
+
+-- a node after a history
+pub record IsNodeAfter (nodes memory place : ℕ) (node : Hosted) (history : List Traced) : Type 0 where
+  pub number : node.number ≡ place
+  pub size : node.admissions.memory ≡ memory
+  -- its live jobs are those that were admitted here and haven't ended
+  pub lives : lives_of node.admissions.live ≡ lives_after memory place history
+  -- a number was admitted here, or a greater one, where it isn't above the greatest
+  pub greatest : (job : ℕ) → (job == 0) ≡ false
+      → list_any (λ entry. is_admission place job entry.step entry.answer) history ≡ nat_le job node.admissions.greatest
+  -- it shows of every job number the job's private store at this place
+  pub shows : (job : ℕ) (store : Store) → slice_get (cluster_until nodes job history).stores place ≡ Some store → Shows node job (view_of store)
+  -- nothing is granted
+  pub hands : hands_at place history ≡ []
+
+-- a job, with all that it sent, after a history
+pub record IsJobAfter (nodes job : ℕ) (sent : List Sent) (history : List Traced) : Type 0 where
+  -- its messages are those of its private cluster, whose directory knows nothing yet
+  pub messages : sent ≡ (cluster_until nodes job history).sent
+  pub locations : (cluster_until nodes job history).locations ≡ []
+  -- its replies, but for want of memory, are those of its private cluster
+  pub replies : filter is_answered (replies_of job (reverse history)) ≡ private_run job nodes (inputs_until nodes job history)
+
+-- the world after a history
+pub record IsAfter (nodes memory : ℕ) (world : Hosting) (history : List Traced) : Type 0 where
+  pub count : length world.nodes ≡ nodes
+  pub each_node : (place : ℕ) (node : Hosted) → slice_get world.nodes place ≡ Some node → IsNodeAfter nodes memory place node history
+  pub each_job : (job : ℕ) → IsJobAfter nodes job (sent_of world.messages job) history
+  -- what was answered is what was due
+  pub due : map (λ entry. entry.answer) history ≡ answers_due nodes memory history
+
+-- a node in which nothing has happened
+pub record IsNew (memory place : ℕ) (node : Hosted) : Type 0 where
+  pub number : node.number ≡ place
+  pub admissions : node.admissions ≡ record { memory = memory; greatest = 0; live = [] }
+  pub shows : (job : ℕ) → Shows node job (view_of (no_store job))
+
+-- so many of them, by number
+pub record AreNew (memory many : ℕ) (nodes : List Hosted) : Type 0 where
+  pub count : length nodes ≡ many
+  pub each : (place : ℕ) (node : Hosted) → slice_get nodes place ≡ Some node → IsNew memory place node

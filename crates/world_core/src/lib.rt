@@ -1,0 +1,126 @@
+//! A world of nodes, and the messages that were sent. A contract sees what each node shows of each job
+//! number, and what the job sent; after every history of steps that is the job's private cluster.
+#![tactic(auto)]
+
+ghost use Rattle.std.specs.Prelude.{◌≡◌, ℕ, ◌<◌, List, [], ◌∷◌, true, length, IfOk, OnErr, IsErrOf};
+ghost use Rattle.obj_id.specs.declared.refusals.Refusal.{Refusal};
+ghost use Rattle.obj_id.specs.declared.refusals.Refusal.TheVariants.{NoMemory};
+ghost use Rattle.private_store.specs.declared.schedules.Traced.{Traced};
+ghost use Rattle.private_store.specs.Trace.{is_no_memory};
+ghost use Rattle.node_core.specs.Steps.{is_built, job_of as job_of_lem};
+ghost use Rattle.world_core.specs.Worlds.{is_shape, is_built_step, AreNew, IsAfter};
+ghost use Rattle.world_core.specs.Moves.{Moves};
+
+mod messages;
+mod runs;
+
+use bytes::Bytes;
+use messages::Messages;
+use node_core::{Node, Outcome};
+use obj_id::{JobNo, Place, Refusal, Reply};
+use private_store::{Event, Step, StepAnswer};
+pub use runs::{Trace, run, run_two};
+use std::alloc::{AllocError, Global};
+use std::marker::Model;
+
+/// How many nodes a world has, 1 to 8, and the bytes of each one's memory, 0 to 17,179,869,184.
+#[derive(Clone, Copy, Debug, PartialEq, Eq)]
+pub struct Shape {
+    pub nodes: u32,
+    pub memory: u64,
+}
+
+/// Nodes, and all messages that were sent.
+#[derive(Drop)]
+pub struct World {
+    nodes: Vec<Node>,
+    messages: Messages,
+}
+
+impl Model for World {
+    ghost use Rattle.world_core.specs.Logs.{messages_of};
+    ghost use Rattle.world_core.specs.Worlds.{Hosting};
+
+    ghost Value = { Hosting };
+
+    ghost view = { λ w. record { nodes = w.nodes.items; messages = messages_of w.messages.logs } };
+}
+
+impl World {
+    /// A world in which nothing has happened. `NoMemory` alone.
+    pub fn new(alloc: Global, shape: Shape) -> Result<World, Refusal>
+        requires { is_shape shape ≡ true }
+        ensures ok { IfOk result (λ world. IsAfter shape.nodes shape.memory world []) }
+        ensures memory { (r : Refusal) → IsErrOf result r → r ≡ NoMemory }
+    {
+        let nodes = new_nodes(alloc, shape)?;
+        Ok(World {
+            nodes,
+            messages: Messages::new(alloc),
+        })
+    }
+
+    /// Takes one step and gives its answer. Want of memory is the answer `NoMemory`, and then nothing has
+    /// changed.
+    pub fn step(&mut self, step: &Step) -> StepAnswer
+        requires { is_built_step (length self.old.nodes) step.now ≡ true }
+        ensures after { (nodes memory : ℕ) (history : List Traced) → IsAfter nodes memory self.old history
+            → IsAfter nodes memory self.new (record { step = step.now; answer = result } ∷ history) }
+        ensures memory { (nodes memory : ℕ) (history : List Traced) → IsAfter nodes memory self.old history → is_no_memory result ≡ true → self.new ≡ self.old }
+        ensures count { length self.new.nodes ≡ length self.old.nodes }
+    {
+        match step {
+            Step::At(place, event) => match self.apply(*place, event) {
+                Ok(reply) => StepAnswer::Told(reply),
+                Err(_) => StepAnswer::Told(Reply::Refused(Refusal::NoMemory)),
+            },
+            Step::Deliver(..) => unreachable!(),
+        }
+    }
+
+    /// An event at the node of the place. `NoMemory` alone, and then nothing has changed.
+    fn apply(&mut self, place: u32, event: &Event) -> Result<Reply<Bytes>, Refusal>
+        requires place { place < length self.old.nodes }
+        requires built { is_built event.now ≡ true }
+        ensures ok { IfOk result (λ reply. Moves self.old place event.now reply self.new) }
+        ensures err { OnErr result (self.new ≡ self.old) }
+    {
+        let job = job_of(event);
+        // all growth comes before the node's step
+        self.messages.reserve(job)?;
+        let outcome = self.nodes[place as usize].apply(event)?;
+        let Outcome {
+            reply,
+            messages,
+            ..
+        } = outcome;
+        self.messages.add(job, Place::Node(place), messages);
+        Ok(reply)
+    }
+}
+
+/// Nodes in which nothing has happened, by number.
+fn new_nodes(alloc: Global, shape: Shape) -> Result<Vec<Node>, AllocError>
+    requires { is_shape shape ≡ true }
+    ensures { IfOk result (λ nodes. AreNew shape.memory shape.nodes nodes.items) }
+{
+    let mut nodes = Vec::new(alloc);
+    for number in 0..shape.nodes {
+        nodes.push(Node::new(alloc, number, shape.memory))?;
+    }
+    Ok(nodes)
+}
+
+/// The job that an event is of: 0 for what is of none.
+fn job_of(event: &Event) -> JobNo
+    ensures { result.0 ≡ job_of_lem event.now }
+{
+    match event {
+        Event::Admit(job, _, _) => *job,
+        Event::Requota(job, _) => *job,
+        Event::JobEnd(job) => *job,
+        Event::Take => JobNo(0),
+        Event::Finish(job, _, _) => *job,
+        Event::Call(job, _, _) => *job,
+    }
+}

@@ -1,0 +1,102 @@
+//! Runs of whole schedules.
+ghost use Rattle.std.specs.Prelude.{◌≡◌, ℕ, List, [], ◌∷◌, ◌++◌, true, map, filter, IfOk, OnOk, OnErr, IsErrOf};
+ghost use Rattle.std.specs.List.{list_all};
+ghost use Rattle.obj_id.specs.declared.refusals.Refusal.{Refusal};
+ghost use Rattle.obj_id.specs.declared.refusals.Refusal.TheVariants.{NoMemory};
+ghost use Rattle.private_store.specs.Trace.{replies_of, is_answered, Agree, IsPrivate};
+ghost use Rattle.private_store.specs.Shared.{AreSharedAnswers};
+ghost use Rattle.world_core.specs.Worlds.{is_shape, is_built_step};
+ghost use Rattle.world_core.specs.Runs.{IsRun};
+
+use crate::{Shape, World};
+use obj_id::Refusal;
+use private_store::{Step, Traced};
+use std::alloc::{AllocError, Global};
+use std::marker::Model;
+
+/// The steps of a schedule, each with its answer.
+#[derive(Drop)]
+pub struct Trace {
+    entries: Vec<Traced>,
+}
+
+impl Model for Trace {
+    ghost use Rattle.std.specs.Prelude.{List};
+    ghost use Rattle.private_store.specs.declared.schedules.Traced.{Traced};
+
+    ghost Value = { List Traced };
+
+    ghost view = { λ t. t.entries.items };
+}
+
+impl Trace {
+    /// No steps. Takes no memory.
+    fn new(alloc: Global) -> Trace
+        ensures { result ≡ [] }
+    {
+        Trace {
+            entries: Vec::new(alloc),
+        }
+    }
+
+    /// Adds a step with its answer. Want of memory leaves the trace as it was.
+    fn push(&mut self, entry: Traced) -> Result<(), AllocError>
+        ensures ok { OnOk result (self.new ≡ self.old ++ entry ∷ []) }
+        ensures err { OnErr result (self.new ≡ self.old) }
+    {
+        self.entries.push(entry)?;
+        Ok(())
+    }
+
+    /// The steps with their answers, in order.
+    pub fn entries(&self) -> &[Traced]
+        ensures { result.now ≡ self.now }
+    {
+        &self.entries
+    }
+}
+
+/// Runs a schedule in a new world.
+///
+/// For every schedule, and for every job number: the job's replies, but for want of memory, are those of
+/// its private cluster, which nobody else uses, on its own inputs; and what neighbours share is answered
+/// as it is due. `NoMemory` where there is none for the world or the trace; a step that wants memory is
+/// answered so.
+pub fn run(alloc: Global, shape: Shape, schedule: Vec<Step>) -> Result<Trace, Refusal>
+    requires shape { is_shape shape ≡ true }
+    requires built { list_all (is_built_step shape.nodes) schedule.items ≡ true }
+    ensures steps { IfOk result (λ trace. map (λ entry. entry.step) trace ≡ schedule.items) }
+    ensures shared { IfOk result (λ trace. AreSharedAnswers shape.nodes shape.memory trace) }
+    ensures private { IfOk result (λ trace. (job : ℕ) → IsPrivate shape.nodes job trace) }
+    ensures memory { (r : Refusal) → IsErrOf result r → r ≡ NoMemory }
+{
+    let mut world = World::new(alloc, shape)?;
+    let mut trace = Trace::new(alloc);
+    for step in schedule {
+        let answer = world.step(&step);
+        trace.push(Traced { step, answer })?;
+    }
+    Ok(trace)
+}
+
+/// Runs two schedules, each in a new world. A job whose inputs are the same in both is given equal
+/// replies, but for want of memory, whatever all others do.
+pub fn run_two(
+    alloc: Global,
+    shape: Shape,
+    first: Vec<Step>,
+    second: Vec<Step>,
+) -> Result<(Trace, Trace), Refusal>
+    requires shape { is_shape shape ≡ true }
+    requires first { list_all (is_built_step shape.nodes) first.items ≡ true }
+    requires second { list_all (is_built_step shape.nodes) second.items ≡ true }
+    ensures first { IfOk result (λ traces. IsRun shape.nodes shape.memory first.items traces.0) }
+    ensures second { IfOk result (λ traces. IsRun shape.nodes shape.memory second.items traces.1) }
+    ensures replies { IfOk result (λ traces. (job : ℕ) → Agree shape.nodes job traces.0 traces.1
+        → filter is_answered (replies_of job traces.0) ≡ filter is_answered (replies_of job traces.1)) }
+    ensures memory { (r : Refusal) → IsErrOf result r → r ≡ NoMemory }
+{
+    let first = run(alloc, shape, first)?;
+    let second = run(alloc, shape, second)?;
+    Ok((first, second))
+}
