@@ -47,7 +47,7 @@ module _ {X : Type 0} (test : List X → Bool) (p : X → Bool) where
             omega (arith, i, a, c, d, z)
       ] e
 
-fewer_chosen : (store : Shape) (test : ObjectId → Copy → Bool) (ids fewer : List ObjectId) → AreChosen store test ids → ((q : ObjectId) → count_by (same_id q) fewer ≤ count_by (same_id q) ids) → AreChosen store test fewer
+pub fewer_chosen : (store : Shape) (test : ObjectId → Copy → Bool) (ids fewer : List ObjectId) → AreChosen store test ids → ((q : ObjectId) → count_by (same_id q) fewer ≤ count_by (same_id q) ids) → AreChosen store test fewer
 fewer_chosen store test ids fewer h le = record {
   pass = λ q t. h.pass q (among q t);
   once = λ q. let k = le q in let o = h.once q in omega (arith, k, o);
@@ -66,7 +66,7 @@ module _ (order : List ObjectId) (once : IsOrderOfUse order) (store : Shape) whe
     once = λ q. let k = count-filter (same_id q) (passes store test) order in let o = once q in omega (arith, k, o);
   }
 
-  shortest_chosen : (test : ObjectId → Copy → Bool) (enough : List ObjectId → Bool) (ids : List ObjectId) → shortest enough (in_order store order test) ≡ Some ids → AreChosen store test ids
+  pub shortest_chosen : (test : ObjectId → Copy → Bool) (enough : List ObjectId → Bool) (ids : List ObjectId) → shortest enough (in_order store order test) ≡ Some ids → AreChosen store test ids
   shortest_chosen test enough ids e = fewer_chosen store test (in_order store order test) ids (in_order_chosen test)
       (λ q. let k = count-shortest enough (same_id q) [] (in_order store order test) ids e in let z : count_by (same_id q) [] ≡ 0 = refl in omega (arith, k, z))
 

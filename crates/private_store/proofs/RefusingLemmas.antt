@@ -179,7 +179,7 @@ evict_room_clean store n ids h = record {
     no_error (Some offset) h r e = cc
 
 -- what is evicted by the plan makes room
-victims_make_room : (order : List ObjectId) (store : Shape) (n : ℕ) (ids : List ObjectId) → victims order store n ≡ Some ids → is_some (offset_without store n ids) ≡ true
+pub victims_make_room : (order : List ObjectId) (store : Shape) (n : ℕ) (ids : List ObjectId) → victims order store n ≡ Some ids → is_some (offset_without store n ids) ≡ true
 victims_make_room order store n ids e = shortest_passes (λ out. is_some (offset_without store n out)) [] _ ids e
 
 spill_plan_clean : (store : Shape) (n : ℕ) (ids : List ObjectId) → RoomClean store (room_by store n (spill_plan store ids))
