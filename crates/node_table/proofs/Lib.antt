@@ -14,3 +14,5 @@ pub mod Releasing
 pub mod Leaving
 pub mod Telling
 pub mod Totals
+pub mod Described
+pub mod Planning

@@ -192,7 +192,7 @@ module _ (row : Row) (line : WorkLine) (contents : Contents) (h : IsShown row li
   spills : (q : ObjectId) (k : Kept) → at row.copies q ≡ Some k → is_spilling k ≡ is_writing store q
   spills q k found = ap (λ o. option_map_or is_write o false) (h.working q k found) ∙ first_writes q store.works (h.kept.kept.shape.one_work q)
 
-  device_is : total device_bytes row.copies ≡ device_used store
+  pub device_is : total device_bytes row.copies ≡ device_used store
   device_is =
       let is = device-sum store row.copies sorted spills in
       let d = h.kept.kept.device in

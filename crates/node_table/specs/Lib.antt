@@ -6,3 +6,4 @@ pub mod Checks
 pub mod Erased
 pub mod Outcomes
 pub mod Usages
+pub mod RoomPlans

@@ -4,11 +4,14 @@ ghost use Rattle.obj_id.specs.declared.refusals.Refusal.{Refusal};
 ghost use Rattle.obj_id.specs.declared.refusals.Refusal.TheVariants.{NoMemory, TooMany, NotHeld};
 ghost use Rattle.private_store.specs.Copies.{extent_of, is_primary, is_created, is_held};
 ghost use Rattle.private_store.specs.Commands.{holds_of as holds_of_lem, all_holds};
+ghost use Rattle.private_store.specs.Extents.{rounded};
 ghost use Rattle.private_store.specs.Limits.{most_holds};
+ghost use Rattle.node_table.specs.RoomPlans.{facts_of};
 ghost use Rattle.node_table.specs.Kept.{new_kept, fetched_kept, held, released, left, sealed, spilling, gone_away, restoring as restoring_lem, fault_told, can_spill, can_go_away, can_restore};
 ghost use Rattle.node_table.specs.Usages.{is_spilling as is_spilling_lem};
 
 use fetch_core::FetchIn;
+use lru_evictor::CopyFacts;
 use obj_id::{CopyState, Digest, Extent, Kind, Refusal, WorkKind};
 use object_state::ObjectCopy;
 use pins_holds::Pins;
@@ -96,7 +99,7 @@ impl RowCopy {
         let offset = self.offset?;
         Some(Extent {
             offset,
-            length: (u64::from(self.length()) + 15) / 16 * 16,
+            length: self.rounded_length(),
         })
     }
 
@@ -133,6 +136,27 @@ impl RowCopy {
         ensures { result ≡ is_spilling_lem self.now }
     {
         matches!(self.marks.working(), Some(WorkKind::Write))
+    }
+
+    /// What a plan for room reads of it, where no hand was given.
+    pub fn facts(&self) -> CopyFacts
+        ensures { result ≡ facts_of self.now }
+    {
+        let held = self.is_held();
+        CopyFacts {
+            extent: self.extent(),
+            bytes: self.rounded_length(),
+            evictable: self.marks.is_evictable(held, false),
+            passing: self.marks.is_passing(self.offset.is_some(), held, false),
+            spillable: self.marks.is_spillable(held, false),
+        }
+    }
+
+    /// Its length in bytes, in whole units of 16.
+    pub(crate) fn rounded_length(&self) -> u64
+        ensures { result ≡ rounded self.now.copy.length }
+    {
+        (u64::from(self.length()) + 15) / 16 * 16
     }
 
     /// Whether a session holds it.

@@ -10,6 +10,7 @@ mod get_command;
 mod hold_commands;
 mod listing;
 mod outcome;
+mod room;
 mod row;
 
 pub use copies::Copies;

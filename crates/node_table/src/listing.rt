@@ -44,7 +44,7 @@ impl RowCopy {
         ensures { result ≡ device_bytes_lem self.now }
     {
         if self.is_backed() || self.is_spilling() {
-            (u64::from(self.length()) + 15) / 16 * 16
+            self.rounded_length()
         } else {
             0
         }

@@ -10,7 +10,7 @@ ghost use Rattle.private_store.specs.Contents.{overwritten};
 ghost use Rattle.job_region.specs.Region.{bytes_at as placed_bytes};
 ghost use Rattle.std.specs.Option.{option_map_or};
 ghost use Rattle.private_store.specs.Copies.{is_created};
-ghost use Rattle.lru_evictor.specs.Orders.{touched, last_used};
+ghost use Rattle.lru_evictor.specs.Orders.{order_of, touched, last_used};
 ghost use Rattle.node_table.specs.Entries.{changed, all_changed};
 ghost use Rattle.node_table.specs.Kept.{Kept, sealed, held, released, left, fetched_kept};
 ghost use Rattle.node_table.specs.Checks.{release_check};
@@ -91,6 +91,27 @@ impl JobRow {
         ensures placed { ArePlaced self.now.window.placed (place_of self.now.copies) }
     {
         &self.copies
+    }
+
+    /// Its window.
+    pub(crate) fn window(&self) -> &Window
+        ensures { result.now ≡ self.now.window }
+    {
+        &self.window
+    }
+
+    /// What the job may have on the device, in bytes.
+    pub(crate) fn device(&self) -> u64
+        ensures { result ≡ self.now.device }
+    {
+        self.device
+    }
+
+    /// The order of use of its copies.
+    pub(crate) fn use_order(&self) -> &UseOrder
+        ensures { order_of self.now.job result.now ≡ self.now.order }
+    {
+        &self.order
     }
 
     /// Where the copy lies in the window, if it is there and resident.

@@ -1,0 +1,171 @@
+-- The plan for room in a row's window, from the plan of the rule of room.
+use Rattle.std.proofs.Common.{◌≡◌, ℕ, ◌+◌, ◌-◌, ◌^◌, ◌<◌, ◌≤◌, Bool, true, false, not, cond, ◌==◌, List, [], ◌∷◌, ◌++◌, fold, length, take, Option, Some, None, is_some, refl, sym, ap, subst, ◌∙◌, arith}
+use Rattle.std.specs.Prelude.{min, nat_lt}
+use Rattle.std.specs.List.{list_all}
+use Rattle.std.proofs.lemmas.Bool.Decides.{nat_tests}
+use Rattle.std.proofs.Math.Nat.{min-eq_left}
+use Rattle.std.proofs.lemmas.List.{length-take}
+use Rattle.obj_id.specs.declared.ids.JobNo.{JobNo}
+use Rattle.obj_id.specs.declared.ids.ObjectId.{ObjectId}
+use Rattle.obj_id.specs.declared.refusals.Refusal.{Refusal}
+use Rattle.obj_id.specs.declared.refusals.Refusal.TheVariants.{BadSize, Full, Pending, TooMany, DeviceFailed}
+use Rattle.obj_id.specs.Ids.{same_id}
+use Rattle.obj_id.proofs.SameIds.{same_id-itself}
+use Rattle.private_store.specs.Limits.{has_numbers}
+use Rattle.private_store.specs.Tables.{ById, is_among}
+use Rattle.private_store.specs.Extents.{is_size, first}
+use Rattle.private_store.specs.Shape.{Shape}
+use Rattle.private_store.specs.Copies.{is_evictable, is_passing, is_spillable, device_used}
+use Rattle.private_store.specs.Contents.{Contents}
+use Rattle.private_store.specs.Kept.{IsOrderOfUse}
+use Rattle.private_store.specs.Room.{Plan, fits, wait, full, busy, evict, spill, plan, shortest, shortest_from, victims, spilled, spill_plan, in_order, offset_without, bytes_of_copies, works_left, asked, no_room, spill_room, room_by, make_room}
+use Rattle.private_store.proofs.KeptLists.{count-take}
+use Rattle.private_store.proofs.KeptPlan.{AreChosen, fewer_chosen, shortest_chosen}
+use Rattle.private_store.proofs.RefusingLemmas.{victims_make_room}
+use Rattle.private_store.proofs.Tests.{both, or_left, or_right}
+use Rattle.job_region.specs.Region.{Region, extents_of, place_for, place_check, without}
+use Rattle.lru_evictor.specs.declared.facts.DeviceRoom.{DeviceRoom}
+use Rattle.lru_evictor.specs.declared.facts.Plan.{Plan as Found}
+use Rattle.lru_evictor.specs.Orders.{Orders, order_of}
+use Rattle.lru_evictor.specs.Plans.{IsDescribed, shown}
+use Rattle.lru_evictor.proofs.Described.{fits-described}
+use Rattle.spill_work.specs.Line.{WorkLine, in_flight, used_by}
+use Rattle.node_table.specs.Kept.{Kept}
+use Rattle.node_table.specs.Row.{Row, shape_of, place_of, ArePlaced}
+use Rattle.node_table.specs.Shown.{IsShown}
+use Rattle.node_table.specs.RoomPlans.{IsPlanned, MakesPlace, plan_by}
+use Rattle.node_table.specs.Usages.{total, device_bytes}
+use Rattle.node_table.proofs.Telling.{device_is}
+use Rattle.node_table.specs.declared.room.RoomPlan.{RoomPlan}
+use Rattle.node_table.specs.declared.room.RoomPlan.TheVariants.{Place, Ask, Refuse}
+use Rattle.node_table.proofs.Described.{described, facts_at, used_is, used_fits}
+
+-- what is so of each among the ids is so of all
+all_among : (p : ObjectId → Bool) (ids : List ObjectId) → ((q : ObjectId) → is_among ids q ≡ true → p q ≡ true) → list_all p ids ≡ true
+all_among p [] h = refl
+all_among p (id ∷ ids) h =
+    both (p id) (list_all p ids) (h id (or_left (same_id id id) (is_among ids id) (same_id-itself id)))
+    (all_among p ids (λ q t. h q (or_right (same_id q id) (is_among ids q) t)))
+
+-- no beginning is shorter than none
+at_once : {X : Type 0} (test : List X → Bool) (xs : List X) → test [] ≡ true → shortest test xs ≡ Some []
+at_once test [] t = ap (λ b. cond b (Some []) None) t
+at_once test (x ∷ xs) t = ap (λ b. elim b [ true ↦ Some [] | false ↦ shortest_from test ([] ++ x ∷ []) xs ]) t
+
+module _ (order : List ObjectId) (once : IsOrderOfUse order) (store : Shape) (unfailed : store.spill_failed ≡ false) (n : ℕ) where
+  -- what a plan does is what is to be done
+  abbrev IsDone : Plan → Type 0
+  IsDone p = IsPlanned (room_by store n p) store n (plan_by store.works_asked p)
+
+  evicts : (ids : List ObjectId) → victims order store n ≡ Some ids → MakesPlace (room_by store n (evict ids)) store n ids
+  evicts ids e =
+      let chosen = shortest_chosen order once store (is_evictable store) (λ out. is_some (offset_without store n out)) ids e in
+      record { room_is = refl; place = victims_make_room order store n ids e; evictable = all_among _ ids chosen.pass; once = chosen.once }
+
+  spills : (ids : List ObjectId) → AreChosen store (is_spillable store) ids → 0 < length ids → length ids ≤ works_left store → IsDone (spill ids)
+  spills ids chosen some few =
+      elim (has_numbers store.works_asked (length ids)) as (λ b. has_numbers store.works_asked (length ids) ≡ b → IsPlanned (room_by store n (spill ids)) store n (cond b (Ask ids) (Refuse TooMany))) [
+        | true ↦ λ t. record { room_is = spill_is true t; spillable = all_among _ ids chosen.pass; once = chosen.once; some = some; few = few; numbers = t }
+        | false ↦ λ t. spill_is false t
+      ] refl
+    where
+      spill_is : (b : Bool) → has_numbers store.works_asked (length ids) ≡ b → spill_room store ids ≡ cond b (no_room (fold (asked true) store ids) Pending) (no_room store TooMany)
+      spill_is b t =
+          ap (λ f. cond f (no_room (record store { spill_failed = false }) DeviceFailed) (cond (has_numbers store.works_asked (length ids)) (no_room (fold (asked true) store ids) Pending) (no_room store TooMany))) unfailed
+          ∙ ap (λ b. cond b (no_room (fold (asked true) store ids) Pending) (no_room store TooMany)) t
+
+  spills_first : (id : ObjectId) (ids : List ObjectId) → AreChosen store (is_spillable store) (id ∷ ids) → IsDone (spill_plan store (id ∷ ids))
+  spills_first id ids chosen =
+      elim (nat_lt store.quota.device (device_used store + bytes_of_copies store (id ∷ ids))) as (λ b. IsDone (cond b full (cond (works_left store == 0) busy (spill (take (works_left store) (id ∷ ids)))))) [
+        | true ↦ refl
+        | false ↦ elim (works_left store == 0) as (λ b. (works_left store == 0) ≡ b → IsDone (cond b busy (spill (take (works_left store) (id ∷ ids))))) [
+          | true ↦ λ _. refl
+          | false ↦ λ left.
+              let long = length-take (works_left store) (id ∷ ids) in
+              let more : 0 < works_left store = grind (arith, nat_tests, left) in
+              let all : length (id ∷ ids) ≡ 1 + length ids = omega arith in
+              spills (take (works_left store) (id ∷ ids)) (fewer_chosen store (is_spillable store) (id ∷ ids) (take (works_left store) (id ∷ ids)) chosen (λ q. count-take (same_id q) (works_left store) (id ∷ ids)))
+              (omega (arith, long, more, all)) (omega (arith, long))
+        ] refl
+      ]
+
+  abbrev then_spilled : Option (List ObjectId) → Plan
+  then_spilled o = elim o [ Some [] ↦ wait | Some (id ∷ ids) ↦ spill_plan store (id ∷ ids) | None ↦ full ]
+
+  spilled_done : (o : Option (List ObjectId)) → spilled order store n ≡ o → IsDone (then_spilled o)
+  spilled_done None e = refl
+  spilled_done (Some []) e = refl
+  spilled_done (Some (id ∷ ids)) e = spills_first id ids (shortest_chosen order once store (is_spillable store)
+      (λ out. is_some (offset_without store n ((in_order store order (is_evictable store) ++ in_order store order (is_passing store)) ++ out))) (id ∷ ids) e)
+
+  pub plan_done : IsDone (plan order store n)
+  plan_done = by (victims order store n) refl
+    where
+      by : (o : Option (List ObjectId)) → victims order store n ≡ o → IsDone (elim o [ Some [] ↦ fits | Some (id ∷ ids) ↦ evict (id ∷ ids) | None ↦ then_spilled (spilled order store n) ])
+      by None e = spilled_done (spilled order store n) refl
+      by (Some []) e = evicts [] e
+      by (Some (id ∷ ids)) e = evicts (id ∷ ids) e
+
+  -- nothing goes where the bytes fit as it is
+  pub place_done : is_some (offset_without store n []) ≡ true → IsPlanned (make_room order store n) store n (Place [])
+  place_done fit =
+      let none : victims order store n ≡ Some [] = at_once (λ out. is_some (offset_without store n out)) (in_order store order (is_evictable store)) fit in
+      subst (λ v. IsPlanned (room_by store n (elim v [ Some [] ↦ fits | Some (id ∷ ids) ↦ evict (id ∷ ids) | None ↦ then_spilled (spilled order store n) ])) store n (Place [])) (sym none) (evicts [] none)
+
+-- ---- of a row
+
+none_go : (placed : List (ℕ × List ℕ)) → without [] placed ≡ placed
+none_go [] = refl
+none_go (p ∷ placed) = ap (λ ps. p ∷ ps) (none_go placed)
+
+passes_check : (window : Region) (n : ℕ) → place_check window n ≡ None → is_some (place_for window n) ≡ true
+passes_check window n = by (is_size window.quota n) (is_some (place_for window n))
+  where
+    by : (size place : Bool) → cond (not size) (Some BadSize) (cond place None (Some Full)) ≡ None → place ≡ true
+    by true true e = refl
+    by true false e = absurd cc
+    by false place e = absurd cc
+
+module _ (row : Row) (line : WorkLine) (contents : Contents) (h : IsShown row line contents) (placed : ArePlaced row.window.placed (place_of row.copies)) (n : ℕ) where
+  abbrev s : Shape
+  s = shape_of row line
+
+  pub planned : IsPlanned (make_room row.order s n) s n (plan_by s.works_asked (plan row.order s n))
+  planned = plan_done row.order h.kept.order s refl n
+
+  pub place_planned : place_check row.window n ≡ None → IsPlanned (make_room row.order s n) s n (Place [])
+  place_planned none =
+      let device : DeviceRoom = record { quota = row.device; used = device_used s; works = length s.works } in
+      place_done row.order h.kept.order s refl n
+      (sym (fits-described s row.window device (facts_at row.copies) (described row line contents h placed device refl refl refl) n [])
+      ∙ ap (λ ps. is_some (first (extents_of ps) row.window.quota n)) (none_go row.window.placed)
+      ∙ passes_check row.window n none)
+
+  -- ---- the exits of the plan
+
+  pub place_exit : (window : Region) → window ≡ row.window → (check : Option Refusal) → check ≡ place_check window n → check ≡ None → (ids : List ObjectId) → ids ≡ []
+      → IsPlanned (make_room row.order s n) s n (Place ids)
+  place_exit window here check is none ids empty =
+      subst (λ ids. IsPlanned (make_room row.order s n) s n (Place ids)) (sym empty) (place_planned (ap (λ w. place_check w n) (sym here) ∙ sym is ∙ none))
+
+  module _ (job : JobNo) (own : job.0 ≡ row.job) where
+    same_job : ◌≡◌ {A = JobNo} job (record { 0 = row.job })
+    same_job = λ i. record { 0 = own i }
+
+    module _ (window : Region) (here : window ≡ row.window) (copies : ById Kept) (same : copies ≡ row.copies) (quota used works : ℕ)
+        (of_job : quota ≡ row.device) (walked : used ≡ total device_bytes copies) (counted : works ≡ in_flight line job) where
+      abbrev device : DeviceRoom
+      device = record { quota = quota; used = used; works = works }
+
+      as_described : IsDescribed s window device (facts_at copies)
+      as_described =
+          subst (λ w. IsDescribed s w device (facts_at copies)) (sym here) (subst (λ t. IsDescribed s row.window device (facts_at t)) (sym same)
+          (described row line contents h placed device of_job
+          (walked ∙ ap (total device_bytes) same ∙ device_is row line contents h) (counted ∙ ap (in_flight line) same_job)))
+
+      pub plan_exit : (orders : Orders) → order_of row.job orders ≡ row.order → (p : Found)
+          → ((store : Shape) → IsDescribed store window device (facts_at copies) → shown p ≡ plan (order_of job.0 orders) store n)
+          → (asked : ℕ) → asked ≡ used_by line job → (told : RoomPlan) → told ≡ plan_by asked (shown p) → IsPlanned (make_room row.order s n) s n told
+      plan_exit orders order p is_plan asked is_asked told is =
+          subst (IsPlanned (make_room row.order s n) s n)
+          (sym (is ∙ (λ i. plan_by ((is_asked ∙ ap (used_by line) same_job) i) ((is_plan s as_described ∙ ap (λ o. plan o s n) (ap (λ j. order_of j orders) own ∙ order)) i)))) planned

@@ -1,0 +1,71 @@
+-- What is to be done for room in a row's window, and what a plan reads of the copies that a row keeps.
+use Rattle.std.specs.Prelude.{◌≡◌, ℕ, ◌<◌, ◌≤◌, Bool, true, false, not, ◌&&◌, ◌||◌, if◌then◌else◌, List, [], length, map, fold, sum, is_some, is_none}
+use Rattle.std.specs.List.{list_all}
+use Rattle.std.specs.Option.{option_map_or}
+use Rattle.obj_id.specs.declared.ids.ObjectId.{ObjectId}
+use Rattle.obj_id.specs.declared.refusals.Refusal.TheVariants.{Pending, Full, Busy, TooMany}
+use Rattle.private_store.specs.Limits.{has_numbers}
+use Rattle.private_store.specs.Tables.{ById, at}
+use Rattle.private_store.specs.Extents.{rounded}
+use Rattle.private_store.specs.Shape.{Copy, Shape}
+use Rattle.private_store.specs.Copies.{extent_of, is_held, is_sealed, is_primary, is_evictable, is_spillable}
+use Rattle.private_store.specs.Kept.{IsOrderOfUse}
+use Rattle.private_store.specs.Room.{Room, Plan, fits, wait, full, busy, evict, spill, works_left, offset_without, asked, evict_room, no_room}
+use Rattle.lru_evictor.specs.declared.facts.CopyFacts.{CopyFacts}
+use Rattle.spill_work.specs.Line.{is_write}
+use Rattle.node_table.specs.Kept.{Kept}
+use Rattle.node_table.specs.declared.room.RoomPlan.{RoomPlan}
+use Rattle.node_table.specs.declared.room.RoomPlan.TheVariants.{Place, Ask, Refuse}
+
+-- ---- what a plan reads
+
+-- neither held nor working, where no hand was given
+abbrev pub is_idle : Kept → Bool
+is_idle kept = not (is_held kept.copy) && is_none kept.working
+
+abbrev pub facts_of : Kept → CopyFacts
+facts_of kept =
+    record {
+      extent = extent_of kept.copy;
+      bytes = rounded kept.copy.length;
+      evictable = is_sealed kept.copy.state && is_idle kept && (not (is_primary kept.copy.kind) || is_some kept.copy.backed);
+      passing = is_some kept.working && is_some kept.copy.offset && not (is_held kept.copy);
+      spillable = is_sealed kept.copy.state && is_primary kept.copy.kind && is_none kept.copy.backed && is_idle kept && not kept.copy.doomed;
+    }
+
+-- ---- what is to be done
+
+-- what a plan is to a job whose works had numbers up to this one
+abbrev pub plan_by : ℕ → Plan → RoomPlan
+plan_by used fits = Place []
+plan_by used (evict ids) = Place ids
+plan_by used wait = Refuse Pending
+plan_by used full = Refuse Full
+plan_by used busy = Refuse Busy
+plan_by used (spill ids) = if has_numbers used (length ids) then Ask ids else Refuse TooMany
+
+-- each id has a copy that passes the test
+abbrev pub all_pass : Shape → (ObjectId → Copy → Bool) → List ObjectId → Bool
+all_pass store test ids = list_all (λ id. option_map_or (test id) (at store.copies id) false) ids
+
+-- the copies go, and then there is a place
+pub record MakesPlace (room : Room) (store : Shape) (n : ℕ) (ids : List ObjectId) : Type 0 where
+  pub room_is : room ≡ evict_room store n ids
+  pub place : is_some (offset_without store n ids) ≡ true
+  pub evictable : all_pass store (is_evictable store) ids ≡ true
+  pub once : IsOrderOfUse ids
+
+-- the copies' writes are asked for, some and no more than may be, and there is room once they have ended
+pub record AsksWrites (room : Room) (store : Shape) (ids : List ObjectId) : Type 0 where
+  pub room_is : room ≡ no_room (fold (asked true) store ids) Pending
+  pub spillable : all_pass store (is_spillable store) ids ≡ true
+  pub once : IsOrderOfUse ids
+  pub some : 0 < length ids
+  pub few : length ids ≤ works_left store
+  pub numbers : has_numbers store.works_asked (length ids) ≡ true
+
+-- what room for n bytes does is what is to be done
+abbrev pub IsPlanned : Room → Shape → ℕ → RoomPlan → Type 0
+IsPlanned room store n (Place ids) = MakesPlace room store n ids
+IsPlanned room store n (Ask ids) = AsksWrites room store ids
+IsPlanned room store n (Refuse refusal) = room ≡ no_room store refusal
