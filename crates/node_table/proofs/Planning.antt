@@ -38,7 +38,7 @@ use Rattle.node_table.specs.Usages.{total, device_bytes}
 use Rattle.node_table.proofs.Telling.{device_is}
 use Rattle.node_table.specs.declared.room.RoomPlan.{RoomPlan}
 use Rattle.node_table.specs.declared.room.RoomPlan.TheVariants.{Place, Ask, Refuse}
-use Rattle.node_table.proofs.Described.{described, facts_at, used_is, used_fits}
+use Rattle.node_table.proofs.Described.{described, facts_at}
 
 -- what is so of each among the ids is so of all
 all_among : (p : ObjectId → Bool) (ids : List ObjectId) → ((q : ObjectId) → is_among ids q ≡ true → p q ≡ true) → list_all p ids ≡ true
@@ -148,10 +148,7 @@ module _ (row : Row) (line : WorkLine) (contents : Contents) (h : IsShown row li
   place_exit window here check is none ids empty =
       subst (λ ids. IsPlanned (make_room row.order s n) s n (Place ids)) (sym empty) (place_planned (ap (λ w. place_check w n) (sym here) ∙ sym is ∙ none))
 
-  module _ (job : JobNo) (own : job.0 ≡ row.job) where
-    same_job : ◌≡◌ {A = JobNo} job (record { 0 = row.job })
-    same_job = λ i. record { 0 = own i }
-
+  module _ (job : JobNo) (own : job ≡ record { 0 = row.job }) where
     module _ (window : Region) (here : window ≡ row.window) (copies : ById Kept) (same : copies ≡ row.copies) (quota used works : ℕ)
         (of_job : quota ≡ row.device) (walked : used ≡ total device_bytes copies) (counted : works ≡ in_flight line job) where
       abbrev device : DeviceRoom
@@ -161,11 +158,11 @@ module _ (row : Row) (line : WorkLine) (contents : Contents) (h : IsShown row li
       as_described =
           subst (λ w. IsDescribed s w device (facts_at copies)) (sym here) (subst (λ t. IsDescribed s row.window device (facts_at t)) (sym same)
           (described row line contents h placed device of_job
-          (walked ∙ ap (total device_bytes) same ∙ device_is row line contents h) (counted ∙ ap (in_flight line) same_job)))
+          (walked ∙ ap (total device_bytes) same ∙ device_is row line contents h) (counted ∙ ap (in_flight line) own)))
 
       pub plan_exit : (orders : Orders) → order_of row.job orders ≡ row.order → (p : Found)
           → ((store : Shape) → IsDescribed store window device (facts_at copies) → shown p ≡ plan (order_of job.0 orders) store n)
           → (asked : ℕ) → asked ≡ used_by line job → (told : RoomPlan) → told ≡ plan_by asked (shown p) → IsPlanned (make_room row.order s n) s n told
       plan_exit orders order p is_plan asked is_asked told is =
           subst (IsPlanned (make_room row.order s n) s n)
-          (sym (is ∙ (λ i. plan_by ((is_asked ∙ ap (used_by line) same_job) i) ((is_plan s as_described ∙ ap (λ o. plan o s n) (ap (λ j. order_of j orders) own ∙ order)) i)))) planned
+          (sym (is ∙ (λ i. plan_by ((is_asked ∙ ap (used_by line) own) i) ((is_plan s as_described ∙ ap (λ o. plan o s n) (ap (λ (j : JobNo). order_of j.0 orders) own ∙ order)) i)))) planned

@@ -143,8 +143,8 @@ module _ (node : ℕ) (row : Row) (line : WorkLine) (contents : Contents) (sessi
           ∙ ap (λ n. record { node = node; length = n; digest = entry.digest }) (long k found ∙ sym (ap (λ p. option_map_or (λ copy. copy.length) p 0) (at-put_here (copies_of row.copies) id now)))
           ∙ ap (λ d. record { node = node; length = length_at c.shape id; digest = d }) (its ∙ sym ((shown_now node row line contents h x c step_is told row_sealed line m).digests id (sealed digest k) there_now refl))))
 
-    pub seal_digest : (told : Digest) → told ≡ digest → ((k : Kept) (e : Extent) → at row.copies id ≡ Some k → extent_of k.copy ≡ Some e → told ≡ digest_of (take k.copy.length (placed_bytes e row.window.placed))) → digest ≡ digest_of (bytes_at contents.bytes id)
-    seal_digest told same its =
+    pub seal_digest : (result : Digest) → result ≡ digest → ((k : Kept) (e : Extent) → at row.copies id ≡ Some k → extent_of k.copy ≡ Some e → result ≡ digest_of (take k.copy.length (placed_bytes e row.window.placed))) → digest ≡ digest_of (bytes_at contents.bytes id)
+    seal_digest result same its =
         let resident = (h.kept.kept.shape.each id k.copy (at-copies_found row.copies id k found)).resident ∙ created_resides k.copy.state k.copy.fetch w.created in
         let p = placed_at k.copy resident in
         sym same ∙ its k p.0 found p.1 ∙ ap digest_of (sym (h.bytes id k p.0 found p.1))
