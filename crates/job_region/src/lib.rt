@@ -129,6 +129,7 @@ impl Window {
         ensures placed { IfOk result (λ e. self.new ≡ record self.old { placed = put_in (e.offset, replicate e.length 0) (without gone.now self.old.placed) }) }
         ensures refused { (r : Refusal) → r ≢ NoMemory → IsErrOf result r → place_check (record self.old { placed = without gone.now self.old.placed }) len ≡ Some r }
         ensures err { OnErr result (self.new ≡ self.old) }
+        ensures fresh { IfOk result (λ e. lookup (nat_eq e.offset) (without gone.now self.old.placed) ≡ None) }
     {
         let need = round_up(len);
         if len == 0 || len > LONGEST_OBJECT || need > self.quota {

@@ -183,13 +183,17 @@ module _ (store : Shape) (window : Region) (device : DeviceRoom) (facts : Looked
             by None h = always (is_among out e.0)
             by (Some x) h = ap (λ b. b || test x) (goes-among e.0 e.1 x found h out)
 
-    -- the window has room without these copies exactly where the store has
-    pub fits-described : fits_without window facts n out ≡ is_some (offset_without store n out)
-    fits-described =
+    -- without these copies the bytes go where they go in the store
+    pub offset-described : first (extents_of (without (gone_of facts out) window.placed)) window.quota n ≡ offset_without store n out
+    offset-described =
         let left : List Extent = extents_of (without (gone_of facts out) window.placed) in
         let kept : List Extent = filter_map (λ e. extent_of e.1) (filter (λ e. not (is_among out e.0)) store.copies) in
-        ap is_some (first-same left kept window.quota n (λ o. ap (λ b. nat_le (o + rounded n) window.quota && b) (same_tests (is_apart (record { offset = o; length = rounded n }))))
-        ∙ ap (λ q. first kept q n) described.quota)
+        first-same left kept window.quota n (λ o. ap (λ b. nat_le (o + rounded n) window.quota && b) (same_tests (is_apart (record { offset = o; length = rounded n }))))
+        ∙ ap (λ q. first kept q n) described.quota
+
+    -- the window has room without them exactly where the store has
+    pub fits-described : fits_without window facts n out ≡ is_some (offset_without store n out)
+    fits-described = ap is_some offset-described
 
   -- ---- what is chosen, and its bytes
 

@@ -12,4 +12,5 @@ mod use_order;
 
 pub use facts::{CopyFacts, CopyLookup, DeviceRoom, Plan};
 pub use laws::orders_follow_the_steps;
+pub use search::extents_by_offset;
 pub use use_order::{Order, UseOrder};

@@ -58,6 +58,20 @@ fn extents_of<C: CopyLookup>(
     Ok(extents)
 }
 
+/// The extents of resident copies, by rising offset.
+pub fn extents_by_offset<C: CopyLookup>(
+    alloc: Global,
+    copies: &C,
+    ids: &[ObjectId],
+) -> Result<Vec<Extent>, AllocError>
+    ensures permutation { IfOk result (λ v. IsPermutation (gone_of (C.facts copies.now) ids.now) v.items) }
+    ensures rising { IfOk result (λ v. IsNonDecreasingBy (λ (e : Extent). e.offset) v.items) }
+{
+    let mut extents = extents_of(alloc, copies, ids)?;
+    sort_extents(&mut extents)?;
+    Ok(extents)
+}
+
 /// The extents by rising offset.
 fn sort_extents(extents: &mut Vec<Extent>) -> Result<(), AllocError>
     ensures permutation { IsPermutation extents.old.items extents.new.items }
@@ -79,8 +93,7 @@ fn fits_without<C: CopyLookup>(
     requires { count ≤ length ids.now.items }
     ensures { IfOk result (λ b. b ≡ is_room_without window.now (C.facts copies.now) len (take count ids.now.items)) }
 {
-    let mut gone = extents_of(alloc, copies, &ids[..count])?;
-    sort_extents(&mut gone)?;
+    let gone = extents_by_offset(alloc, copies, &ids[..count])?;
     Ok(window.fits_without(&gone, len).is_some())
 }
 

@@ -12,5 +12,5 @@ returns g c =
     c.is_some.ensures
     ∙ ap is_some (c.fits_without.ensures
     ∙ ap first_without c.deref-2.ensures.value
-    ∙ ap (λ ps. first (extents_of ps) c.args.window.now.quota c.args.len) (without-permuted c.in_ok-gone.gone.items c.sort_extents.new.extents.items c.args.window.now.placed c.in_ok-sort_extents.ensures.permutation)
-    ∙ ap first_without (c.in_ok-gone.ensures ∙ ap (λ ids. gone_of (g.C.CopyLookup.facts c.args.copies.now) (take c.args.count ids)) c.deref.ensures.value))
+    ∙ ap (λ ps. first (extents_of ps) c.args.window.now.quota c.args.len) (without-permuted _ c.in_ok-gone.gone.items c.args.window.now.placed c.in_ok-gone.ensures.permutation)
+    ∙ ap first_without (ap (λ ids. gone_of (g.C.CopyLookup.facts c.args.copies.now) (take c.args.count ids)) c.deref.ensures.value))
