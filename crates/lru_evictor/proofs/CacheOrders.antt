@@ -1,7 +1,7 @@
 -- What a cache's entries, the most recently used first, say of the order of use.
 use Rattle.std.proofs.Common.{◌≡◌, ◌-◌, ◌≤◌, Bool, true, false, not, ◌||◌, List, [], ◌∷◌, ◌++◌, length, take, filter, reverse, Option, Some, None, refl, sym, ap, subst, ◌∙◌, is_some, cond}
 use Rattle.std.specs.List.{list_any, IsDistinct, AllByRecursion}
-use Rattle.std.specs.Map.{lookup_entry, remove_entry, keys_of}
+use Rattle.std.specs.Map.{lookup, lookup_entry, remove_entry, keys_of}
 use Rattle.std.specs.Option.{option_map_or}
 use Rattle.std.proofs.lemmas.List.{take_all, reverse-append}
 use Rattle.std.proofs.lemmas.List.Elements.{filter-append}
@@ -59,6 +59,9 @@ module _ (id : ObjectId) where
   stays (x ∷ xs) h = ap (λ b. cond (not b) (x ∷ others xs) (others xs)) h.0 ∙ ap (λ ys. x ∷ ys) (stays xs h.1)
 
   module _ {X : Type 0} where
+    abbrev order : List (ObjectId × X) → List ObjectId
+    order es = reverse (keys_of es)
+
     keys-removed : (es : List (ObjectId × X)) → IsDistinct id_eq (keys_of es) → keys_of (remove_entry (id_eq id) es) ≡ others (keys_of es)
     keys-removed [] h = refl
     keys-removed (e ∷ es) h = (elim (id_eq id e.0) as (λ b. id_eq id e.0 ≡ b → keys_of (cond b es (e ∷ remove_entry (id_eq id) es)) ≡ cond (not b) (e.0 ∷ others (keys_of es)) (others (keys_of es))) [
@@ -74,6 +77,17 @@ module _ (id : ObjectId) where
       | false ↦ found es
     ]
 
+    -- an id is in the order where it has an entry
+    pub order-has : (es : List (ObjectId × X)) → is_some (lookup (id_eq id) es) ≡ is_among (order es) id
+    order-has es = by-keys es ∙ sym (is_among-keys (order es) ∙ list_any-reverse (id_eq id) (keys_of es))
+      where
+        by-keys : (es : List (ObjectId × X)) → is_some (lookup (id_eq id) es) ≡ list_any (id_eq id) (keys_of es)
+        by-keys [] = refl
+        by-keys (e ∷ es) = elim (id_eq id e.0) as (λ b. is_some (cond b (Some e.1) (lookup (id_eq id) es)) ≡ b || list_any (id_eq id) (keys_of es)) [
+          | true ↦ refl
+          | false ↦ by-keys es
+        ]
+
     found_key : (es : List (ObjectId × X)) (e : ObjectId × X) → lookup_entry (id_eq id) es ≡ Some e → e.0 ≡ id
     found_key [] e h = cc
     found_key (x ∷ es) e h = (elim (id_eq id x.0) as (λ b. id_eq id x.0 ≡ b → cond b (Some x) (lookup_entry (id_eq id) es) ≡ Some e → e.0 ≡ id) [
@@ -88,9 +102,6 @@ module _ (id : ObjectId) where
       | true ↦ λ h. cc
       | false ↦ λ h. ap (λ ks. e.0 ∷ ks) (absent es h)
     ]) h
-
-    abbrev order : List (ObjectId × X) → List ObjectId
-    order es = reverse (keys_of es)
 
     -- the others, in order of use
     order-others : (es : List (ObjectId × X)) → reverse (others (keys_of es)) ≡ without_id id (order es)

@@ -21,6 +21,10 @@ order_of job orders = unwrap_or (lookup (λ j. nat_eq job j.0) orders) []
 abbrev pub without_id : ObjectId → List ObjectId → List ObjectId
 without_id id order = filter (λ x. not (same_id id x)) order
 
+-- the others than all of these
+abbrev pub without_ids : List ObjectId → List ObjectId → List ObjectId
+without_ids ids order = filter (λ x. not (is_among ids x)) order
+
 -- the id is now the most recently used, whether or not it was there
 abbrev pub last_used : ObjectId → List ObjectId → List ObjectId
 last_used id order = without_id id order ++ id ∷ []

@@ -1,6 +1,7 @@
 //! The order of use of one job's copies.
 ghost use Rattle.std.specs.Prelude.{◌≡◌, ◌++◌, ◌∷◌, [], IfOk, OnOk, OnErr, length, nat_eq, reverse};
 ghost use Rattle.std.specs.Map.{keys_of};
+ghost use Rattle.private_store.specs.Tables.{is_among};
 ghost use Rattle.lru_evictor.specs.Orders.{without_id, last_used, touched};
 
 use lru::{Iter, LruCache};
@@ -63,6 +64,13 @@ impl JobOrder {
     {
         let _count = self.cache.len();
         self.cache.pop(id);
+    }
+
+    /// Whether the id is there.
+    pub(crate) fn has(&self, id: &ObjectId) -> bool
+        ensures { result ≡ is_among self.now id.now }
+    {
+        self.cache.contains(id)
     }
 
     /// How many ids there are.

@@ -1,7 +1,8 @@
 //! The order of use of the copies of all jobs.
 ghost use Rattle.std.specs.Prelude.{◌≡◌, ◌≢◌, ℕ, ◌++◌, ◌∷◌, [], IfOk, OnOk, OnErr, length};
 ghost use Rattle.obj_id.specs.declared.refusals.Refusal.{Refusal};
-ghost use Rattle.lru_evictor.specs.Orders.{order_of, without_id, last_used, touched, ChangesOrder};
+ghost use Rattle.private_store.specs.Tables.{is_among};
+ghost use Rattle.lru_evictor.specs.Orders.{order_of, without_id, without_ids, last_used, touched, ChangesOrder};
 
 use crate::job_order::JobOrder;
 use indexmap::IndexMap;
@@ -83,6 +84,25 @@ impl UseOrder {
         };
         if left == 0 {
             self.jobs.shift_remove(&job);
+        }
+    }
+
+    /// Takes these ids out of the job's order, as far as they are there. Takes no memory.
+    pub fn forget_all(&mut self, job: JobNo, ids: &[ObjectId])
+        ensures { ChangesOrder self.old self.new job.0 (without_ids ids.now (order_of job.0 self.old)) }
+    {
+        for id in ids {
+            self.forget(job, *id);
+        }
+    }
+
+    /// Whether the id is in the job's order.
+    pub fn has(&self, job: JobNo, id: &ObjectId) -> bool
+        ensures { result ≡ is_among (order_of job.0 self.now) id.now }
+    {
+        match self.jobs.get(&job) {
+            Some(order) => order.has(id),
+            None => false,
         }
     }
 

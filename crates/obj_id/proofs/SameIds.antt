@@ -64,6 +64,13 @@ same_id-not_back a b e =
       | false ↦ λ t. refl
     ] refl
 
+pub same_id-flip : (a b : ObjectId) → same_id a b ≡ same_id b a
+same_id-flip a b =
+    elim (same_id a b) as (λ t. same_id a b ≡ t → t ≡ same_id b a) [
+      | true ↦ λ t. sym (same_id-itself a) ∙ ap (λ x. same_id x a) (same_id-equal a b t)
+      | false ↦ λ t. sym (same_id-not_back a b t)
+    ] refl
+
 -- the order ties where `==` holds
 pub same_id-id_eq : (a b : ObjectId) → same_id a b ≡ id_eq a b
 same_id-id_eq a b =
