@@ -102,6 +102,14 @@ impl Window {
         Ok(extent)
     }
 
+    /// Whether an object of `len` bytes may be in the window: some bytes, at most 16 MiB, and in whole
+    /// units of 16 no more than the window has.
+    pub fn may_have(&self, len: u32) -> bool
+        ensures { result ≡ is_size self.now.quota len }
+    {
+        len > 0 && len <= LONGEST_OBJECT && round_up(len) <= self.quota
+    }
+
     /// Why an object of `len` bytes can't be placed: `BadSize`, `Full`, or nothing.
     pub fn check(&self, len: u32) -> Option<Refusal>
         ensures { result ≡ place_check self.now len }
@@ -130,6 +138,7 @@ impl Window {
         ensures refused { (r : Refusal) → r ≢ NoMemory → IsErrOf result r → place_check (record self.old { placed = without gone.now self.old.placed }) len ≡ Some r }
         ensures err { OnErr result (self.new ≡ self.old) }
         ensures fresh { IfOk result (λ e. lookup (nat_eq e.offset) (without gone.now self.old.placed) ≡ None) }
+        ensures small { IfOk result (λ e. e.offset + e.length < 2 ^ 32) }
     {
         let need = round_up(len);
         if len == 0 || len > LONGEST_OBJECT || need > self.quota {

@@ -16,3 +16,5 @@ pub mod Telling
 pub mod Totals
 pub mod Described
 pub mod Planning
+pub mod Removing
+pub mod Replacing

@@ -1,13 +1,15 @@
 -- Why a command can't be carried out, in the order of its checks; its own job's object is meant.
-use Rattle.std.specs.Prelude.{ℕ, ◌+◌, ◌==◌, nat_lt, nat_le, not, length, if◌then◌else◌, Option, Some, None}
+use Rattle.std.specs.Prelude.{ℕ, ◌+◌, ◌==◌, nat_lt, nat_le, not, length, if◌then◌else◌, Option, Some, None, is_some}
 use Rattle.obj_id.specs.declared.ids.ObjectId.{ObjectId}
 use Rattle.obj_id.specs.declared.refusals.Refusal.{Refusal}
-use Rattle.obj_id.specs.declared.refusals.Refusal.TheVariants.{BadSize, Absent, AlreadySealed, NotSealed, NotHeld, OutOfBounds, TooMany}
+use Rattle.obj_id.specs.declared.refusals.Refusal.TheVariants.{BadSize, Exists, Absent, AlreadySealed, NotSealed, NotHeld, OutOfBounds, TooMany}
 use Rattle.private_store.specs.Limits.{most_bytes, most_holds, most_copies, has_numbers}
 use Rattle.private_store.specs.Tables.{ById, at}
+use Rattle.private_store.specs.Extents.{is_size}
 use Rattle.private_store.specs.Copies.{is_created}
 use Rattle.private_store.specs.Commands.{holds_of, all_holds, is_unsealed}
 use Rattle.node_table.specs.Kept.{Kept}
+use Rattle.node_table.specs.Row.{Row}
 
 -- of a copy that is there
 abbrev pub write_check_of : Kept → ℕ → ℕ → Option Refusal
@@ -55,3 +57,11 @@ abbrev pub fetch_check : ById Kept → ℕ → Option Refusal
 fetch_check copies begun =
     if nat_le most_copies (length copies) then Some TooMany else
     (if has_numbers begun 1 then None else Some TooMany)
+
+-- why no copy of n bytes can be made under the id, before room is looked for. No event that is built ends
+-- a task
+abbrev pub create_check : Row → ObjectId → ℕ → Option Refusal
+create_check row id n =
+    if not (is_size row.window.quota n) then Some BadSize else
+    (if is_some (at row.copies id) then Some Exists else
+    (if nat_le most_copies (length row.copies) then Some TooMany else None))

@@ -1,8 +1,8 @@
 -- A change of one entry of a table by object, or of each.
-use Rattle.std.specs.Prelude.{map}
+use Rattle.std.specs.Prelude.{not, List, map, filter, fold}
 use Rattle.std.specs.Option.{option_map_or}
 use Rattle.obj_id.specs.declared.ids.ObjectId.{ObjectId}
-use Rattle.private_store.specs.Tables.{ById, at, with_entry}
+use Rattle.private_store.specs.Tables.{ById, at, with_entry, is_among}
 
 -- the entry of the id changed, if there is one
 abbrev pub changed : {X : Type 0} → (X → X) → ById X → ObjectId → ById X
@@ -11,3 +11,11 @@ changed f table id = option_map_or (λ x. with_entry table id (f x)) (at table i
 -- each entry changed
 abbrev pub all_changed : {X : Type 0} → (X → X) → ById X → ById X
 all_changed f table = map (λ e. (e.0, f e.1)) table
+
+-- the entries of these ids changed, one after the other
+abbrev pub each_changed : {X : Type 0} → (X → X) → ById X → List ObjectId → ById X
+each_changed f table ids = fold (changed f) table ids
+
+-- no entry of any of these ids
+abbrev pub without_all : {X : Type 0} → List ObjectId → ById X → ById X
+without_all ids table = filter (λ e. not (is_among ids e.0)) table

@@ -1,5 +1,5 @@
 -- One copy as its row keeps it: the store's copy, its digest, and which work is in flight for it.
-use Rattle.std.specs.Prelude.{◌≡◌, ℕ, ◌+◌, ◌-◌, Bool, true, false, not, ◌&&◌, ◌||◌, Option, Some, None, is_some, is_none, option_map}
+use Rattle.std.specs.Prelude.{◌≡◌, ℕ, ◌+◌, ◌-◌, Bool, true, false, not, ◌&&◌, ◌||◌, Option, Some, None, if◌then◌else◌, is_some, is_none, option_map}
 use Rattle.std.specs.Option.{option_map_or}
 use Rattle.obj_id.specs.declared.commands.Kind.{Kind}
 use Rattle.obj_id.specs.declared.commands.CopyState.{CopyState}
@@ -93,6 +93,10 @@ sealed digest kept = record kept { copy = record kept.copy { state = Sealed }; d
 
 abbrev pub spilling : Kept → Kept
 spilling kept = record kept { working = Some Write }
+
+-- where it can be
+abbrev pub spilling_if : Kept → Kept
+spilling_if kept = if can_spill kept then spilling kept else kept
 
 abbrev pub gone_away : Kept → Kept
 gone_away kept = record kept { copy = record kept.copy { state = Away; offset = None } }

@@ -7,3 +7,4 @@ pub mod Erased
 pub mod Outcomes
 pub mod Usages
 pub mod RoomPlans
+pub mod Creating

@@ -1,12 +1,13 @@
 //! Why a command can't be carried out.
 ghost use Rattle.std.specs.Prelude.{◌≡◌, Some, option_map};
-ghost use Rattle.node_table.specs.Checks.{write_check_of, write_check as write_check_lem, seal_check_of, seal_check as seal_check_lem, read_check_of, read_check as read_check_lem, release_check as release_check_lem, hold_check as hold_check_lem, fetch_check as fetch_check_lem};
+ghost use Rattle.node_table.specs.Checks.{write_check_of, write_check as write_check_lem, seal_check_of, seal_check as seal_check_lem, read_check_of, read_check as read_check_lem, release_check as release_check_lem, hold_check as hold_check_lem, fetch_check as fetch_check_lem, create_check as create_check_lem};
 ghost use Rattle.private_store.specs.Tables.{at};
 ghost use Rattle.private_store.specs.Shape.{Fetch};
 ghost use Rattle.node_table.specs.Kept.{Kept};
 
 use crate::copies::Copies;
 use crate::copy::RowCopy;
+use crate::row::JobRow;
 use obj_id::{CopyState, ObjectId, Refusal};
 
 /// The bytes that one Write, Read or Peek may carry.
@@ -168,5 +169,24 @@ impl Copies {
         ensures { result ≡ option_map (λ k. k.copy.state) (at self.now id.now) }
     {
         Some(self.get(id)?.state())
+    }
+}
+
+impl JobRow {
+    /// Why no copy of `len` bytes can be made under the id, before room is looked for: `BadSize`,
+    /// `Exists`, `TooMany`, or nothing.
+    pub(crate) fn create_check(&self, id: &ObjectId, len: u32) -> Option<Refusal>
+        ensures { result ≡ create_check_lem self.now id.now len }
+    {
+        if !self.window().may_have(len) {
+            return Some(Refusal::BadSize);
+        }
+        if self.copies().get(id).is_some() {
+            return Some(Refusal::Exists);
+        }
+        if self.copies().len() >= MOST_COPIES {
+            return Some(Refusal::TooMany);
+        }
+        None
     }
 }

@@ -1,8 +1,8 @@
 //! The copies of a job, by their ids.
 ghost use Rattle.std.specs.Option.{option_copied, option_map_or};
 ghost use Rattle.private_store.specs.Tables.{at, with_entry, without_entry};
-ghost use Rattle.node_table.specs.Entries.{changed, all_changed};
-ghost use Rattle.node_table.specs.Kept.{held, released, left, sealed, spilling, gone_away, restoring as restoring_lem, fault_told, can_spill, can_go_away, can_restore};
+ghost use Rattle.node_table.specs.Entries.{changed, all_changed, each_changed, without_all};
+ghost use Rattle.node_table.specs.Kept.{held, released, left, sealed, spilling_if, gone_away, restoring as restoring_lem, fault_told, can_go_away, can_restore};
 ghost use Rattle.private_store.specs.Copies.{is_created};
 ghost use Rattle.obj_id.specs.declared.refusals.Refusal.{Refusal};
 ghost use Rattle.node_table.specs.Checks.{release_check as release_check_lem};
@@ -109,6 +109,15 @@ impl Copies {
         self.by_id.remove(id);
     }
 
+    /// The copies of these ids go, as far as they are there. Takes no memory.
+    pub fn remove_all(&mut self, ids: &[ObjectId])
+        ensures { self.new ≡ without_all ids.now self.old }
+    {
+        for id in ids {
+            self.remove(id);
+        }
+    }
+
     /// One more hold of the session on the copy. `TooMany` at 64 holds, `NoMemory` last; a refusal changes
     /// nothing.
     pub fn hold(&mut self, id: &ObjectId, session: u32) -> Result<(), Refusal>
@@ -165,15 +174,23 @@ impl Copies {
         copy.seal(digest);
     }
 
-    /// A write of the copy is in flight.
-    pub fn begin_spill(&mut self, id: &ObjectId)
-        requires { option_map_or can_spill (at self.old id.now) true ≡ true }
-        ensures { self.new ≡ changed spilling self.old id.now }
+    /// A write of the copy is in flight, where one can be.
+    fn begin_spill(&mut self, id: &ObjectId)
+        ensures { self.new ≡ changed spilling_if self.old id.now }
     {
         let Some(copy) = self.by_id.get_mut(id) else {
             return;
         };
-        copy.begin_spill();
+        copy.begin_spill_if();
+    }
+
+    /// Writes of these copies are in flight, where they can be.
+    pub fn begin_spills(&mut self, ids: &[ObjectId])
+        ensures { self.new ≡ each_changed spilling_if self.old ids.now }
+    {
+        for id in ids {
+            self.begin_spill(id);
+        }
     }
 
     /// The bytes of the copy are on the device alone.

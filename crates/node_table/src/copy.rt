@@ -7,7 +7,7 @@ ghost use Rattle.private_store.specs.Commands.{holds_of as holds_of_lem, all_hol
 ghost use Rattle.private_store.specs.Extents.{rounded};
 ghost use Rattle.private_store.specs.Limits.{most_holds};
 ghost use Rattle.node_table.specs.RoomPlans.{facts_of};
-ghost use Rattle.node_table.specs.Kept.{new_kept, fetched_kept, held, released, left, sealed, spilling, gone_away, restoring as restoring_lem, fault_told, can_spill, can_go_away, can_restore};
+ghost use Rattle.node_table.specs.Kept.{new_kept, fetched_kept, held, released, left, sealed, spilling, spilling_if, gone_away, restoring as restoring_lem, fault_told, can_spill, can_go_away, can_restore};
 ghost use Rattle.node_table.specs.Usages.{is_spilling as is_spilling_lem};
 
 use fetch_core::FetchIn;
@@ -219,6 +219,17 @@ impl RowCopy {
         ensures { self.new ≡ spilling self.old }
     {
         self.marks.begin_spill();
+    }
+
+    /// A write of it is in flight, where it is a sealed primary that isn't on the device and has no work.
+    pub fn begin_spill_if(&mut self)
+        ensures { self.new ≡ spilling_if self.old }
+    {
+        let is_primary = matches!(self.kind(), Kind::Primary);
+        let is_sealed = matches!(self.state(), CopyState::Sealed);
+        if is_sealed && is_primary && !self.is_backed() && !self.is_working() {
+            self.begin_spill();
+        }
     }
 
     /// Its bytes are on the device alone, and its place in the window is no longer its own.

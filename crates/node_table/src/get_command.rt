@@ -125,7 +125,7 @@ impl JobRow {
 }
 
 /// A refusal that is told, and nothing else.
-fn told(alloc: Global, refusal: Refusal) -> Result<Outcome, Refusal>
+pub(crate) fn told(alloc: Global, refusal: Refusal) -> Result<Outcome, Refusal>
     ensures ok { IfOk result (λ o. given_of o ≡ only (reply.Refused refusal)) }
     ensures told { IsOk result }
 {

@@ -6,6 +6,7 @@ mod bytes_commands;
 mod checks;
 mod copies;
 mod copy;
+mod create_command;
 mod get_command;
 mod hold_commands;
 mod listing;

@@ -1,26 +1,28 @@
 //! The row of one job.
-ghost use Rattle.std.specs.Prelude.{◌≡◌, ℕ, ◌+◌, ◌≤◌, nat_eq, take, drop, length, true, Some, None, IfOk, OnOk, OnErr, IsErrOf};
+ghost use Rattle.std.specs.Prelude.{◌≡◌, ◌≢◌, ℕ, ◌+◌, ◌≤◌, nat_eq, take, drop, length, true, false, Some, None, IfOk, OnOk, OnErr, IsErrOf};
 ghost use Rattle.std.specs.Map.{set_value};
 ghost use Rattle.obj_id.specs.declared.works.Extent.{Extent};
 ghost use Rattle.obj_id.specs.declared.refusals.Refusal.{Refusal};
 ghost use Rattle.obj_id.specs.declared.refusals.Refusal.TheVariants.{NoMemory};
-ghost use Rattle.private_store.specs.Tables.{at, with_entry};
+ghost use Rattle.private_store.specs.Tables.{at, with_entry, is_among};
+ghost use Rattle.private_store.specs.Extents.{first, is_size};
 ghost use Rattle.private_store.specs.Copies.{extent_of};
 ghost use Rattle.private_store.specs.Contents.{overwritten};
-ghost use Rattle.job_region.specs.Region.{bytes_at as placed_bytes};
+ghost use Rattle.job_region.specs.Region.{bytes_at as placed_bytes, extents_of};
 ghost use Rattle.std.specs.Option.{option_map_or};
 ghost use Rattle.private_store.specs.Copies.{is_created};
 ghost use Rattle.lru_evictor.specs.Orders.{order_of, touched, last_used};
-ghost use Rattle.node_table.specs.Entries.{changed, all_changed};
-ghost use Rattle.node_table.specs.Kept.{Kept, sealed, held, released, left, fetched_kept};
+ghost use Rattle.node_table.specs.Entries.{changed, all_changed, each_changed};
+ghost use Rattle.node_table.specs.Kept.{Kept, sealed, held, released, left, spilling_if, fetched_kept};
 ghost use Rattle.node_table.specs.Checks.{release_check};
 ghost use Rattle.node_table.specs.Row.{Row, new_row, place_of, ArePlaced};
+ghost use Rattle.node_table.specs.Creating.{placed_without, IsReplaced};
 
 use crate::copies::Copies;
 use crate::copy::RowCopy;
 use job_region::Window;
-use lru_evictor::UseOrder;
-use obj_id::{Digest, Extent, JobNo, ObjectId, Quota, Refusal};
+use lru_evictor::{UseOrder, extents_by_offset};
+use obj_id::{Digest, Extent, JobNo, Kind, ObjectId, Quota, Refusal};
 use std::alloc::Global;
 use std::marker::Model;
 
@@ -114,6 +116,13 @@ impl JobRow {
         &self.order
     }
 
+    /// Whether the id is in the order of use.
+    pub(crate) fn is_listed(&self, id: &ObjectId) -> bool
+        ensures { result ≡ is_among self.now.order id.now }
+    {
+        self.order.has(self.job, id)
+    }
+
     /// Where the copy lies in the window, if it is there and resident.
     pub(crate) fn place(&self, id: &ObjectId) -> Option<Extent>
         ensures { result ≡ place_of self.now.copies id.now }
@@ -181,6 +190,56 @@ impl JobRow {
         }
         self.fetches_begun = number;
         Ok(())
+    }
+
+    /// The victims go, and a copy to be written, of `len` bytes, takes the first place that there is then:
+    /// it is of zeros, and the most recently used. `Full` where there is no place, and `NoMemory`; a
+    /// refusal changes nothing.
+    pub(crate) fn replace_copies(
+        &mut self,
+        alloc: Global,
+        id: &ObjectId,
+        kind: Kind,
+        len: u32,
+        victims: &[ObjectId],
+    ) -> Result<Extent, Refusal>
+        requires size { is_size self.old.window.quota len ≡ true }
+        requires absent { at self.old.copies id.now ≡ None }
+        requires unlisted { is_among self.old.order id.now ≡ false }
+        requires stays { is_among victims.now id.now ≡ false }
+        ensures ok { IfOk result (λ e. IsReplaced self.old id.now kind len victims.now e self.new) }
+        ensures refused { (r : Refusal) → r ≢ NoMemory → IsErrOf result r → first (extents_of (placed_without self.old victims.now)) self.old.window.quota len ≡ None }
+        ensures err { OnErr result (self.new ≡ self.old) }
+    {
+        let gone = extents_by_offset(alloc, &self.copies, victims)?;
+        let Some(offset) = self.window.fits_without(&gone, len) else {
+            return Err(Refusal::Full);
+        };
+        self.copies
+            .insert(*id, RowCopy::created(alloc, kind, len, offset))?;
+        if self.order.enter(self.job, *id).is_err() {
+            self.copies.remove(id);
+            return Err(Refusal::NoMemory);
+        }
+        match self.window.replace(alloc, &gone, len) {
+            Err(_) => {
+                self.copies.remove(id);
+                self.order.forget(self.job, *id);
+                Err(Refusal::NoMemory)
+            }
+            Ok(extent) => {
+                self.copies.remove_all(victims);
+                self.order.forget_all(self.job, victims);
+                Ok(extent)
+            }
+        }
+    }
+
+    /// Writes of these copies are in flight, where they can be. Takes no memory.
+    pub(crate) fn spill_copies(&mut self, ids: &[ObjectId])
+        ensures { self.new ≡ record self.old { copies = each_changed spilling_if self.old.copies ids.now } }
+    {
+        self.copies.begin_spills(ids);
     }
 
     /// No hold of the session on the copy. Takes no memory.

@@ -51,3 +51,14 @@ returns-clause-fresh c =
     ap (λ (r : Region). lookup (nat_eq c.in-Some.offset) (without c.args.gone.now r.placed)) (sym c.self.view_is)
     ∙ ap (lookup (nat_eq c.in-Some.offset)) (sym (placed_kept m c.args.gone.now c.self.inside.extents.items))
     ∙ new_fresh m c.self.inside.quota c.round_up-need.result c.in-Some.offset left c.self.invariant.whole laid (omega arith) (omega arith) found
+
+pub returns-clause-small : goal.returns-clause-small
+returns-clause-small c =
+    let m = c.self.inside.memory.items in
+    let left = kept c.args.gone.now c.self.inside.extents.items in
+    let laid = kept_laid c.args.gone.now c.self.inside.quota 0 c.self.inside.extents.items c.self.invariant.laid in
+    let found = found_in m c.self.inside.quota c.args.len c.round_up-need.result c.in-Some.offset left c.round_up-need.ensures
+        (ap (λ ps. extents.first (extents_of ps) c.self.inside.quota c.args.len) (placed_kept m c.args.gone.now c.self.inside.extents.items) ∙ sym c.gap_without.ensures ∙ c.in-Some.is) in
+    let ends = new_ends m c.self.inside.quota c.round_up-need.result c.in-Some.offset left c.self.invariant.whole laid (omega arith) (omega arith) found in
+    let small = c.self.invariant.small in
+    omega (arith, ends, small)

@@ -1,0 +1,98 @@
+use Rattle.std.proofs.Common.{◌≡◌, ℕ, nat_eq, false, replicate, List, None, sym, ap, subst, ◌∙◌}
+use Rattle.std.specs.Map.{lookup}
+use Rattle.obj_id.specs.declared.ids.ObjectId.{ObjectId}
+use Rattle.private_store.specs.Tables.{ById, at, with_entry, without_entry, is_among}
+use Rattle.private_store.specs.Extents.{first}
+use Rattle.private_store.proofs.Tests.{some_value}
+use Rattle.job_region.specs.Region.{Region, extents_of, put_in}
+use Rattle.lru_evictor.specs.Orders.{order_of, without_id, without_ids}
+use Rattle.node_table.specs.Creating.{placed_without, replaced}
+use Rattle.node_table.specs.Entries.{without_all}
+use Rattle.node_table.specs.Kept.{Kept, new_kept}
+use Rattle.node_table.specs.Row.{Row, place_of, ArePlaced}
+use Rattle.node_table.proofs.Changes.{put_back, of_err, of_ok}
+use Rattle.node_table.proofs.Replacing.{left_sorted, forgotten, replaced_placed}
+use Rattle.node_table.proofs.row.JobRow.replace_copies.Goals as goal
+
+pub returns-in_default-clause-refused : goal.returns-in_default-clause-refused
+returns-in_default-clause-refused c r differ is =
+    ap (λ (r : Row). first (extents_of (placed_without r c.args.victims.now)) r.window.quota c.args.len) (sym c.self.view_is)
+    ∙ ap (λ ps. first (extents_of ps) c.self.inside.window.quota c.args.len)
+      (sym (left_sorted c.self.inside.copies c.args.victims.now c.self.inside.window.placed c.in_ok-gone.gone.items c.deref.result.now c.in_ok-gone.ensures.permutation c.deref.ensures.value))
+    ∙ sym c.fits_without.ensures ∙ c.in_default.is
+
+pub invariant_of-self-then-is_err : goal.invariant_of-self-then-is_err
+invariant_of-self-then-is_err c =
+    let none : at c.self.inside.copies c.args.id.now ≡ None = ap (λ r. at r.copies c.args.id.now) c.self.view_is ∙ c.requires.absent in
+    let back = c.remove.ensures ∙ ap (λ t. without_entry t c.args.id.now) c.in_ok-insert.ensures.ok ∙ put_back c.args.id.now c.self.inside.copies _ none in
+    subst (λ t. ArePlaced c.self.inside.window.placed (place_of t)) (sym back) c.self.invariant
+
+pub returns-then-is_err-clause-err : goal.returns-then-is_err-clause-err
+returns-then-is_err-clause-err c =
+    let none : at c.self.inside.copies c.args.id.now ≡ None = ap (λ r. at r.copies c.args.id.now) c.self.view_is ∙ c.requires.absent in
+    let back = c.remove.ensures ∙ ap (λ t. without_entry t c.args.id.now) c.in_ok-insert.ensures.ok ∙ put_back c.args.id.now c.self.inside.copies _ none in
+    let undone = of_err c.enter.result c.enter.ensures.err (sym c.is_err.ensures.value ∙ c.if-is_err.true) in
+    ap (λ (t : ById Kept). row_of t (order_of c.self.inside.job.0 c.enter.new.self)) back
+    ∙ ap (λ o. row_of c.self.inside.copies (order_of c.self.inside.job.0 o)) undone ∙ c.self.view_is
+  where
+    row_of : ById Kept → List ObjectId → Row
+    row_of copies order = record { job = c.self.inside.job.0; window = c.self.inside.window; device = c.self.inside.device; copies = copies; order = order; fetches_begun = c.self.inside.fetches_begun }
+
+pub invariant_of-self-in-Err : goal.invariant_of-self-in-Err
+invariant_of-self-in-Err c =
+    let none : at c.self.inside.copies c.args.id.now ≡ None = ap (λ r. at r.copies c.args.id.now) c.self.view_is ∙ c.requires.absent in
+    let back = c.remove-in-Err.ensures ∙ ap (λ t. without_entry t c.args.id.now) c.in_ok-insert.ensures.ok ∙ put_back c.args.id.now c.self.inside.copies _ none in
+    subst (λ (w : Region). ArePlaced w.placed (place_of c.remove-in-Err.new.self)) (sym c.in-Err.ensures.err) (subst (λ t. ArePlaced c.self.inside.window.placed (place_of t)) (sym back) c.self.invariant)
+
+pub returns-in-Err-clause-err : goal.returns-in-Err-clause-err
+returns-in-Err-clause-err c =
+    let none : at c.self.inside.copies c.args.id.now ≡ None = ap (λ r. at r.copies c.args.id.now) c.self.view_is ∙ c.requires.absent in
+    let back = c.remove-in-Err.ensures ∙ ap (λ t. without_entry t c.args.id.now) c.in_ok-insert.ensures.ok ∙ put_back c.args.id.now c.self.inside.copies _ none in
+    let entered = of_ok c.enter.result c.enter.ensures.ok (sym c.is_err.ensures.value ∙ c.if-is_err.false) in
+    let unlisted : is_among (order_of c.self.inside.job.0 c.self.inside.order) c.args.id.now ≡ false = ap (λ r. is_among r.order c.args.id.now) c.self.view_is ∙ c.requires.unlisted in
+    let order = c.forget.ensures.own ∙ ap (without_id c.args.id.now) entered.own ∙ forgotten c.args.id.now (order_of c.self.inside.job.0 c.self.inside.order) unlisted in
+    (λ i. row_of (c.in-Err.ensures.err i) (back i) (order i)) ∙ c.self.view_is
+  where
+    row_of : Region → ById Kept → List ObjectId → Row
+    row_of window copies order = record { job = c.self.inside.job.0; window = window; device = c.self.inside.device; copies = copies; order = order; fetches_begun = c.self.inside.fetches_begun }
+
+pub invariant_of-self-in-Ok : goal.invariant_of-self-in-Ok
+invariant_of-self-in-Ok c =
+    let none : at c.self.inside.copies c.args.id.now ≡ None = ap (λ r. at r.copies c.args.id.now) c.self.view_is ∙ c.requires.absent in
+    let left = left_sorted c.self.inside.copies c.args.victims.now c.self.inside.window.placed c.in_ok-gone.gone.items c.deref.result.now c.in_ok-gone.ensures.permutation c.deref.ensures.value in
+    let left_then = left_sorted c.self.inside.copies c.args.victims.now c.self.inside.window.placed c.in_ok-gone.gone.items c.deref-2.result.now c.in_ok-gone.ensures.permutation c.deref-2.ensures.value in
+    let offset = some_value c.in-Some.offset c.in-Ok.extent.offset
+        (sym c.in-Some.is ∙ c.fits_without.ensures ∙ ap (λ ps. first (extents_of ps) c.self.inside.window.quota c.args.len) (left ∙ sym left_then) ∙ c.in-Ok.ensures.least) in
+    let copies = c.remove_all.ensures ∙ ap (without_all c.args.victims.now) (c.in_ok-insert.ensures.ok ∙ ap (with_entry c.self.inside.copies c.args.id.now) (c.created.ensures ∙ ap (new_kept c.args.kind c.args.len) offset)) in
+    let placed = ap (λ (w : Region). w.placed) c.in-Ok.ensures.placed
+        ∙ (λ i. put_in (c.in-Ok.extent.offset, replicate (c.in-Ok.ensures.length i) 0) (left_then i)) in
+    let fresh = ap (lookup (nat_eq c.in-Ok.extent.offset)) (sym left_then) ∙ c.in-Ok.ensures.fresh in
+    subst (λ t. ArePlaced c.replace.new.self.placed (place_of t)) (sym copies)
+    (subst (λ ps. ArePlaced ps (place_of (without_all c.args.victims.now (with_entry c.self.inside.copies c.args.id.now (new_kept c.args.kind c.args.len c.in-Ok.extent.offset))))) (sym placed)
+    (replaced_placed c.self.inside.copies c.self.inside.window.placed c.self.invariant c.args.victims.now c.args.id.now c.args.kind c.args.len c.in-Ok.extent.offset none c.requires.stays fresh))
+
+pub returns-clause-ok : goal.returns-clause-ok
+returns-clause-ok c =
+    let left = left_sorted c.self.inside.copies c.args.victims.now c.self.inside.window.placed c.in_ok-gone.gone.items c.deref.result.now c.in_ok-gone.ensures.permutation c.deref.ensures.value in
+    let left_then = left_sorted c.self.inside.copies c.args.victims.now c.self.inside.window.placed c.in_ok-gone.gone.items c.deref-2.result.now c.in_ok-gone.ensures.permutation c.deref-2.ensures.value in
+    let offset = some_value c.in-Some.offset c.in-Ok.extent.offset
+        (sym c.in-Some.is ∙ c.fits_without.ensures ∙ ap (λ ps. first (extents_of ps) c.self.inside.window.quota c.args.len) (left ∙ sym left_then) ∙ c.in-Ok.ensures.least) in
+    let copies = c.remove_all.ensures ∙ ap (without_all c.args.victims.now) (c.in_ok-insert.ensures.ok ∙ ap (with_entry c.self.inside.copies c.args.id.now) (c.created.ensures ∙ ap (new_kept c.args.kind c.args.len) offset)) in
+    let window = c.in-Ok.ensures.placed
+        ∙ (λ i. region (put_in (c.in-Ok.extent.offset, replicate (c.in-Ok.ensures.length i) 0) (left_then i))) in
+    let entered = of_ok c.enter.result c.enter.ensures.ok (sym c.is_err.ensures.value ∙ c.if-is_err.false) in
+    let order = c.forget_all.ensures.own ∙ ap (without_ids c.args.victims.now) entered.own in
+    record {
+      least = ap (λ (r : Row). first (extents_of (placed_without r c.args.victims.now)) r.window.quota c.args.len) (sym c.self.view_is)
+          ∙ ap (λ ps. first (extents_of ps) c.self.inside.window.quota c.args.len) (sym left_then) ∙ c.in-Ok.ensures.least;
+      length = c.in-Ok.ensures.length;
+      row = (λ i. row_of (window i) (copies i) (order i)) ∙ ap (λ (r : Row). replaced r c.args.id.now c.args.kind c.args.len c.in-Ok.extent.offset c.args.victims.now) c.self.view_is;
+      small = c.in-Ok.ensures.small;
+      fresh = ap (λ (r : Row). lookup (nat_eq c.in-Ok.extent.offset) (placed_without r c.args.victims.now)) (sym c.self.view_is) ∙ ap (lookup (nat_eq c.in-Ok.extent.offset)) (sym left_then) ∙ c.in-Ok.ensures.fresh;
+    }
+  where
+    region : List (ℕ × List ℕ) → Region
+    region placed = record c.self.inside.window { placed = placed }
+
+    row_of : Region → ById Kept → List ObjectId → Row
+    row_of window copies order = record { job = c.self.inside.job.0; window = window; device = c.self.inside.device; copies = copies; order = order; fetches_begun = c.self.inside.fetches_begun }

@@ -1,0 +1,133 @@
+//! Create: a copy to be written, in a place that is made for it.
+ghost use Rattle.std.specs.Prelude.{◌≡◌, ◌==◌, ℕ, true, false, None, Some, IfOk, OnOk, OnErr, IsErrOf};
+ghost use Rattle.obj_id.specs.declared.ids.JobNo.{JobNo};
+ghost use Rattle.obj_id.specs.declared.refusals.Refusal.{Refusal};
+ghost use Rattle.obj_id.specs.declared.refusals.Refusal.TheVariants.{NoMemory};
+ghost use Rattle.obj_id.specs.declared.commands.Command.TheVariants as command;
+ghost use Rattle.private_store.specs.declared.inputs.Input.TheVariants as input;
+ghost use Rattle.private_store.specs.Contents.{Contents};
+ghost use Rattle.private_store.specs.Room.{make_room};
+ghost use Rattle.spill_work.specs.Line.{WorkLine, same_job, IsSameFor};
+ghost use Rattle.node_table.specs.Checks.{create_check as create_check_lem};
+ghost use Rattle.node_table.specs.Creating.{removals as removals_lem};
+ghost use Rattle.node_table.specs.Outcomes.{given_of};
+ghost use Rattle.node_table.specs.RoomPlans.{MakesPlace, AsksWrites};
+ghost use Rattle.node_table.specs.Row.{shape_of};
+ghost use Rattle.node_table.specs.Shown.{IsShown, TakesStep};
+
+use crate::get_command::told;
+use crate::outcome::{Erase, Outcome};
+use crate::room::RoomPlan;
+use crate::row::JobRow;
+use obj_id::{DirectoryMessage, Items, Kind, Message, ObjectId, Place, Refusal, Reply, WorkKind};
+use spill_work::Works;
+use std::alloc::{AllocError, Global};
+
+impl JobRow {
+    /// Create: a copy of zeros to be written, of `len` bytes, where the window has room or room is made:
+    /// by evicting the job's least recently used copies that may go, and else by asking for the writes of
+    /// those that may be spilled, which is told `Pending`. `BadSize`, `Exists`, `TooMany`, `Pending`,
+    /// `Full`, `Busy`. The error is want of memory, and then nothing has changed. Other jobs' works stay.
+    pub fn create(
+        &mut self,
+        alloc: Global,
+        node: u32,
+        works: &mut Works,
+        id: &ObjectId,
+        kind: Kind,
+        len: u32,
+    ) -> Result<Outcome, Refusal>
+        ensures ok { IfOk result (λ o. (session : ℕ) (contents : Contents) → (id.now.job.0 == self.old.job) ≡ true → IsShown self.old works.old contents
+            → TakesStep node self.old works.old contents (input.Call session (command.Create id.now kind len)) (given_of o) self.new works.new) }
+        ensures others { (other : JobNo) → same_job (record { 0 = self.old.job }) other ≡ false → IsSameFor other works.old works.new }
+        ensures memory { (r : Refusal) → IsErrOf result r → r ≡ NoMemory }
+        ensures err { OnErr result (self.new ≡ self.old) }
+        ensures works { OnErr result (works.new ≡ works.old) }
+    {
+        if let Some(refusal) = self.create_check(id, len) {
+            return told(alloc, refusal);
+        }
+        match self.plan_room(alloc, works, len)? {
+            RoomPlan::Place(victims) => {
+                self.create_in_place(alloc, node, id, kind, len, victims.as_slice())
+            }
+            RoomPlan::Ask(ids) => self.ask_writes(alloc, works, ids.as_slice()),
+            RoomPlan::Refuse(refusal) => told(alloc, refusal),
+        }
+    }
+
+    /// The new copy where the victims were, which the directory is told of.
+    fn create_in_place(
+        &mut self,
+        alloc: Global,
+        node: u32,
+        id: &ObjectId,
+        kind: Kind,
+        len: u32,
+        victims: &[ObjectId],
+    ) -> Result<Outcome, Refusal>
+        requires { create_check_lem self.old id.now len ≡ None }
+        ensures ok { IfOk result (λ o. (session : ℕ) (line : WorkLine) (contents : Contents) → (id.now.job.0 == self.old.job) ≡ true → IsShown self.old line contents
+            → MakesPlace (make_room self.old.order (shape_of self.old line) len) (shape_of self.old line) len victims.now
+            → TakesStep node self.old line contents (input.Call session (command.Create id.now kind len)) (given_of o) self.new line) }
+        ensures memory { (r : Refusal) → IsErrOf result r → r ≡ NoMemory }
+        ensures err { OnErr result (self.new ≡ self.old) }
+    {
+        // the id has no copy, so that it is neither a victim nor in the order of use
+        if victims.contains(id) || self.is_listed(id) {
+            return told(alloc, Refusal::Exists);
+        }
+        let messages = removals(alloc, node, victims)?;
+        match self.replace_copies(alloc, id, kind, len, victims) {
+            Ok(extent) => Ok(Outcome {
+                reply: Reply::Placed(extent.offset as u32, extent.length as u32),
+                messages,
+                erase: Erase::NoKey,
+            }),
+            Err(Refusal::NoMemory) => Err(Refusal::NoMemory),
+            Err(refusal) => told(alloc, refusal),
+        }
+    }
+
+    /// Asks for the writes of these copies, which is told `Pending`.
+    fn ask_writes(
+        &mut self,
+        alloc: Global,
+        works: &mut Works,
+        ids: &[ObjectId],
+    ) -> Result<Outcome, Refusal>
+        ensures ok { IfOk result (λ o. (node session : ℕ) (contents : Contents) → (id : ObjectId) (kind : Kind) (n : ℕ) → (id.job.0 == self.old.job) ≡ true → IsShown self.old works.old contents
+            → create_check_lem self.old id n ≡ None
+            → AsksWrites (make_room self.old.order (shape_of self.old works.old) n) (shape_of self.old works.old) ids.now
+            → TakesStep node self.old works.old contents (input.Call session (command.Create id kind n)) (given_of o) self.new works.new) }
+        ensures others { (other : JobNo) → same_job (record { 0 = self.old.job }) other ≡ false → IsSameFor other works.old works.new }
+        ensures memory { (r : Refusal) → IsErrOf result r → r ≡ NoMemory }
+        ensures err { OnErr result (self.new ≡ self.old) }
+        ensures works { OnErr result (works.new ≡ works.old) }
+    {
+        let job = self.job();
+        // a plan asks for no more works than there may be
+        if !works.room_for(job, ids.len() as u32) {
+            return told(alloc, Refusal::Busy);
+        }
+        works.ask_all(alloc, job, ids, WorkKind::Write)?;
+        self.spill_copies(ids);
+        told(alloc, Refusal::Pending)
+    }
+}
+
+/// What the directory is told of copies that are no longer at the node.
+fn removals(
+    alloc: Global,
+    node: u32,
+    ids: &[ObjectId],
+) -> Result<Items<(Place, Message)>, AllocError>
+    ensures { IfOk result (λ messages. messages ≡ removals_lem node ids.now) }
+{
+    let mut messages = Items::new(alloc);
+    for id in ids {
+        let message = Message::ToDirectory(DirectoryMessage::RemoveLocation(*id, node));
+        messages.push((Place::Directory, message))?;
+    }
+    Ok(messages)
+}
