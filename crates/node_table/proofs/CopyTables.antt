@@ -1,17 +1,43 @@
 -- The copies of a row as its store's table has them.
-use Rattle.std.proofs.Common.{◌≡◌, ℕ, Bool, true, false, not, cond, List, [], ◌∷◌, map, filter, Option, Some, None, option_map, refl, sym, ap, ◌∙◌}
-use Rattle.std.specs.Ordering.{is_eq}
+use Rattle.std.proofs.Common.{◌≡◌, ℕ, Bool, true, false, not, cond, List, [], ◌∷◌, map, filter, Option, Some, None, option_map, ◌&&◌, refl, sym, ap, ◌∙◌, T}
+use Rattle.std.specs.Ordering.{is_lt}
 use Rattle.std.specs.declared.cmp.Ordering.{Ordering}
 use Rattle.std.specs.declared.cmp.Ordering.TheVariants.{Less, Equal, Greater}
-use Rattle.std.specs.FinMap.Entries.{by_order}
+use Rattle.std.specs.FinMap.Entries.{by_order, is_sorted, below_all}
 use Rattle.obj_id.specs.declared.ids.ObjectId.{ObjectId}
 use Rattle.obj_id.specs.Ids.{id_cmp, same_id}
+use Rattle.obj_id.proofs.SameIds.{same_id-equal, same_id-itself}
+use Rattle.private_store.proofs.Filling.{below_none}
+use Rattle.private_store.proofs.Tests.{and_left, none_some}
 use Rattle.private_store.specs.Tables.{ById, at, with_entry, without_entry}
 use Rattle.private_store.specs.Shape.{Copy}
 use Rattle.node_table.specs.Entries.{changed}
 use Rattle.node_table.specs.Kept.{Kept}
 use Rattle.node_table.specs.Row.{copies_of}
 use Rattle.node_table.proofs.Changes.{changed-found}
+
+-- ---- entries of a sorted table
+
+module _ {X : Type 0} where
+  pub at-first : (e : ObjectId × X) (es : ById X) → at (e ∷ es) e.0 ≡ Some e.1
+  at-first e es = ap (λ b. cond b (Some e.1) (at es e.0)) (same_id-itself e.0)
+
+  pub at-rest : (e : ObjectId × X) (es : ById X) → T (is_sorted id_cmp (e ∷ es)) → (q : ObjectId) (x : X) → at es q ≡ Some x → at (e ∷ es) q ≡ Some x
+  at-rest e es h q x found =
+      elim (same_id q e.0) as (λ b. same_id q e.0 ≡ b → cond b (Some e.1) (at es q) ≡ Some x) [
+        | true ↦ λ t. none_some x (sym (below_none e.0 es (and_left _ _ h)) ∙ ap (at es) (sym (same_id-equal q e.0 t)) ∙ found)
+        | false ↦ λ _. found
+      ] refl
+
+below-copies : (q : ObjectId) (es : ById Kept) → below_all id_cmp q (copies_of es) ≡ below_all id_cmp q es
+below-copies q [] = refl
+below-copies q (e ∷ es) = ap (λ b. is_lt (id_cmp q e.0) && b) (below-copies q es)
+
+pub sorted-copies : (es : ById Kept) → is_sorted id_cmp (copies_of es) ≡ is_sorted id_cmp es
+sorted-copies [] = refl
+sorted-copies (e ∷ es) = λ i. below-copies e.0 es i && sorted-copies es i
+
+-- ---- the copies
 
 pub at-copies : (es : ById Kept) (id : ObjectId) → at (copies_of es) id ≡ option_map (λ k. k.copy) (at es id)
 at-copies [] id = refl

@@ -33,28 +33,8 @@ use Rattle.node_table.specs.Kept.{Kept}
 use Rattle.node_table.specs.Row.{Row, copies_of, shape_of, place_of, ArePlaced}
 use Rattle.node_table.specs.Shown.{IsShown, work_on}
 use Rattle.node_table.specs.RoomPlans.{facts_of}
-use Rattle.node_table.proofs.CopyTables.{at-copies, at-copies_found}
+use Rattle.node_table.proofs.CopyTables.{at-first, at-rest, at-copies, at-copies_found}
 use Rattle.node_table.proofs.Passed.{place_found}
-
--- ---- entries of a sorted table
-
-at_first : {X : Type 0} (e : ObjectId × X) (es : ById X) → at (e ∷ es) e.0 ≡ Some e.1
-at_first e es = ap (λ b. cond b (Some e.1) (at es e.0)) (same_id-itself e.0)
-
-at_later : {X : Type 0} (e : ObjectId × X) (es : ById X) → T (is_sorted id_cmp (e ∷ es)) → (q : ObjectId) (x : X) → at es q ≡ Some x → at (e ∷ es) q ≡ Some x
-at_later e es h q x found =
-    elim (same_id q e.0) as (λ b. same_id q e.0 ≡ b → cond b (Some e.1) (at es q) ≡ Some x) [
-      | true ↦ λ t. none_some x (sym (below_none e.0 es (and_left _ _ h)) ∙ ap (at es) (sym (same_id-equal q e.0 t)) ∙ found)
-      | false ↦ λ _. found
-    ] refl
-
-below-copies : (q : ObjectId) (es : ById Kept) → below_all id_cmp q (copies_of es) ≡ below_all id_cmp q es
-below-copies q [] = refl
-below-copies q (e ∷ es) = ap (λ b. is_lt (id_cmp q e.0) && b) (below-copies q es)
-
-sorted-copies : (es : ById Kept) → is_sorted id_cmp (copies_of es) ≡ is_sorted id_cmp es
-sorted-copies [] = refl
-sorted-copies (e ∷ es) = λ i. below-copies e.0 es i && sorted-copies es i
 
 -- the row's own copy
 kept_found : (es : ById Kept) (id : ObjectId) (copy : Copy) → at (copies_of es) id ≡ Some copy → (k : Kept) × (at es id ≡ Some k) × (k.copy ≡ copy)
@@ -66,7 +46,7 @@ kept_found es id copy found = by (at es id) refl
 
 -- ---- works
 
-working-on : (works : List WorkInFlight) (id : ObjectId) → is_some (work_on works id) ≡ list_any (λ work. same_id id work.id) works
+pub working-on : (works : List WorkInFlight) (id : ObjectId) → is_some (work_on works id) ≡ list_any (λ work. same_id id work.id) works
 working-on [] id = refl
 working-on (w ∷ ws) id = by (same_id id w.id) (working-on ws id)
   where
@@ -135,12 +115,12 @@ record Owner (es : ById Copy) (x : Extent) : Type 0 where
 extent_owned : (es : ById Copy) (x : Extent) → T (is_sorted id_cmp es) → Contains (filter_map (λ e. extent_of e.1) es) x → Owner es x
 extent_owned [] x h c = absurd (nothing_in x c)
 extent_owned (e ∷ es) x h c =
-    by (extent_of e.1) refl (λ c. let o = extent_owned es x (and_right (below_all id_cmp e.0 es) _ h) c in record { id = o.id; copy = o.copy; found = at_later e es h o.id o.copy o.found; lies = o.lies }) c
+    by (extent_of e.1) refl (λ c. let o = extent_owned es x (and_right (below_all id_cmp e.0 es) _ h) c in record { id = o.id; copy = o.copy; found = at-rest e es h o.id o.copy o.found; lies = o.lies }) c
   where
     by : (o : Option Extent) → extent_of e.1 ≡ o → (Contains (filter_map (λ e. extent_of e.1) es) x → Owner (e ∷ es) x) → Contains (cons_option o (filter_map (λ e. extent_of e.1) es)) x → Owner (e ∷ es) x
     by None lies later c = later c
     by (Some y) lies later c = elim (one_of y x (filter_map (λ e. extent_of e.1) es) c) [
-      | inl same ↦ record { id = e.0; copy = e.1; found = at_first e es; lies = lies ∙ ap Some same }
+      | inl same ↦ record { id = e.0; copy = e.1; found = at-first e es; lies = lies ∙ ap Some same }
       | inr c ↦ later c
     ]
 

@@ -46,11 +46,11 @@ use Rattle.node_table.proofs.Orders.{there_last, listed_last, last_listed}
 use Rattle.node_table.proofs.Getting.{s, x, by_copy, get_is, get_at}
 use Rattle.node_table.proofs.Stepping.{Moves, moved, stays, same_bytes}
 
-length-map : {A B : Type 0} (f : A → B) (xs : List A) → length (map f xs) ≡ length xs
+pub length-map : {A B : Type 0} (f : A → B) (xs : List A) → length (map f xs) ≡ length xs
 length-map f [] = refl
 length-map f (a ∷ xs) = ap (λ n. suc n) (length-map f xs)
 
-nothing_found : {A : Type 0} (p : A → Bool) (xs : List A) → list_any p xs ≡ false → find p xs ≡ None
+pub nothing_found : {A : Type 0} (p : A → Bool) (xs : List A) → list_any p xs ≡ false → find p xs ≡ None
 nothing_found p [] e = refl
 nothing_found p (a ∷ xs) e = by (p a) (nothing_found p xs) e
   where

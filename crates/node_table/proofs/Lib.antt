@@ -18,3 +18,5 @@ pub mod Described
 pub mod Planning
 pub mod Removing
 pub mod Replacing
+pub mod Creating
+pub mod Asking

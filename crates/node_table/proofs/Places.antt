@@ -20,7 +20,7 @@ use Rattle.private_store.proofs.Rows.{at-put}
 use Rattle.obj_id.specs.Ids.{same_id}
 use Rattle.obj_id.proofs.SameIds.{same_id-equal}
 use Rattle.std.specs.Option.{option_map_or, option_and_then}
-use Rattle.node_table.specs.Entries.{changed}
+use Rattle.node_table.specs.Entries.{changed, each_changed}
 use Rattle.node_table.specs.Kept.{Kept}
 use Rattle.node_table.specs.Row.{ArePlaced, place_of}
 
@@ -132,6 +132,14 @@ module _ (placed : List (ℕ × List ℕ)) (es : ById Kept) (h : ArePlaced place
   -- where they stand in a map that was changed
   pub now_placed : (f : Kept → Kept) → Lies f → (id : ObjectId) (now : ById Kept) → now ≡ changed f es id → ArePlaced placed (place_of now)
   now_placed f lies id now is = subst (λ t. ArePlaced placed (place_of t)) (sym is) (changed_placed f lies id)
+
+-- and changes of several
+each_place : (f : Kept → Kept) → Lies f → (ids : List ObjectId) (es : ById Kept) (q : ObjectId) → place_of (each_changed f es ids) q ≡ place_of es q
+each_place f lies [] es q = refl
+each_place f lies (id ∷ ids) es q = each_place f lies ids (changed f es id) q ∙ places_changed f lies es id q
+
+pub each_placed : (placed : List (ℕ × List ℕ)) (es : ById Kept) → ArePlaced placed (place_of es) → (f : Kept → Kept) → Lies f → (ids : List ObjectId) (now : ById Kept) → now ≡ each_changed f es ids → ArePlaced placed (place_of now)
+each_placed placed es h f lies ids now is = subst (λ t. ArePlaced placed (place_of t)) (sym is) (same_places placed (place_of es) (place_of (each_changed f es ids)) (each_place f lies ids es) h)
 
 -- a copy that isn't resident, where there was none
 pub entered_placed : (placed : List (ℕ × List ℕ)) (es : ById Kept) (id : ObjectId) (k : Kept) (now : ById Kept) → at es id ≡ None → k.copy.offset ≡ None → now ≡ with_entry es id k → ArePlaced placed (place_of es) → ArePlaced placed (place_of now)

@@ -35,7 +35,7 @@ use Rattle.node_table.specs.Row.{Row, copies_of, shape_of}
 use Rattle.node_table.specs.Shown.{work_on, IsShown, only, TakesStep}
 use Rattle.node_table.specs.Usages.{item_of, is_spilling, window_bytes, device_bytes, total, used}
 use Rattle.node_table.proofs.ByChecks.{called}
-use Rattle.node_table.proofs.CopyTables.{at-copies_found}
+use Rattle.node_table.proofs.CopyTables.{at-first, at-rest, sorted-copies, at-copies_found}
 use Rattle.node_table.proofs.Stepping.{stays}
 
 -- ---- List
@@ -58,31 +58,6 @@ module _ (node : ℕ) (row : Row) (line : WorkLine) (contents : Contents) (sessi
   usage_done told is =
       subst (λ t. TakesStep node row line contents (input.Call session command.Usage) (only (reply.Usage t)) row line) (sym is)
       (stays node row line contents h (input.Call session command.Usage) (reply.Usage (usage_of s)) (called row line session command.Usage) refl refl)
-
--- ---- the entries of a sorted table are found in it
-
-below-copies : (id : ObjectId) (es : ById Kept) → below_all id_cmp id (copies_of es) ≡ below_all id_cmp id es
-below-copies id [] = refl
-below-copies id (e ∷ es) = ap (λ b. is_lt (id_cmp id e.0) && b) (below-copies id es)
-
-pub sorted-copies : (es : ById Kept) → is_sorted id_cmp (copies_of es) ≡ is_sorted id_cmp es
-sorted-copies [] = refl
-sorted-copies (e ∷ es) = ap (λ b. b && is_sorted id_cmp (copies_of es)) (below-copies e.0 es) ∙ ap (λ b. below_all id_cmp e.0 es && b) (sorted-copies es)
-
-below-absent : (id : ObjectId) (es : ById Kept) → T (below_all id_cmp id es) → at es id ≡ None
-below-absent id [] h = refl
-below-absent id (e ∷ es) h =
-    ap (λ r. cond (is_eq r) (Some e.1) (at es id)) (less_is (id_cmp id e.0) (and_left _ _ h)) ∙ below-absent id es (and_right (is_lt (id_cmp id e.0)) _ h)
-
-pub at-first : (e : ObjectId × Kept) (es : ById Kept) → at (e ∷ es) e.0 ≡ Some e.1
-at-first e es = ap (λ r. cond (is_eq r) (Some e.1) (at es e.0)) (tied_itself id_cmp-IsTotalOrder e.0)
-
-pub at-rest : (e : ObjectId × Kept) (es : ById Kept) → T (is_sorted id_cmp (e ∷ es)) → (q : ObjectId) (k : Kept) → at es q ≡ Some k → at (e ∷ es) q ≡ Some k
-at-rest e es sorted q k found = by (same_id q e.0) refl
-  where
-    by : (b : Bool) → same_id q e.0 ≡ b → cond b (Some e.1) (at es q) ≡ Some k
-    by true t = none_some k (sym (below-absent e.0 es (and_left (below_all id_cmp e.0 es) _ sorted)) ∙ ap (at es) (sym (same_id-equal q e.0 t)) ∙ found)
-    by false t = found
 
 -- ---- the window's bytes
 

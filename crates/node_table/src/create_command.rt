@@ -74,19 +74,18 @@ impl JobRow {
         ensures err { OnErr result (self.new ≡ self.old) }
     {
         // the id has no copy, so that it is neither a victim nor in the order of use
-        if victims.contains(id) || self.is_listed(id) {
+        if self.is_listed(id, victims) {
             return told(alloc, Refusal::Exists);
         }
         let messages = removals(alloc, node, victims)?;
-        match self.replace_copies(alloc, id, kind, len, victims) {
-            Ok(extent) => Ok(Outcome {
-                reply: Reply::Placed(extent.offset as u32, extent.length as u32),
-                messages,
-                erase: Erase::NoKey,
-            }),
-            Err(Refusal::NoMemory) => Err(Refusal::NoMemory),
-            Err(refusal) => told(alloc, refusal),
-        }
+        let Some(extent) = self.replace_copies(alloc, id, kind, len, victims)? else {
+            return told(alloc, Refusal::Full);
+        };
+        Ok(Outcome {
+            reply: Reply::Placed(extent.offset as u32, extent.length as u32),
+            messages,
+            erase: Erase::NoKey,
+        })
     }
 
     /// Asks for the writes of these copies, which is told `Pending`.
@@ -107,7 +106,7 @@ impl JobRow {
     {
         let job = self.job();
         // a plan asks for no more works than there may be
-        if !works.room_for(job, ids.len() as u32) {
+        if !works.room_for(job, ids.len()) {
             return told(alloc, Refusal::Busy);
         }
         works.ask_all(alloc, job, ids, WorkKind::Write)?;

@@ -1,5 +1,5 @@
 //! The row of one job.
-ghost use Rattle.std.specs.Prelude.{◌≡◌, ◌≢◌, ℕ, ◌+◌, ◌≤◌, nat_eq, take, drop, length, true, false, Some, None, IfOk, OnOk, OnErr, IsErrOf};
+ghost use Rattle.std.specs.Prelude.{◌≡◌, ◌||◌, ℕ, ◌+◌, ◌≤◌, nat_eq, take, drop, length, true, false, Some, None, IfOk, IfSome, IfNone, OnOk, OnErr, IsErrOf};
 ghost use Rattle.std.specs.Map.{set_value};
 ghost use Rattle.obj_id.specs.declared.works.Extent.{Extent};
 ghost use Rattle.obj_id.specs.declared.refusals.Refusal.{Refusal};
@@ -116,11 +116,11 @@ impl JobRow {
         &self.order
     }
 
-    /// Whether the id is in the order of use.
-    pub(crate) fn is_listed(&self, id: &ObjectId) -> bool
-        ensures { result ≡ is_among self.now.order id.now }
+    /// Whether the id is in the order of use, or among these.
+    pub(crate) fn is_listed(&self, id: &ObjectId, ids: &[ObjectId]) -> bool
+        ensures { result ≡ is_among ids.now id.now || is_among self.now.order id.now }
     {
-        self.order.has(self.job, id)
+        ids.contains(id) || self.order.has(self.job, id)
     }
 
     /// Where the copy lies in the window, if it is there and resident.
@@ -193,8 +193,8 @@ impl JobRow {
     }
 
     /// The victims go, and a copy to be written, of `len` bytes, takes the first place that there is then:
-    /// it is of zeros, and the most recently used. `Full` where there is no place, and `NoMemory`; a
-    /// refusal changes nothing.
+    /// it is of zeros, and the most recently used. `None` where there is no place, and then nothing has
+    /// changed, as after an error, which is want of memory.
     pub(crate) fn replace_copies(
         &mut self,
         alloc: Global,
@@ -202,18 +202,21 @@ impl JobRow {
         kind: Kind,
         len: u32,
         victims: &[ObjectId],
-    ) -> Result<Extent, Refusal>
+    ) -> Result<Option<Extent>, Refusal>
         requires size { is_size self.old.window.quota len ≡ true }
         requires absent { at self.old.copies id.now ≡ None }
         requires unlisted { is_among self.old.order id.now ≡ false }
         requires stays { is_among victims.now id.now ≡ false }
-        ensures ok { IfOk result (λ e. IsReplaced self.old id.now kind len victims.now e self.new) }
-        ensures refused { (r : Refusal) → r ≢ NoMemory → IsErrOf result r → first (extents_of (placed_without self.old victims.now)) self.old.window.quota len ≡ None }
+        ensures placed { ArePlaced self.old.window.placed (place_of self.old.copies) }
+        ensures some { IfOk result (λ o. IfSome o (λ e. IsReplaced self.old id.now kind len victims.now e self.new)) }
+        ensures none { IfOk result (λ o. IfNone o (first (extents_of (placed_without self.old victims.now)) self.old.window.quota len ≡ None)) }
+        ensures same { IfOk result (λ o. IfNone o (self.new ≡ self.old)) }
+        ensures memory { (r : Refusal) → IsErrOf result r → r ≡ NoMemory }
         ensures err { OnErr result (self.new ≡ self.old) }
     {
         let gone = extents_by_offset(alloc, &self.copies, victims)?;
         let Some(offset) = self.window.fits_without(&gone, len) else {
-            return Err(Refusal::Full);
+            return Ok(None);
         };
         self.copies
             .insert(*id, RowCopy::created(alloc, kind, len, offset))?;
@@ -230,7 +233,7 @@ impl JobRow {
             Ok(extent) => {
                 self.copies.remove_all(victims);
                 self.order.forget_all(self.job, victims);
-                Ok(extent)
+                Ok(Some(extent))
             }
         }
     }

@@ -63,10 +63,10 @@ impl Works {
     }
 
     /// Whether `n` works more of the job may be asked for.
-    pub fn room_for(&self, job: JobNo, n: u32) -> bool
+    pub fn room_for(&self, job: JobNo, n: usize) -> bool
         ensures { result ≡ room_for_lem self.now job n }
     {
-        let n = u64::from(n);
+        let n = n as u64;
         n <= MOST_WORKS
             && self.in_flight(job) as u64 <= MOST_WORKS - n
             && self.asked(job) <= u64::MAX - n

@@ -14,8 +14,8 @@ use Rattle.node_table.proofs.Changes.{put_back, of_err, of_ok}
 use Rattle.node_table.proofs.Replacing.{left_sorted, forgotten, replaced_placed}
 use Rattle.node_table.proofs.row.JobRow.replace_copies.Goals as goal
 
-pub returns-in_default-clause-refused : goal.returns-in_default-clause-refused
-returns-in_default-clause-refused c r differ is =
+pub returns-in_default-clause-none : goal.returns-in_default-clause-none
+returns-in_default-clause-none c =
     ap (λ (r : Row). first (extents_of (placed_without r c.args.victims.now)) r.window.quota c.args.len) (sym c.self.view_is)
     ∙ ap (λ ps. first (extents_of ps) c.self.inside.window.quota c.args.len)
       (sym (left_sorted c.self.inside.copies c.args.victims.now c.self.inside.window.placed c.in_ok-gone.gone.items c.deref.result.now c.in_ok-gone.ensures.permutation c.deref.ensures.value))
@@ -71,8 +71,8 @@ invariant_of-self-in-Ok c =
     (subst (λ ps. ArePlaced ps (place_of (without_all c.args.victims.now (with_entry c.self.inside.copies c.args.id.now (new_kept c.args.kind c.args.len c.in-Ok.extent.offset))))) (sym placed)
     (replaced_placed c.self.inside.copies c.self.inside.window.placed c.self.invariant c.args.victims.now c.args.id.now c.args.kind c.args.len c.in-Ok.extent.offset none c.requires.stays fresh))
 
-pub returns-clause-ok : goal.returns-clause-ok
-returns-clause-ok c =
+pub returns-clause-some : goal.returns-clause-some
+returns-clause-some c =
     let left = left_sorted c.self.inside.copies c.args.victims.now c.self.inside.window.placed c.in_ok-gone.gone.items c.deref.result.now c.in_ok-gone.ensures.permutation c.deref.ensures.value in
     let left_then = left_sorted c.self.inside.copies c.args.victims.now c.self.inside.window.placed c.in_ok-gone.gone.items c.deref-2.result.now c.in_ok-gone.ensures.permutation c.deref-2.ensures.value in
     let offset = some_value c.in-Some.offset c.in-Ok.extent.offset
