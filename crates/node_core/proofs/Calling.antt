@@ -28,6 +28,7 @@ module _ (node job : ℕ) (row : Row) (line : WorkLine) (session : ℕ) (content
       ∙ ap (erasing (shape_of row line)) (is ∙ foreign row line id d (ap (λ n. id.job.0 == n) own ∙ other))
 
   pub not_granted : (c : Command (List ℕ)) → is_own job c ≡ false → TakesStep node row line contents (input.Call session c) (only (reply.Refused NotGranted)) row line
+  not_granted (command.Create id kind n) other = stays node row line contents h (input.Call session (command.Create id kind n)) (reply.Refused NotGranted) (foreign_is id (command.Create id kind n) _ other refl) refl refl
   not_granted (command.Write id offset bytes) other = stays node row line contents h (input.Call session (command.Write id offset bytes)) (reply.Refused NotGranted) (foreign_is id (command.Write id offset bytes) _ other refl) refl refl
   not_granted (command.Seal id) other = stays node row line contents h (input.Call session (command.Seal id)) (reply.Refused NotGranted) (foreign_is id (command.Seal id) _ other refl) refl refl
   not_granted (command.Get id) other = stays node row line contents h (input.Call session (command.Get id)) (reply.Refused NotGranted) (foreign_is id (command.Get id) _ other refl) refl refl
@@ -36,7 +37,6 @@ module _ (node job : ℕ) (row : Row) (line : WorkLine) (session : ℕ) (content
   not_granted command.List other = absurd cc
   not_granted command.Usage other = absurd cc
   not_granted command.Leave other = absurd cc
-  not_granted (command.Create id kind n) other = absurd cc
   not_granted (command.Unpin id task) other = absurd cc
   not_granted (command.Borrow id task) other = absurd cc
   not_granted (command.GiveUp id task) other = absurd cc
@@ -60,6 +60,6 @@ pub if_ok : {X : Type 0} {E : Type 0} {P Q : X → Type 0} (r : Result X E) → 
 if_ok (Ok x) h k = k x h
 if_ok (Err e) h k = tt
 
-pub on_err : {X : Type 0} {E : Type 0} {P Q : Type 0} (r : Result X E) → OnErr r P → (P → Q) → OnErr r Q
-on_err (Ok x) h k = tt
-on_err (Err e) h k = k h
+pub both_err : {X : Type 0} {E : Type 0} {P Q R : Type 0} (r : Result X E) → OnErr r P → OnErr r Q → (P → Q → R) → OnErr r R
+both_err (Ok x) h i k = tt
+both_err (Err e) h i k = k h i

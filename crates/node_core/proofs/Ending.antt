@@ -33,7 +33,9 @@ use Rattle.job_admission.specs.Admissions.{Admissions, live_at, lives_of, finish
 use Rattle.node_table.specs.Kept.{Kept}
 use Rattle.node_table.specs.Row.{Row, copies_of, shape_of}
 use Rattle.node_table.specs.Shown.{seen, Given, IsShown, work_on}
-use Rattle.node_table.proofs.Telling.{sorted-copies, at-first, at-rest}
+use Rattle.node_table.proofs.CopyTables.{sorted-copies}
+use Rattle.node_table.proofs.Creating.{unbacked}
+use Rattle.node_core.proofs.Others.{other_view, not_same}
 use Rattle.node_core.specs.Hosted.{Hosted, AreHosted, IsRowView, IsBare, IsViewBy, Shows, bare}
 use Rattle.node_core.specs.Steps.{IsStepOf, Steps, answered}
 use Rattle.node_core.proofs.Views.{itself, another, view_is}
@@ -92,16 +94,6 @@ none_left : (ids : List ObjectId) → filter (λ (id : ObjectId). false) ids ≡
 none_left [] = refl
 none_left (id ∷ ids) = none_left ids
 
--- no copy is on the device, so no key is erased
-no_keys : (es : List (ObjectId × Kept)) → T (is_sorted id_cmp es) → ((id : ObjectId) (k : Kept) → at es id ≡ Some k → k.copy.backed ≡ None) → keys_gone (copies_of es) [] ≡ []
-no_keys [] sorted h = refl
-no_keys (e ∷ es) sorted h =
-    ap (λ o. cons_option o (keys_gone (copies_of es) [])) (h e.0 e.1 (at-first e es))
-    ∙ no_keys es (both_right_T sorted) (λ id k found. h id k (at-rest e es sorted id k found))
-  where
-    both_right_T : T (is_sorted id_cmp (e ∷ es)) → T (is_sorted id_cmp es)
-    both_right_T s = and_right (below_all id_cmp e.0 es) _ s
-
 module _ (number : ℕ) (row : Row) (line : WorkLine) (contents : Contents) (h : IsShown row line contents) where
   abbrev v : View
   v = seen row line contents
@@ -121,41 +113,10 @@ module _ (number : ℕ) (row : Row) (line : WorkLine) (contents : Contents) (h :
   end_told = record {
     reply = sym (ap (λ o. o.reply) end_step);
     posts = sym (ap (λ o. o.posts) end_step);
-    erased = sym (ap (λ o. o.erased) end_step ∙ ap (map (key_of row.job)) (no_keys row.copies (subst T (sorted-copies row.copies) (subst T (sym h.kept.kept.shape.by_id) tt)) (λ id k found. (h.plain id k found).backed)));
+    erased = sym (ap (λ o. o.erased) end_step ∙ ap (map (key_of row.job)) (unbacked row.copies [] (subst T (sorted-copies row.copies) (subst T (sym h.kept.kept.shape.by_id) tt)) (λ id k found. (h.plain id k found).backed)));
   }
 
--- ---- the others
-
--- a line that is the same to the job shows the same
-other_row : (row : Row) (line after : WorkLine) (q : ℕ) (view : View) → IsSameFor (record { 0 = q }) line after → IsRowView row line q view → IsRowView row after q view
-other_row row line after q view same h =
-    let works : works_of after (record { 0 = row.job }) ≡ works_of line (record { 0 = row.job }) = subst (λ n. works_of after (record { 0 = n }) ≡ works_of line (record { 0 = n })) (sym h.own) same.works in
-    let used : used_by after (record { 0 = row.job }) ≡ used_by line (record { 0 = row.job }) = subst (λ n. used_by after (record { 0 = n }) ≡ used_by line (record { 0 = n })) (sym h.own) same.used in
-    let shapes : shape_of row line ≡ shape_of row after =
-    ap (λ ws. record (shape_of row line) { works = ws }) (sym works) ∙ ap (λ n. record (shape_of row after) { works_asked = n }) (sym used) in
-    record {
-      own = h.own;
-      shape = h.shape ∙ shapes;
-      order = h.order;
-      shown = record {
-        kept = subst (λ s. IsViewKept (record { shape = s; order = row.order; contents = view.contents })) shapes h.shown.kept;
-        there = h.shown.there;
-        listed = h.shown.listed;
-        bytes = h.shown.bytes;
-        digests = h.shown.digests;
-        plain = h.shown.plain;
-        working = λ id k found. h.shown.working id k found ∙ ap (λ ws. work_on ws id) (sym works);
-      };
-    }
-
-other_view : (greatest : ℕ) (line after : WorkLine) (q : ℕ) (view : View) (o : Option Row) → IsSameFor (record { 0 = q }) line after → IsViewBy greatest line q view o → IsViewBy greatest after q view o
-other_view greatest line after q view (Some row) same h = other_row row line after q view same h
-other_view greatest line after q view None same h = record { life = h.life; is = h.is; dead = h.dead; fresh = h.fresh; works = same.works ∙ h.works; used = same.used ∙ h.used }
-
 -- ---- the step
-
-not_same : (job : JobNo) (q : ℕ) → (q == job.0) ≡ false → same_line_job job (record { 0 = q }) ≡ false
-not_same job q e = grind (arith, nat_tests, e)
 
 module _ (number : ℕ) (a b : Admissions) (line after_line : WorkLine) (job : JobNo) (old new : List (JobNo × Row))
     (kept : AreHosted a old) (is_live : is_some (live_at a job) ≡ true) (is : b ≡ finished a job) (drops : Drops line job after_line)

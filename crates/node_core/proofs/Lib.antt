@@ -1,4 +1,5 @@
 mod SameJob
+mod Others
 mod Views
 mod Calling
 mod Admitting

@@ -13,7 +13,7 @@ use Rattle.private_store.specs.Shape.{Copy, Shape, Change, Fetch, Phase, locatin
 use Rattle.private_store.specs.Copies.{is_primary, is_idle, visible}
 use Rattle.private_store.specs.Room.{Room, Plan, fits, wait, full, busy, evict, spill, plan, set_copy, drop_copy, evicted, asked, no_room, spill_room, room_by, make_room}
 use Rattle.private_store.specs.Change.{refused, done, checked, needing, sending, in_room, settled}
-use Rattle.private_store.specs.Commands.{get, restore, restoring, get_away, get_fetching, get_copy, begin_pull, begin_fetch, at_each, leave_one, with_holds, holds_of}
+use Rattle.private_store.specs.Commands.{get, created, restore, restoring, get_away, get_fetching, get_copy, begin_pull, begin_fetch, at_each, leave_one, with_holds, holds_of}
 use Rattle.private_store.specs.Contents.{brief}
 use Rattle.private_store.specs.Step.{owned, commanded}
 use Rattle.node_core.specs.Steps.{is_built_command}
@@ -144,6 +144,8 @@ owned_same : (store : Shape) (id : ObjectId) (c : Change) → SameJob store c �
 owned_same store id c h = checked_same store _ _ h
 
 pub built_same : (order : List ObjectId) (store : Shape) (session : ℕ) (c : Command (List ℕ)) → is_built_command c ≡ true → SameJob store (commanded order store session (brief c))
+built_same order store session (command.Create id kind n) h =
+    owned_same store id _ (checked_same store _ _ (in_room_same store (make_room order store n) (created id kind n) (room_same order store n) (λ offset. record { job = refl })))
 built_same order store session (command.Write id offset bytes) h =
     owned_same store id _ (checked_same store _ _ (needing_same store (visible store id) Absent _ (λ copy. checked_same store _ _ (record { job = refl }))))
 built_same order store session (command.Seal id) h =
@@ -157,7 +159,6 @@ built_same order store session (command.Release id) h =
 built_same order store session command.List h = record { job = refl }
 built_same order store session command.Usage h = record { job = refl }
 built_same order store session command.Leave h = record { job = each_same (leave_one session) (leave_same session) (ids_of store.copies) (done store) }
-built_same order store session (command.Create id kind n) h = absurd cc
 built_same order store session (command.Unpin id task) h = absurd cc
 built_same order store session (command.Borrow id task) h = absurd cc
 built_same order store session (command.GiveUp id task) h = absurd cc

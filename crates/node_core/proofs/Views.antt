@@ -19,7 +19,8 @@ use Rattle.private_store.specs.Step.{step, commanded}
 use Rattle.private_store.specs.Contents.{View, brief, judge}
 use Rattle.private_store.specs.Private.{view_step, outcome}
 use Rattle.private_store.proofs.Checks.{checked-true}
-use Rattle.spill_work.specs.Line.{WorkLine}
+use Rattle.spill_work.specs.Line.{WorkLine, IsSameFor, same_job as same_line_job}
+use Rattle.node_core.proofs.Others.{other_view, not_same}
 use Rattle.job_admission.specs.Admissions.{Admissions}
 use Rattle.node_table.specs.Row.{Row, shape_of}
 use Rattle.node_table.specs.Shown.{seen, Given, only}
@@ -45,23 +46,27 @@ module _ (number : ℕ) (a : Admissions) (line : WorkLine) (job : JobNo) (sessio
   abbrev pub with_rows : List (JobNo × Row) → Hosted
   with_rows rows = record { number = number; admissions = a; works = line; rows = rows }
 
+  abbrev pub with_all : List (JobNo × Row) → WorkLine → Hosted
+  with_all rows works = record { number = number; admissions = a; works = works; rows = rows }
+
   abbrev pub x : Input
   x = input.Call session c
 
   -- ---- on a live job
 
-  module _ (old new : List (JobNo × Row)) (row after : Row) (told : Given)
+  module _ (old new : List (JobNo × Row)) (row after : Row) (works : WorkLine) (told : Given)
       (found : lookup (same_job job) old ≡ Some row)
       (updated : (q : JobNo) → lookup (same_job q) new ≡ cond (same_job job q) (Some after) (lookup (same_job q) old))
       (built : is_built_command c ≡ true)
-      (obeys : Obeys number job.0 row line session c told after) where
+      (obeys : Obeys number job.0 row line session c told after works)
+      (others : (other : JobNo) → same_line_job job other ≡ false → IsSameFor other line works) where
     row_view : (view : View) → Shows (with_rows old) job.0 view → IsRowView row line job.0 view
     row_view view h = subst (IsViewBy a.greatest line job.0 view) found h.by_row
 
-    row_stepped : (view : View) → IsRowView row line job.0 view → IsRowView after line job.0 (view_step number view x).view
+    row_stepped : (view : View) → IsRowView row line job.0 view → IsRowView after works job.0 (view_step number view x).view
     row_stepped view r =
         let t = obeys view.contents r.own r.shown in
-        subst (λ v. IsRowView after line job.0 (view_step number v x).view) (sym (view_is row line job.0 view r)) (record {
+        subst (λ v. IsRowView after works job.0 (view_step number v x).view) (sym (view_is row line job.0 view r)) (record {
           own = sym (ap (λ s. s.job) t.shape) ∙ ap (λ (d : Change). d.shape.job) (called row line session (brief c)) ∙ (built_same row.order (shape_of row line) session c built).job ∙ r.own;
           shape = t.shape;
           order = t.order;
@@ -73,28 +78,28 @@ module _ (number : ℕ) (a : Admissions) (line : WorkLine) (job : JobNo) (sessio
         let t = obeys view.contents r.own r.shown in
         subst (λ v. IsStepOf number v x told) (sym (view_is row line job.0 view r)) (record { reply = t.reply; posts = t.posts; erased = t.erased })
 
-    own_shows : (view : View) → Shows (with_rows old) job.0 view → Shows (with_rows new) job.0 (view_step number view x).view
+    own_shows : (view : View) → Shows (with_rows old) job.0 view → Shows (with_all new works) job.0 (view_step number view x).view
     own_shows view h = record {
-      by_row = subst (IsViewBy a.greatest line job.0 (view_step number view x).view)
+      by_row = subst (IsViewBy a.greatest works job.0 (view_step number view x).view)
           (sym (updated job ∙ ap (λ b. cond b (Some after) (lookup (same_job job) old)) (itself job))) (row_stepped view (row_view view h));
     }
 
-    other_shows : (q : ℕ) (view : View) → (q == job.0) ≡ false → Shows (with_rows old) q view → Shows (with_rows new) q view
+    other_shows : (q : ℕ) (view : View) → (q == job.0) ≡ false → Shows (with_rows old) q view → Shows (with_all new works) q view
     other_shows q view differ h = record {
-      by_row = subst (IsViewBy a.greatest line q view)
-          (sym (updated (record { 0 = q }) ∙ ap (λ b. cond b (Some after) (lookup (same_job (record { 0 = q })) old)) (another job q differ))) h.by_row;
+      by_row = subst (IsViewBy a.greatest works q view)
+          (sym (updated (record { 0 = q }) ∙ ap (λ b. cond b (Some after) (lookup (same_job (record { 0 = q })) old)) (another job q differ))) (other_view a.greatest line works q view (lookup (same_job (record { 0 = q })) old) (others (record { 0 = q }) (not_same job q differ)) h.by_row);
     }
 
-    views : (q : ℕ) (view : View) → Shows (with_rows old) q view → Shows (with_rows new) q (cond (q == job.0) (view_step number view x).view view)
+    views : (q : ℕ) (view : View) → Shows (with_rows old) q view → Shows (with_all new works) q (cond (q == job.0) (view_step number view x).view view)
     views q view h = by (q == job.0) refl
       where
-        by : (b : Bool) → (q == job.0) ≡ b → Shows (with_rows new) q (cond b (view_step number view x).view view)
+        by : (b : Bool) → (q == job.0) ≡ b → Shows (with_all new works) q (cond b (view_step number view x).view view)
         by true e =
             let same = eqb-true q job.0 e in
-            subst (λ n. Shows (with_rows new) n (view_step number view x).view) (sym same) (own_shows view (subst (λ n. Shows (with_rows old) n view) same h))
+            subst (λ n. Shows (with_all new works) n (view_step number view x).view) (sym same) (own_shows view (subst (λ n. Shows (with_rows old) n view) same h))
         by false e = other_shows q view e h
 
-    pub call_steps : Steps (with_rows old) (event.Call job session c) told (with_rows new)
+    pub call_steps : Steps (with_rows old) (event.Call job session c) told (with_all new works)
     call_steps = record {
       number = refl;
       views = views;

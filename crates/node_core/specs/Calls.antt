@@ -10,6 +10,7 @@ use Rattle.node_table.specs.Shown.{IsShown, Given, TakesStep}
 
 -- whether the object that a built command names, if it names one, is the job's
 abbrev pub is_own : ℕ → Command (List ℕ) → Bool
+is_own job (command.Create id kind n) = id.job.0 == job
 is_own job (command.Write id offset bytes) = id.job.0 == job
 is_own job (command.Seal id) = id.job.0 == job
 is_own job (command.Get id) = id.job.0 == job
@@ -17,7 +18,7 @@ is_own job (command.Read id offset n) = id.job.0 == job
 is_own job (command.Release id) = id.job.0 == job
 is_own job _ = true
 
--- the job's row takes the command's step, whatever contents it shows
-abbrev pub Obeys : ℕ → ℕ → Row → WorkLine → ℕ → Command (List ℕ) → Given → Row → Type 0
-Obeys node job old line session c told new =
-    (contents : Contents) → old.job ≡ job → IsShown old line contents → TakesStep node old line contents (input.Call session c) told new line
+-- the job's row and works take the command's step, whatever contents it shows
+abbrev pub Obeys : ℕ → ℕ → Row → WorkLine → ℕ → Command (List ℕ) → Given → Row → WorkLine → Type 0
+Obeys node job old line session c told new after =
+    (contents : Contents) → old.job ≡ job → IsShown old line contents → TakesStep node old line contents (input.Call session c) told new after

@@ -21,6 +21,7 @@ use Rattle.node_core.specs.Hosted.{Hosted, Shows}
 
 -- the commands that are built
 abbrev pub is_built_command : Command (List ℕ) → Bool
+is_built_command (command.Create id kind n) = true
 is_built_command (command.Write id offset bytes) = true
 is_built_command (command.Seal id) = true
 is_built_command (command.Get id) = true

@@ -1,7 +1,9 @@
 //! The commands of a session, carried out on the row of its job.
-ghost use Rattle.std.specs.Prelude.{◌≡◌, true, IfOk, OnErr, IsErrOf};
+ghost use Rattle.std.specs.Prelude.{◌≡◌, true, false, IfOk, OnErr, IsErrOf};
+ghost use Rattle.obj_id.specs.declared.ids.JobNo.{JobNo};
 ghost use Rattle.obj_id.specs.declared.refusals.Refusal.{Refusal};
 ghost use Rattle.obj_id.specs.declared.refusals.Refusal.TheVariants.{NoMemory};
+ghost use Rattle.spill_work.specs.Line.{same_job, IsSameFor};
 ghost use Rattle.node_table.specs.Outcomes.{given_of};
 ghost use Rattle.node_core.specs.Calls.{is_own as is_own_lem, Obeys};
 ghost use Rattle.node_core.specs.Steps.{is_built_command};
@@ -13,25 +15,30 @@ use spill_work::Works;
 use std::alloc::Global;
 
 /// Carries out a command on the row of the session's job. `NotGranted` for another job's object. The error
-/// is want of memory, and then nothing has changed.
+/// is want of memory, and then nothing has changed. Other jobs' works stay.
 pub(crate) fn carry_out(
     alloc: Global,
     node: u32,
     job: JobNo,
     row: &mut JobRow,
-    works: &Works,
+    works: &mut Works,
     session: u32,
     command: &Command<Bytes>,
 ) -> Result<Outcome, Refusal>
     requires { is_built_command command.now ≡ true }
-    ensures ok { IfOk result (λ o. Obeys node job.0 row.old works.now session command.now (given_of o) row.new) }
+    ensures ok { IfOk result (λ o. Obeys node job.0 row.old works.old session command.now (given_of o) row.new works.new) }
+    ensures others { (other : JobNo) → same_job job other ≡ false → IsSameFor other works.old works.new }
     ensures memory { (r : Refusal) → IsErrOf result r → r ≡ NoMemory }
     ensures err { OnErr result (row.new ≡ row.old) }
+    ensures works { OnErr result (works.new ≡ works.old) }
 {
     if !is_own(job, command) {
         return Ok(Outcome::only(alloc, Reply::Refused(Refusal::NotGranted)));
     }
     let reply = match command {
+        Command::Create(id, kind, len) => {
+            return row.create(alloc, node, works, id, *kind, *len);
+        }
         Command::Seal(id) => return Ok(row.seal(alloc, node, session, id)?),
         Command::Get(id) => return row.get(alloc, node, session, id),
         Command::Write(id, offset, bytes) => row.write(session, id, *offset, bytes),
@@ -53,7 +60,8 @@ fn is_own(job: JobNo, command: &Command<Bytes>) -> bool
     ensures { result ≡ is_own_lem job.0 command.now }
 {
     match command {
-        Command::Write(id, _, _)
+        Command::Create(id, _, _)
+        | Command::Write(id, _, _)
         | Command::Seal(id)
         | Command::Get(id)
         | Command::Read(id, _, _)

@@ -98,7 +98,7 @@ impl Node {
             self.number,
             job,
             row,
-            &self.works,
+            &mut self.works,
             session,
             command,
         )

@@ -89,7 +89,7 @@ with-without ids es id x sorted stays =
     by q true s true a = true_false (sym (sym a ∙ ap (is_among ids) (same_id-equal q id s) ∙ stays))
 
 -- no key is erased where no copy was on the device
-unbacked : (es : ById Kept) (after : ById Copy) → T (is_sorted id_cmp es) → ((q : ObjectId) (k : Kept) → at es q ≡ Some k → k.copy.backed ≡ None) → keys_gone (copies_of es) after ≡ []
+pub unbacked : (es : ById Kept) (after : ById Copy) → T (is_sorted id_cmp es) → ((q : ObjectId) (k : Kept) → at es q ≡ Some k → k.copy.backed ≡ None) → keys_gone (copies_of es) after ≡ []
 unbacked [] after sorted h = refl
 unbacked (e ∷ es) after sorted h =
     by (is_none (at after e.0)) (h e.0 e.1 (at-first e es))

@@ -19,7 +19,7 @@ use crate::get_command::told;
 use crate::outcome::{Erase, Outcome};
 use crate::room::RoomPlan;
 use crate::row::JobRow;
-use obj_id::{DirectoryMessage, Items, Kind, Message, ObjectId, Place, Refusal, Reply, WorkKind};
+use obj_id::{DirectoryMessage, Items, JobNo, Kind, Message, ObjectId, Place, Refusal, Reply, WorkKind};
 use spill_work::Works;
 use std::alloc::{AllocError, Global};
 
@@ -39,7 +39,7 @@ impl JobRow {
     ) -> Result<Outcome, Refusal>
         ensures ok { IfOk result (λ o. (session : ℕ) (contents : Contents) → (id.now.job.0 == self.old.job) ≡ true → IsShown self.old works.old contents
             → TakesStep node self.old works.old contents (input.Call session (command.Create id.now kind len)) (given_of o) self.new works.new) }
-        ensures others { (other : JobNo) → same_job (record { 0 = self.old.job }) other ≡ false → IsSameFor other works.old works.new }
+        ensures others { (other : JobNo) → same_job id.now.job other ≡ false → IsSameFor other works.old works.new }
         ensures memory { (r : Refusal) → IsErrOf result r → r ≡ NoMemory }
         ensures err { OnErr result (self.new ≡ self.old) }
         ensures works { OnErr result (works.new ≡ works.old) }
@@ -51,7 +51,7 @@ impl JobRow {
             RoomPlan::Place(victims) => {
                 self.create_in_place(alloc, node, id, kind, len, victims.as_slice())
             }
-            RoomPlan::Ask(ids) => self.ask_writes(alloc, works, ids.as_slice()),
+            RoomPlan::Ask(ids) => self.ask_writes(alloc, id.job(), works, ids.as_slice()),
             RoomPlan::Refuse(refusal) => told(alloc, refusal),
         }
     }
@@ -88,23 +88,23 @@ impl JobRow {
         })
     }
 
-    /// Asks for the writes of these copies, which is told `Pending`.
+    /// Asks for the job's writes of these copies, which is told `Pending`.
     fn ask_writes(
         &mut self,
         alloc: Global,
+        job: JobNo,
         works: &mut Works,
         ids: &[ObjectId],
     ) -> Result<Outcome, Refusal>
-        ensures ok { IfOk result (λ o. (node session : ℕ) (contents : Contents) → (id : ObjectId) (kind : Kind) (n : ℕ) → (id.job.0 == self.old.job) ≡ true → IsShown self.old works.old contents
+        ensures ok { IfOk result (λ o. (node session : ℕ) (contents : Contents) → (id : ObjectId) (kind : Kind) (n : ℕ) → (id.job.0 == self.old.job) ≡ true → job ≡ record { 0 = self.old.job } → IsShown self.old works.old contents
             → create_check_lem self.old id n ≡ None
             → AsksWrites (make_room self.old.order (shape_of self.old works.old) n) (shape_of self.old works.old) ids.now
             → TakesStep node self.old works.old contents (input.Call session (command.Create id kind n)) (given_of o) self.new works.new) }
-        ensures others { (other : JobNo) → same_job (record { 0 = self.old.job }) other ≡ false → IsSameFor other works.old works.new }
+        ensures others { (other : JobNo) → same_job job other ≡ false → IsSameFor other works.old works.new }
         ensures memory { (r : Refusal) → IsErrOf result r → r ≡ NoMemory }
         ensures err { OnErr result (self.new ≡ self.old) }
         ensures works { OnErr result (works.new ≡ works.old) }
     {
-        let job = self.job();
         // a plan asks for no more works than there may be
         if !works.room_for(job, ids.len()) {
             return told(alloc, Refusal::Busy);

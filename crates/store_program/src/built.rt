@@ -31,7 +31,7 @@ fn is_built_command(command: &Command<Bytes>) -> bool
     ensures { result ≡ is_built_command_lem command.now }
 {
     match command {
-        Command::Create(..) => false,
+        Command::Create(..) => true,
         Command::Write(..) => true,
         Command::Seal(_) => true,
         Command::Get(_) => true,

@@ -6,8 +6,8 @@ use Rattle.private_store.specs.Jobs.{same_job}
 use Rattle.private_store.specs.declared.schedules.Event.TheVariants as event
 use Rattle.node_table.specs.Outcomes.{given_of}
 use Rattle.node_core.specs.Steps.{Steps}
-use Rattle.node_core.proofs.Calling.{if_ok, on_err}
-use Rattle.node_core.proofs.Views.{with_rows, call_steps, refused_steps}
+use Rattle.node_core.proofs.Calling.{if_ok, both_err}
+use Rattle.node_core.proofs.Views.{with_rows, with_all, call_steps, refused_steps}
 use Rattle.node_core.proofs.Node.call.Goals as goal
 
 pub returns-in_default-clause-ok : goal.returns-in_default-clause-ok
@@ -26,17 +26,16 @@ returns-clause-ok c =
     let new = (c.get_mut.follows.lender c.carry_out.new.row).entries in
     let found = sym c.get_mut.ensures.value ∙ ap option_copied_mut c.in-Some.is in
     let wrote = c.get_mut.follows.holds c.carry_out.new.row in
-    let all = with_rows c.self.inside.number c.self.inside.admission c.self.inside.works c.args.job c.args.session c.args.command.now in
     if_ok c.carry_out.result c.carry_out.ensures.ok (λ o h.
-    subst (λ old. Steps old (event.Call c.args.job c.args.session c.args.command.now) (given_of o) (all new)) c.self.view_is
-    (call_steps c.self.inside.number c.self.inside.admission c.self.inside.works c.args.job c.args.session c.args.command.now rows new c.in-Some.row.now c.carry_out.new.row (given_of o)
-    found (wrote.3 (ap is_some found)).0 c.requires h))
+    subst (λ old. Steps old (event.Call c.args.job c.args.session c.args.command.now) (given_of o) (with_all c.self.inside.number c.self.inside.admission c.self.inside.works c.args.job c.args.session c.args.command.now new c.carry_out.new.works)) c.self.view_is
+    (call_steps c.self.inside.number c.self.inside.admission c.self.inside.works c.args.job c.args.session c.args.command.now rows new c.in-Some.row.now c.carry_out.new.row c.carry_out.new.works (given_of o)
+    found (wrote.3 (ap is_some found)).0 c.requires h c.carry_out.ensures.others))
 
 pub returns-clause-err : goal.returns-clause-err
 returns-clause-err c =
     let rows = c.self.inside.rows.entries in
     let found = sym c.get_mut.ensures.value ∙ ap option_copied_mut c.in-Some.is in
     let wrote = c.get_mut.follows.holds c.carry_out.new.row in
-    let all = with_rows c.self.inside.number c.self.inside.admission c.self.inside.works c.args.job c.args.session c.args.command.now in
-    on_err c.carry_out.result c.carry_out.ensures.err (λ same.
-    ap all (wrote.0 ∙ ap (set_value (same_job c.args.job) rows) same ∙ set_value_same (same_job c.args.job) rows c.in-Some.row.now found) ∙ c.self.view_is)
+    both_err c.carry_out.result c.carry_out.ensures.err c.carry_out.ensures.works (λ same works.
+    (λ i. with_all c.self.inside.number c.self.inside.admission c.self.inside.works c.args.job c.args.session c.args.command.now
+      ((wrote.0 ∙ ap (set_value (same_job c.args.job) rows) same ∙ set_value_same (same_job c.args.job) rows c.in-Some.row.now found) i) (works i)) ∙ c.self.view_is)

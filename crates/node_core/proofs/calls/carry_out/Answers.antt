@@ -6,7 +6,7 @@ use Rattle.private_store.specs.declared.inputs.Input.TheVariants as input
 use Rattle.node_table.specs.Outcomes.{given_of}
 use Rattle.node_table.specs.Shown.{TakesStep}
 use Rattle.node_core.specs.Calls.{is_own}
-use Rattle.node_core.proofs.Calling.{not_granted, told_so}
+use Rattle.node_core.proofs.Calling.{if_ok, not_granted, told_so}
 use Rattle.node_core.proofs.calls.carry_out.Goals as goal
 use Rattle.node_core.proofs.calls.carry_out.Goals.{in-Write, in-Read+in_ok-reply-in-Read, in-Release, in-List+in_ok-reply-in-List, in-Usage, in-Leave}
 
@@ -51,3 +51,10 @@ returns-clause-ok c contents own h =
           w.in-Leave.is c.only-2.ensures w.reply-is w.row-is
           (w.leave.ensures c.args.node c.args.works.now contents h)
     ]
+
+pub returns-in-Create-clause-ok : goal.returns-in-Create-clause-ok
+returns-in-Create-clause-ok c =
+    if_ok c.create.result c.create.ensures.ok (λ o told contents own h.
+    let mine = ap (λ n. c.in-Create.id.job.0 == n) own ∙ ap (is_own c.args.job.0) (sym c.in-Create.is) ∙ sym c.is_own.ensures ∙ c.if-not-is_own.false in
+    subst (λ d. TakesStep c.args.node c.args.row.now c.args.works.now contents (input.Call c.args.session d) (given_of o) c.create.new.self c.create.new.works) (sym c.in-Create.is)
+    (told c.args.session contents mine h))

@@ -14,14 +14,14 @@ use Rattle.node_table.proofs.row.JobRow.ask_writes.Goals as goal
 
 pub returns-then-not-room_for-clause-ok : goal.returns-then-not-room_for-clause-ok
 returns-then-not-room_for-clause-ok c =
-    let no = sym (ap (λ (j : JobNo). room_for c.args.works.now j (length c.args.ids.now)) c.job-job.ensures) ∙ sym c.room_for.ensures ∙ c.if-not-room_for.true in
-    each_ok c.told.result (λ o said node session contents id kind n mine h passed asks.
-    true_false (sym no ∙ may_ask c.args.self.now c.args.works.now n c.args.ids.now asks)) c.told.ensures.ok
+    let no = sym c.room_for.ensures ∙ c.if-not-room_for.true in
+    each_ok c.told.result (λ o said node session contents id kind n mine own h passed asks.
+    true_false (sym (ap (λ (j : JobNo). room_for c.args.works.now j (length c.args.ids.now)) (sym own) ∙ no) ∙ may_ask c.args.self.now c.args.works.now n c.args.ids.now asks)) c.told.ensures.ok
 
 pub returns-clause-ok : goal.returns-clause-ok
 returns-clause-ok c =
-    each_ok c.told-2.result (λ o said node session contents id kind n mine h passed asks.
-    let line = subst (λ j. AsksAll c.args.works.now j Write c.args.ids.now c.ask_all.new.self) c.job-job.ensures c.in_ok-ask_all.ensures.ok in
+    each_ok c.told-2.result (λ o said node session contents id kind n mine own h passed asks.
+    let line = subst (λ j. AsksAll c.args.works.now j Write c.args.ids.now c.ask_all.new.self) own c.in_ok-ask_all.ensures.ok in
     subst (λ t. TakesStep node c.args.self.now c.args.works.now contents (input.Call session (command.Create id kind n)) t c.spill_copies.new.self c.ask_all.new.self) (sym said)
     (subst (λ row. TakesStep node c.args.self.now c.args.works.now contents (input.Call session (command.Create id kind n)) (only (reply.Refused Pending)) row c.ask_all.new.self) (sym c.spill_copies.ensures)
     (asked_done node c.args.self.now c.args.works.now contents session id kind n mine h passed c.args.ids.now asks c.ask_all.new.self line))) c.told-2.ensures.ok

@@ -1,4 +1,5 @@
 use Rattle.std.proofs.Common.{◌≡◌, Some, None, sym, subst, ◌∙◌}
+use Rattle.std.proofs.lemmas.Bool.{eqb-true}
 use Rattle.obj_id.specs.declared.commands.Command.TheVariants as command
 use Rattle.private_store.specs.declared.inputs.Input.TheVariants as input
 use Rattle.private_store.specs.Room.{make_room}
@@ -22,7 +23,7 @@ returns-in-Place-clause-ok c = each_ok c.create_in_place.result (λ o told sessi
 
 pub returns-in-Ask-clause-ok : goal.returns-in-Ask-clause-ok
 returns-in-Ask-clause-ok c = each_ok c.ask_writes.result (λ o told session contents mine h.
-    told c.args.node session contents c.args.id.now c.args.kind c.args.len mine h (sym c.create_check.ensures ∙ c.in_default.is)
+    told c.args.node session contents c.args.id.now c.args.kind c.args.len mine (c.job.ensures.value ∙ (λ i. record { 0 = eqb-true c.args.id.now.job.0 c.args.self.now.job mine i })) h (sym c.create_check.ensures ∙ c.in_default.is)
     (subst (AsksWrites (make_room c.args.self.now.order (shape_of c.args.self.now c.args.works.now) c.args.len) (shape_of c.args.self.now c.args.works.now)) (sym c.as_slice-in-Ask.ensures)
     (subst (IsPlanned (make_room c.args.self.now.order (shape_of c.args.self.now c.args.works.now) c.args.len) (shape_of c.args.self.now c.args.works.now) c.args.len) c.in-Ask.is (c.in_ok-victims.ensures.plan contents h)))) c.ask_writes.ensures.ok
 
