@@ -2,7 +2,6 @@
 //! line's step is taken by a world of nodes, and its answer is printed.
 #![tactic(auto)]
 
-mod built;
 mod fault;
 mod lines;
 mod run;

@@ -3,11 +3,11 @@ ghost use Rattle.std.specs.Prelude.{◌≡◌, IfOk};
 ghost use Rattle.schedule_text.specs.Reading.{is_skipped as is_skipped_lem};
 ghost use Rattle.store_program.specs.Lines.{IsSaid};
 
-use crate::built::is_built_step;
 use private_store::Step;
 use schedule_text::{Line, read_line};
 use std::alloc::{AllocError, Global};
 use std::str;
+use world_core::is_built_step;
 
 /// What a line says to the program.
 #[derive(Debug, Drop)]

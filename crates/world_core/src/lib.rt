@@ -8,12 +8,14 @@ ghost use Rattle.obj_id.specs.declared.refusals.Refusal.TheVariants.{NoMemory};
 ghost use Rattle.private_store.specs.declared.schedules.Traced.{Traced};
 ghost use Rattle.private_store.specs.Trace.{is_no_memory};
 ghost use Rattle.node_core.specs.Steps.{is_built, job_of as job_of_lem};
-ghost use Rattle.world_core.specs.Worlds.{is_shape, is_built_step, AreNew, IsAfter};
+ghost use Rattle.world_core.specs.Worlds.{is_shape, is_built_step as is_built_step_lem, AreNew, IsAfter};
 ghost use Rattle.world_core.specs.Moves.{Moves};
 
+mod built;
 mod messages;
 mod runs;
 
+pub use built::is_built_step;
 use bytes::Bytes;
 use messages::Messages;
 use node_core::{Node, Outcome};
@@ -63,7 +65,7 @@ impl World {
     /// Takes one step and gives its answer. Want of memory is the answer `NoMemory`, and then nothing has
     /// changed.
     pub fn step(&mut self, step: &Step) -> StepAnswer
-        requires { is_built_step (length self.old.nodes) step.now ≡ true }
+        requires { is_built_step_lem (length self.old.nodes) step.now ≡ true }
         ensures after { (nodes memory : ℕ) (history : List Traced) → IsAfter nodes memory self.old history
             → IsAfter nodes memory self.new (record { step = step.now; answer = result } ∷ history) }
         ensures memory { (nodes memory : ℕ) (history : List Traced) → IsAfter nodes memory self.old history → is_no_memory result ≡ true → self.new ≡ self.old }

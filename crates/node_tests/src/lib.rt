@@ -1,0 +1,8 @@
+//! Tests of nodes and of worlds of them: worked schedules with the answers that were written by hand,
+//! as the program reads and prints them, and step by step.
+#![tactic(auto)]
+
+#[cfg(test)]
+mod schedules;
+#[cfg(test)]
+mod steps;
