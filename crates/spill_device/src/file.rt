@@ -26,9 +26,9 @@ pub enum FolderFault {
 }
 
 /// A device that keeps one file for each key, in a folder of its own. A write is whole or `Failed`: the
-/// bytes go to another name first, which then becomes the key's. Nothing is promised of what the files
-/// hold, nor by a contract that a write or an erase reached them: a file that isn't as long as it
-/// should be is `Failed` at the read, and other damage shows at the digest.
+/// bytes go to another name first, which then becomes the key's. No contract promises what the files
+/// hold, or that a write or an erase reached them: a file that isn't as long as it should be is
+/// `Failed` at the read, and other damage shows at the digest.
 ///
 /// A contract sees the folder's name and the count of failures.
 #[derive(Drop)]
