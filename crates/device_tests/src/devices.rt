@@ -52,10 +52,10 @@ fn own_folder<R: Files + Env + AllocGlobal>(
 fn over_files<R: Files + AllocGlobal + Clone + Drop>(
     rt: &R,
     folder: &str,
-) -> Result<FileDevice<R>, Fail> {
+) -> Result<FileDevice<R>, FolderFault> {
     match FileDevice::new(rt.clone()?, folder) {
-        Err(FolderFault::NoMemory(_)) => Ok(FileDevice::new(rt.clone()?, folder)?),
-        made => Ok(made?),
+        Err(FolderFault::NoMemory(_)) => FileDevice::new(rt.clone()?, folder),
+        made => made,
     }
 }
 
@@ -215,13 +215,19 @@ fn a_write_that_fails_leaves_what_was_there(rt: HostRuntime) -> Result<(), Fail>
     Ok(())
 }
 
+/// What is printed of the fault, asked for once more where memory was wanting.
+fn printed(alloc: Global, fault: &FolderFault) -> Result<String, AllocError> {
+    match format!(in alloc; "{fault}") {
+        Ok(text) => Ok(text),
+        Err(_) => format!(in alloc; "{fault}"),
+    }
+}
+
 /// What is printed of a folder that is refused; nothing where it isn't.
 fn refusal_of<R: Files + AllocGlobal + Clone + Drop>(rt: &R, folder: &str) -> Result<String, Fail> {
-    let alloc = rt.alloc();
-    let fault = FileDevice::new(rt.clone()?, folder).err();
-    match &fault {
-        None => Ok(String::new(alloc)),
-        Some(fault) => Ok(format!(in alloc; "{fault}")?),
+    match over_files(rt, folder) {
+        Ok(_) => Ok(String::new(rt.alloc())),
+        Err(fault) => Ok(printed(rt.alloc(), &fault)?),
     }
 }
 

@@ -1,22 +1,12 @@
-//! Tests of the crates that stand lowest, a module for each: what no contract says, and outside
-//! values.
+//! Tests of what stands lowest: ids, windows, orders of use, the marks of a copy. A module for each:
+//! what no contract says, and outside values.
 #![tactic(auto)]
 
 #[cfg(test)]
-mod admission;
-#[cfg(test)]
-mod directory;
-#[cfg(test)]
 mod evictor;
 #[cfg(test)]
-mod fetches;
-#[cfg(test)]
 mod ids;
-#[cfg(test)]
-mod pins;
 #[cfg(test)]
 mod states;
 #[cfg(test)]
 mod windows;
-#[cfg(test)]
-mod works;

@@ -13,6 +13,6 @@ mod printing;
 mod words;
 
 pub use line::{Line, Outcome};
-pub use lines::read_line;
+pub use lines::{is_skipped, read_line};
 pub use prefixes::Prefix;
 pub use printing::{answer_line, answer_text};

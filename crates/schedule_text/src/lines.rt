@@ -30,18 +30,19 @@ struct Speaker {
 pub fn read_line(alloc: Global, text: &str, nodes: u32) -> Result<Option<Line>, AllocError>
     ensures { IfOk result (λ line. Reads line (IsLine nodes text.now)) }
 {
-    if is_skipped(text) {
+    if is_skipped(text.as_bytes()) {
         return Ok(Some(Line::Skipped));
     }
     let fields = fields_of(alloc, text)?;
     step_line(alloc, &fields, nodes)
 }
 
-/// Whether the line is empty or a comment.
-fn is_skipped(text: &str) -> bool
-    ensures { result ≡ is_skipped_lem text.now }
+/// Whether a line, without its line feed, is empty or a comment: then it says nothing. A comment may
+/// hold any bytes.
+pub fn is_skipped(line: &[u8]) -> bool
+    ensures { result ≡ is_skipped_lem line.now }
 {
-    matches!(text.as_bytes(), [] | [b'#', ..])
+    matches!(line, [] | [b'#', ..])
 }
 
 /// What stands between the spaces.

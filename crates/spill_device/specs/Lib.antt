@@ -1,3 +1,4 @@
 pub mod Faults
+pub mod Folders
 pub mod Held
 pub mod Turns

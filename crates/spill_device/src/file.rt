@@ -1,13 +1,16 @@
 //! A device over files.
-ghost use Rattle.std.specs.Prelude.{◌≡◌, IfOk};
+ghost use Rattle.std.specs.Prelude.{◌≡◌, length, Ok, IfOk};
+ghost use Rattle.std.specs.String.{string_bytes};
 ghost use Rattle.spill_device.specs.Faults.{count_after};
+ghost use Rattle.spill_device.specs.Folders.{file_path};
 
 use crate::{DeviceFault, SpillDevice};
 use bytes::Bytes;
 use obj_id::DeviceKey;
-use std::alloc::AllocError;
+use std::alloc::{AllocError, Global};
 use std::fs::{self, OpenFile};
 use std::io::{self, ErrorKind, Read, Write};
+use std::marker::Model;
 use std::rt::Files;
 use thiserror::Error;
 
@@ -23,9 +26,11 @@ pub enum FolderFault {
 }
 
 /// A device that keeps one file for each key, in a folder of its own. A write is whole or `Failed`: the
-/// bytes go to another name first, which then becomes the key's. Nothing is promised of what the files
-/// hold: a file that isn't as long as it should be is `Failed` at the read, and other damage shows at
-/// the digest.
+/// bytes go to another name first, which then becomes the key's. No contract promises what the files
+/// hold, or that a write or an erase reached them: a file that isn't as long as it should be is
+/// `Failed` at the read, and other damage shows at the digest.
+///
+/// A contract sees the folder's name and the count of failures.
 #[derive(Drop)]
 pub struct FileDevice<R: Files + AllocGlobal + Drop> {
     rt: R,
@@ -33,11 +38,20 @@ pub struct FileDevice<R: Files + AllocGlobal + Drop> {
     failures: u64,
 }
 
+impl<R: Files + AllocGlobal + Drop> Model for FileDevice<R> {
+    ghost use Rattle.std.specs.String.{string_bytes};
+    ghost use Rattle.spill_device.specs.Folders.{Folder};
+
+    ghost Value = { Folder };
+
+    ghost view = { λ d. record { name = string_bytes d.folder; failures = d.failures } };
+}
+
 impl<R: Files + AllocGlobal + Drop> FileDevice<R> {
     /// A device in the folder, which is made where it isn't there, and its parents with it. Files of
     /// an earlier device that are left in it are read as if they were this one's.
     pub fn new(rt: R, folder: &str) -> Result<FileDevice<R>, FolderFault>
-        ensures { IfOk result (λ device. device.failures ≡ 0) }
+        ensures { IfOk result (λ device. device ≡ record { name = folder.now; failures = 0 }) }
     {
         let folder = String::from_str(rt.alloc(), folder)?;
         if let Err(error) = fs::create_dir_all(&rt, folder.as_str()) {
@@ -50,16 +64,8 @@ impl<R: Files + AllocGlobal + Drop> FileDevice<R> {
         })
     }
 
-    /// The name of the key's file: two decimal numbers with a dot between them.
-    fn path_of(&self, key: DeviceKey) -> Result<String, AllocError> {
-        let folder = self.folder.as_str();
-        let job = key.job.0;
-        let number = key.number;
-        format!(in self.rt.alloc(); "{folder}/{job}.{number}")
-    }
-
     fn write_whole(&self, key: DeviceKey, bytes: &[u8]) -> io::Result<()> {
-        let path = self.path_of(key)?;
+        let path = path_of(self.rt.alloc(), self.folder.as_str(), key)?;
         let mut part = path.clone()?;
         part.push_str(".part")?;
         let written = write_beside(&self.rt, part.as_str(), path.as_str(), bytes);
@@ -69,8 +75,10 @@ impl<R: Files + AllocGlobal + Drop> FileDevice<R> {
         written
     }
 
-    fn read_whole(&self, key: DeviceKey, len: u32) -> io::Result<Bytes> {
-        let path = self.path_of(key)?;
+    fn read_whole(&self, key: DeviceKey, len: u32) -> io::Result<Bytes>
+        ensures { IfOk result (λ bytes. length bytes ≡ len) }
+    {
+        let path = path_of(self.rt.alloc(), self.folder.as_str(), key)?;
         let mut file = fs::open(&self.rt, path.as_str())?;
         if file.metadata()?.len() != u64::from(len) {
             return Err(io::Error::from(ErrorKind::InvalidData));
@@ -81,7 +89,7 @@ impl<R: Files + AllocGlobal + Drop> FileDevice<R> {
     }
 
     fn remove(&self, key: DeviceKey) -> io::Result<()> {
-        let path = self.path_of(key)?;
+        let path = path_of(self.rt.alloc(), self.folder.as_str(), key)?;
         match fs::remove_file(&self.rt, path.as_str()) {
             Err(error) if error.kind() == ErrorKind::NotFound => Ok(()),
             removed => removed,
@@ -90,7 +98,8 @@ impl<R: Files + AllocGlobal + Drop> FileDevice<R> {
 
     /// The answer to a call that went so; a failure is counted.
     fn answer<T>(&mut self, done: io::Result<T>) -> Result<T, DeviceFault>
-        ensures { self.new.failures ≡ count_after result self.old.failures }
+        ensures value { IfOk result (λ value. done ≡ Ok value) }
+        ensures counted { self.new ≡ record self.old { failures = count_after result self.old.failures } }
     {
         match done {
             Ok(value) => Ok(value),
@@ -103,6 +112,15 @@ impl<R: Files + AllocGlobal + Drop> FileDevice<R> {
     }
 }
 
+/// The path of the key's file in the folder: its name is two decimal numbers with a dot between them.
+fn path_of(alloc: Global, folder: &str, key: DeviceKey) -> Result<String, AllocError>
+    ensures { IfOk result (λ path. string_bytes path ≡ file_path folder.now key) }
+{
+    let job = key.job.0;
+    let number = key.number;
+    format!(in alloc; "{folder}/{job}.{number}")
+}
+
 /// Writes the bytes to the file `part`, whose name then becomes `path`.
 fn write_beside<R: Files>(rt: &R, part: &str, path: &str, bytes: &[u8]) -> io::Result<()> {
     fs::write(rt, part, bytes)?;
@@ -110,7 +128,16 @@ fn write_beside<R: Files>(rt: &R, part: &str, path: &str, bytes: &[u8]) -> io::R
 }
 
 impl<R: Files + AllocGlobal + Drop> SpillDevice for FileDevice<R> {
+    ghost use Rattle.std.specs.Prelude.{◌≡◌};
+
     ghost failures_of = { λ d. d.failures };
+
+    // the folder stays
+    ghost write_gives = { λ old _ _ _ new. new.name ≡ old.name };
+
+    ghost read_gives = { λ old _ _ _ new. new.name ≡ old.name };
+
+    ghost erase_gives = { λ old _ _ new. new.name ≡ old.name };
 
     fn write(&mut self, key: DeviceKey, bytes: &[u8]) -> Result<(), DeviceFault> {
         let written = self.write_whole(key, bytes);

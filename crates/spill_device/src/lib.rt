@@ -54,7 +54,7 @@ impl<T: Drop> From<AllocFailed<T>> for DeviceFault {
 /// Keeps bytes under keys, and may fail. `Failed` is answered only where the count of failures rose by
 /// one in that call, or stands at its last value; no other answer moves the count.
 pub trait SpillDevice {
-    ghost use Rattle.std.specs.Prelude.{◌≡◌, ℕ, List, Result, ⊤};
+    ghost use Rattle.std.specs.Prelude.{◌≡◌, ℕ, List, length, Result, IfOk, ⊤};
     ghost use Rattle.obj_id.specs.declared.works.DeviceKey.{DeviceKey};
     ghost use Rattle.spill_device.specs.declared.DeviceFault.{DeviceFault};
     ghost use Rattle.spill_device.specs.Faults.{count_after};
@@ -76,6 +76,7 @@ pub trait SpillDevice {
 
     /// The bytes that are kept under the key. `Failed` where they aren't `len` bytes.
     fn read(&mut self, key: DeviceKey, len: u32) -> Result<Bytes, DeviceFault>
+        ensures whole { IfOk result (λ bytes. length bytes ≡ len) }
         ensures counted { failures_of self.new ≡ count_after result (failures_of self.old) }
         ensures gives { read_gives self.old key len result self.new };
 

@@ -1,10 +1,9 @@
 //! What a line says to the program.
-ghost use Rattle.std.specs.Prelude.{◌≡◌, IfOk};
-ghost use Rattle.schedule_text.specs.Reading.{is_skipped as is_skipped_lem};
+ghost use Rattle.std.specs.Prelude.{IfOk};
 ghost use Rattle.store_program.specs.Lines.{IsSaid};
 
 use private_store::Step;
-use schedule_text::{Line, read_line};
+use schedule_text::{Line, is_skipped, read_line};
 use std::alloc::{AllocError, Global};
 use std::str;
 use world_core::is_built_step;
@@ -24,7 +23,7 @@ pub enum Said {
 pub fn hear(alloc: Global, text: &[u8], nodes: u32) -> Result<Said, AllocError>
     ensures { IfOk result (λ said. IsSaid nodes text.now said) }
 {
-    // a comment may hold any bytes
+    // before its bytes are asked to be a text, since a comment may hold any
     if is_skipped(text) {
         return Ok(Said::Nothing);
     }
@@ -35,11 +34,4 @@ pub fn hear(alloc: Global, text: &[u8], nodes: u32) -> Result<Said, AllocError>
         Some(Line::Step(step)) if is_built_step(nodes, &step) => Ok(Said::Step(step)),
         _ => Ok(Said::NoStep),
     }
-}
-
-/// Whether the text is empty or a comment.
-fn is_skipped(text: &[u8]) -> bool
-    ensures { result ≡ is_skipped_lem text.now }
-{
-    matches!(text, [] | [b'#', ..])
 }
