@@ -1,2 +1,4 @@
+pub mod Heads
+pub mod Kinds
 pub mod Reading
 pub mod Writing

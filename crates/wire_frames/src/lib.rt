@@ -3,7 +3,10 @@
 //! their highest byte first.
 #![tactic(auto)]
 
+mod bodies;
 mod encode;
+mod frames;
+mod kinds;
 mod reader;
 
 pub use encode::{encode_command, encode_reply};

@@ -1,0 +1,2 @@
+pub mod KindTables
+pub mod Streams
