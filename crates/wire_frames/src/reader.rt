@@ -1,7 +1,7 @@
 //! A reader of a stream that comes in pieces.
 ghost use Rattle.std.specs.Prelude.{◌≡◌, ◌⊎◌, [], Ok, Err, IfOk, IfErr};
 ghost use Rattle.obj_id.specs.declared.refusals.Refusal.TheVariants.{Malformed, NoMemory};
-ghost use Rattle.wire_frames.specs.Reading.{unfinished, fed, told, is_in_mid_frame};
+ghost use Rattle.wire_frames.specs.Reading.{failed, unfinished, fed, told, is_in_mid_frame};
 
 use crate::frames::read_frames;
 use bytes::BytesMut;
@@ -47,6 +47,7 @@ impl Reader {
     pub fn feed(&mut self, alloc: Global, piece: &[u8]) -> Result<Vec<Item>, Refusal>
         ensures items { IfOk result (λ items. fed self.old piece.now ≡ told (Ok items.items) self.new) }
         ensures fault { result ≡ Err Malformed → fed self.old piece.now ≡ told (Err Malformed) self.new }
+        ensures for_good { self.old ≡ failed → result ≡ Err Malformed }
         ensures memory { result ≡ Err NoMemory → self.new ≡ self.old }
         ensures refusals { IfErr result (λ refusal. (refusal ≡ Malformed) ⊎ (refusal ≡ NoMemory)) }
     {
