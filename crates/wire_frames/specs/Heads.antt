@@ -1,5 +1,5 @@
 -- What stands at the head of bytes, and how frame after frame is taken from it.
-use Rattle.std.specs.Prelude.{ℕ, ◌<◌, ◌≤◌, Bool, true, false, if◌then◌else◌, List, [], ◌∷◌, ◌++◌, drop}
+use Rattle.std.specs.Prelude.{ℕ, ◌<◌, ◌≤◌, Bool, true, false, List, [], ◌∷◌, ◌++◌, drop}
 use Rattle.private_store.specs.declared.frames.Item.{Item}
 use Rattle.private_store.specs.Frames.{End, clean, mid_frame, malformed, Stream, stopped, after_item, stream_of}
 use Rattle.wire_frames.specs.declared.frames.Head.{Head}

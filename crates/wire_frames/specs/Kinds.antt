@@ -1,7 +1,6 @@
 -- The kinds of frames that a session sends: their bytes, and the forms of their bodies.
-use Rattle.std.specs.Prelude.{ℕ, Bool, ◌==◌, ◌&&◌, nat_le, if◌then◌else◌, List, length, slice_index, drop, Option, Some, None}
+use Rattle.std.specs.Prelude.{ℕ, Bool, ◌==◌, ◌&&◌, nat_le, if◌then◌else◌, List, length, slice_index, drop, Some, None}
 use Rattle.obj_id.specs.declared.ids.ObjectId.{ObjectId}
-use Rattle.obj_id.specs.declared.commands.Command.{Command}
 use Rattle.obj_id.specs.declared.commands.Command.TheVariants as command
 use Rattle.private_store.specs.declared.frames.Awaited.TheVariants as awaited
 use Rattle.private_store.specs.declared.frames.Item.{Item}

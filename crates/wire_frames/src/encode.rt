@@ -1,11 +1,11 @@
-//! The bytes of frames.
+//! The frames of commands, and how a frame is put together.
 ghost use Rattle.std.specs.Prelude.{◌≡◌, ◌<◌, ◌++◌, ◌^◌, ◌+◌, ◌∷◌, IsTrue, IfOk, flat_map, length};
-ghost use Rattle.private_store.specs.Frames.{be4, command_body, create_body, frame, is_command_length, item_frame, kind_byte as kind_byte_lem, range_body, reply_frame};
+ghost use Rattle.private_store.specs.Frames.{be4, command_body, create_body, frame, is_command_length, item_frame, kind_byte as kind_byte_lem, range_body};
 ghost use Rattle.obj_id.specs.Ids.{id_bytes};
-ghost use Rattle.wire_frames.specs.Writing.{has_command_frame, has_reply_frame};
+ghost use Rattle.wire_frames.specs.Writing.{has_command_frame};
 
 use bytes::Bytes;
-use obj_id::{Command, Kind, ObjectId, Reply};
+use obj_id::{Command, Kind, ObjectId};
 use private_store::{Awaited, Item};
 use std::alloc::{AllocError, Global};
 
@@ -100,7 +100,7 @@ fn create(
 }
 
 /// The byte of a copy's kind.
-fn kind_byte(kind: Kind) -> u8
+pub(crate) fn kind_byte(kind: Kind) -> u8
     ensures { result ≡ kind_byte_lem kind }
 {
     match kind {
@@ -109,17 +109,8 @@ fn kind_byte(kind: Kind) -> u8
     }
 }
 
-/// The frame of a reply, of at most 262,144 bytes behind its length. What a device worker is answered has none,
-/// and a granted item's depth is below 256.
-pub fn encode_reply(alloc: Global, reply: &Reply<Bytes>) -> Result<Vec<u8>, AllocError>
-    requires { IsTrue (has_reply_frame reply.now) }
-    ensures { IfOk result (λ frame. frame.items ≡ reply_frame reply.now) }
-{
-    Err(AllocError)
-}
-
 /// The frame of a kind and a body in parts, which are copied once.
-fn frame_of(alloc: Global, kind: u8, parts: &[&[u8]]) -> Result<Vec<u8>, AllocError>
+pub(crate) fn frame_of(alloc: Global, kind: u8, parts: &[&[u8]]) -> Result<Vec<u8>, AllocError>
     requires { 1 + length (flat_map (λ part. part.now) parts.now) < 2 ^ 32 }
     ensures { IfOk result (λ f. f.items ≡ frame (kind ∷ flat_map (λ part. part.now) parts.now)) }
 {

@@ -8,6 +8,8 @@ mod encode;
 mod frames;
 mod kinds;
 mod reader;
+mod replies;
 
-pub use encode::{encode_command, encode_reply};
+pub use encode::encode_command;
 pub use reader::Reader;
+pub use replies::encode_reply;

@@ -1,4 +1,4 @@
-use Rattle.std.proofs.Common.{◌≡◌, ◌<◌, ◌≤◌, ◌∷◌, ◌++◌, ℕ, List, length, subst, ap, ◌∙◌, sym, arith, length-append}
+use Rattle.std.proofs.Common.{◌<◌, ◌≤◌, ◌∷◌, ◌++◌, ℕ, List, length, subst, arith, length-append}
 use Rattle.std.specs.Prelude.{IsTrue, nat_le}
 use Rattle.std.proofs.lemmas.Bool.{and_parts, leb-true}
 use Rattle.obj_id.specs.Ids.{id_bytes}

@@ -1,4 +1,4 @@
-use Rattle.std.proofs.Common.{◌≡◌, ◌+◌, ◌∷◌, ◌++◌, ℕ, length, drop, flat_map}
+use Rattle.std.proofs.Common.{◌≡◌, ◌∷◌, ◌++◌, drop, flat_map}
 use Rattle.private_store.specs.Frames.{frame}
 use Rattle.wire_frames.proofs.encode.frame_of.Given as goal
 

@@ -1,4 +1,4 @@
-use Rattle.std.proofs.Common.{◌≡◌, ◌+◌, ℕ, length, drop, flat_map}
+use Rattle.std.proofs.Common.{◌≡◌, ◌+◌, length, drop, flat_map}
 use Rattle.wire_frames.proofs.encode.total_length.Given as goal
 
 abbrev pub invariant-loop-part : goal.invariant-loop-part

@@ -1,4 +1,4 @@
-use Rattle.std.proofs.Common.{◌≡◌, IfOk, sym, ap, ◌∙◌}
+use Rattle.std.proofs.Common.{◌≡◌, sym, ap, ◌∙◌}
 use Rattle.private_store.specs.Frames.{item_of}
 use Rattle.wire_frames.specs.Kinds.{read_of}
 use Rattle.wire_frames.proofs.KindTables.{item_of-byte_of}

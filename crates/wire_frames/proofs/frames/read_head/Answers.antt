@@ -1,8 +1,8 @@
-use Rattle.std.proofs.Common.{◌≡◌, ℕ, ◌+◌, ◌-◌, List, Option, Some, drop, take, sym, ap, ◌∙◌, arith}
+use Rattle.std.proofs.Common.{◌≡◌, ℕ, ◌+◌, ◌-◌, List, Option, drop, take, sym, ap, ◌∙◌, arith}
 use Rattle.std.specs.Prelude.{slice_index}
 use Rattle.private_store.specs.declared.frames.Item.{Item}
 use Rattle.private_store.specs.Frames.{item_of}
-use Rattle.wire_frames.proofs.Streams.{IsHead, stream_of-head}
+use Rattle.wire_frames.proofs.Streams.{stream_of-head}
 use Rattle.wire_frames.proofs.frames.read_head.Goals as goal
 
 body_taken : (kind size : ℕ) (bytes : List ℕ) (x : Option Item) → x ≡ item_of kind (take (4 + size - 5) bytes) → item_of kind (take (size - 1) bytes) ≡ x
