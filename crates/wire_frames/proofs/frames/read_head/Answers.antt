@@ -1,4 +1,4 @@
-use Rattle.std.proofs.Common.{◌≡◌, ℕ, ◌+◌, ◌-◌, List, Option, drop, take, sym, ap, ◌∙◌, arith}
+use Rattle.std.proofs.Common.{◌≡◌, ℕ, ◌+◌, ◌-◌, List, Option, Some, drop, take, sym, ap, ◌∙◌, arith}
 use Rattle.std.specs.Prelude.{slice_index}
 use Rattle.private_store.specs.declared.frames.Item.{Item}
 use Rattle.private_store.specs.Frames.{item_of}
@@ -12,7 +12,7 @@ pub returns-in-Some-clause-stream : goal.returns-in-Some-clause-stream
 returns-in-Some-clause-stream c =
     let bytes = c.args.bytes.now in
     let size = c.number_at-size.result in
-    stream_of-head bytes size c.in-Some.item (record {
+    stream_of-head bytes size (Some c.in-Some.item) (record {
       number = sym c.number_at-size.ensures;
       in_range = sym c.is_command_length.ensures ∙ c.if-not-is_command_length.false;
       whole = c.if-bytes-end.false;
