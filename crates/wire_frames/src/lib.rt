@@ -7,6 +7,7 @@ mod bodies;
 mod encode;
 mod frames;
 mod kinds;
+pub mod laws;
 mod reader;
 mod replies;
 
