@@ -28,7 +28,7 @@ onward-cut [] more = refl
 onward-cut (b ∷ bs) more = refl
 
 -- what is said of all that begins so is said of these bytes alone
-alone : (S : List ℕ → Stream) (bytes : List ℕ) → ((more : List ℕ) → stream_of (bytes ++ more) ≡ S (bytes ++ more)) → stream_of bytes ≡ S bytes
+pub alone : (S : List ℕ → Stream) (bytes : List ℕ) → ((more : List ℕ) → stream_of (bytes ++ more) ≡ S (bytes ++ more)) → stream_of bytes ≡ S bytes
 alone S bytes is = subst (λ b. stream_of b ≡ S b) (append-nil bytes) (is [])
 
 at_head : (n : ℕ) (bytes more : List ℕ) → length bytes < suc n → HeadOf bytes
@@ -36,11 +36,11 @@ at_head : (n : ℕ) (bytes more : List ℕ) → length bytes < suc n → HeadOf 
     → stream_of (bytes ++ more) ≡ onward (stream_of bytes) more
 at_head n bytes more h (cut is) later = sym (ap (λ s. onward s more) is ∙ onward-cut bytes more)
 at_head n bytes more h (fault is) later = is more ∙ sym (ap (λ s. onward s more) (alone (λ b. stopped b malformed) bytes is))
-at_head n bytes more h (whole size x long is) later =
+at_head n bytes more h (whole size x at is) later =
     let rest = drop (4 + size) bytes in
-    let shorter : length rest < n = omega (arith, length-drop (4 + size) bytes) in
+    let shorter : length rest < n = omega (arith, at.whole, length-drop (4 + size) bytes) in
     is more
-    ∙ ap (λ b. after_item x (stream_of b)) (drop-append-le (4 + size) bytes more long)
+    ∙ ap (λ b. after_item x (stream_of b)) (drop-append-le (4 + size) bytes more at.whole)
     ∙ ap (after_item x) (later rest shorter)
     ∙ sym (onward_at-cons (stream_of rest).end x (stream_of rest).items (stream_of rest).rest more)
     ∙ sym (ap (λ s. onward s more) (alone (λ b. after_item x (stream_of (drop (4 + size) b))) bytes is))

@@ -116,7 +116,7 @@ body-append bytes more size some whole =
     ap (take (size - 1)) (drop-append-le 5 bytes more long)
     ∙ take-append-le (size - 1) (drop 5 bytes) more (omega (arith, length-drop 5 bytes))
 
-has_bytes : (size : ℕ) → is_command_length size ≡ true → 1 ≤ size
+pub has_bytes : (size : ℕ) → is_command_length size ≡ true → 1 ≤ size
 has_bytes size h = leb-true 1 size (and_parts (nat_le 1 size) (nat_le size 65600) h).0
 
 IsHead-append : (bytes more : List ℕ) (size : ℕ) (x : Option Item) → IsHead bytes size x → IsHead (bytes ++ more) size x
@@ -134,12 +134,12 @@ IsHead-append bytes more size x h =
 pub data HeadOf (bytes : List ℕ) : Type 0 where
   cut : stream_of bytes ≡ stopped bytes (cut_end bytes) → HeadOf bytes
   fault : ((more : List ℕ) → stream_of (bytes ++ more) ≡ stopped (bytes ++ more) malformed) → HeadOf bytes
-  whole : (size : ℕ) (x : Item) → 4 + size ≤ length bytes
+  whole : (size : ℕ) (x : Item) → IsHead bytes size (Some x)
       → ((more : List ℕ) → stream_of (bytes ++ more) ≡ after_item x (stream_of (drop (4 + size) (bytes ++ more)))) → HeadOf bytes
 
 of_head : (bytes : List ℕ) (size : ℕ) (x : Option Item) → IsHead bytes size x → HeadOf bytes
 of_head bytes size None h = fault (λ more. stream_of-head (bytes ++ more) size None (IsHead-append bytes more size None h))
-of_head bytes size (Some x) h = whole size x h.whole (λ more. stream_of-head (bytes ++ more) size (Some x) (IsHead-append bytes more size (Some x) h))
+of_head bytes size (Some x) h = whole size x h (λ more. stream_of-head (bytes ++ more) size (Some x) (IsHead-append bytes more size (Some x) h))
 
 of_long : (bytes : List ℕ) (in_range : Bool) (is_cut : Bool) → 4 ≤ length bytes → is_command_length (number_at bytes 0) ≡ in_range
     → nat_lt (length bytes) (4 + number_at bytes 0) ≡ is_cut → HeadOf bytes

@@ -1,5 +1,5 @@
 -- What a program's items are, and which of them have a frame.
-use Rattle.std.specs.Prelude.{◌≡◌, ℕ, ◌<◌, ◌^◌, true, List, length}
+use Rattle.std.specs.Prelude.{◌≡◌, ℕ, ◌<◌, ◌^◌, Bool, true, false, List, length, slice_index}
 use Rattle.obj_id.specs.Ids.{IsId, IsTask}
 use Rattle.obj_id.specs.declared.commands.Command.{Command}
 use Rattle.obj_id.specs.declared.commands.Command.TheVariants as command
@@ -44,3 +44,11 @@ IsItem item.BadId = ⊥
 pub record HasFrame (x : Item) : Type 0 where
   pub well : IsItem x
   pub fits : has_command_frame x ≡ true
+
+abbrev pub AreBytes : List ℕ → Type 0
+AreBytes bytes = (i : ℕ) → slice_index bytes i < 256
+
+-- of an item that is BadId nothing is known but that
+abbrev pub is_bad_id : Item → Bool
+is_bad_id item.BadId = true
+is_bad_id _ = false

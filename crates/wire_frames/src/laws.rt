@@ -1,6 +1,9 @@
 //! Theorems about what readers and encoders do: each function does nothing, and its contract is a law.
-ghost use Rattle.std.specs.Prelude.{◌≡◌, ℕ, List, [], flat_map};
-ghost use Rattle.private_store.specs.Frames.{stream_of};
+ghost use Rattle.std.specs.Prelude.{◌≡◌, ◌++◌, ℕ, List, [], false, All, flat_map};
+ghost use Rattle.private_store.specs.declared.frames.Item.{Item};
+ghost use Rattle.private_store.specs.Frames.{item_frame, stream_of};
+ghost use Rattle.wire_frames.specs.Heads.{after_items};
+ghost use Rattle.wire_frames.specs.Items.{AreBytes, HasFrame, is_bad_id};
 ghost use Rattle.wire_frames.specs.Laws.{feeding, given_by};
 ghost use Rattle.wire_frames.specs.Reading.{unfinished};
 
@@ -10,4 +13,17 @@ ghost use Rattle.wire_frames.specs.Reading.{unfinished};
 pub fn pieces_are_the_stream()
     ensures { (pieces : List (List ℕ))
         → feeding (unfinished []) pieces ≡ given_by (stream_of (flat_map (λ piece. piece) pieces)) }
+{}
+
+/// The frames of items that have one are read as these items, whatever follows: decoding undoes encoding.
+pub fn what_is_written_is_read()
+    ensures { (items : List Item) (rest : List ℕ) → All HasFrame items
+        → stream_of (flat_map item_frame items ++ rest) ≡ after_items items (stream_of rest) }
+{}
+
+/// Bytes that are read are the frames of what they were read as, and what is left: encoding undoes decoding. So an
+/// item has one frame alone. An id that can't be isn't kept, so nothing is said where one was read.
+pub fn what_is_read_is_written()
+    ensures { (bytes : List ℕ) → AreBytes bytes → All (λ x. is_bad_id x ≡ false) (stream_of bytes).items
+        → flat_map item_frame (stream_of bytes).items ++ (stream_of bytes).rest ≡ bytes }
 {}
