@@ -23,7 +23,7 @@ head_spelled bytes size x h at ok =
     let four : be4 size ≡ take 4 bytes = ap be4 (sym at.number) ∙ number_spelled bytes 0 h (omega (arith, at.whole)) in
     let one_more : suc (size - 1) ≡ size = omega arith in
     let others : kind ∷ body ≡ take size (drop 4 bytes) =
-      ap (take (suc (size - 1))) (sym (drop-cons bytes 4 0 (omega (arith, at.whole)))) ∙ ap (λ n. take n (drop 4 bytes)) one_more in
+    ap (take (suc (size - 1))) (sym (drop-cons bytes 4 0 (omega (arith, at.whole)))) ∙ ap (λ n. take n (drop 4 bytes)) one_more in
     ap (λ o. unwrap_or (option_map frame o) []) spelled
     ∙ ap (λ n. be4 n ++ (kind ∷ body)) whole_length
     ∙ (λ i. four i ++ others i)

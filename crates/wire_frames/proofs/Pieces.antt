@@ -60,7 +60,7 @@ given_onto items f = record { items = items ++ f.items; reader = f.reader }
 
 given-onward : (end : End) (items : List Item) (rest piece : List ℕ)
     → let s : Stream = record { items = items; rest = rest; end = end } in
-      given_by (onward s piece) ≡ given_onto items (given_by (continued (reading_after s) piece))
+    given_by (onward s piece) ≡ given_onto items (given_by (continued (reading_after s) piece))
 given-onward clean items rest piece = refl
 given-onward mid_frame items rest piece = refl
 given-onward malformed items rest piece = λ i. record { items = sym (append-nil items) i; reader = failed }

@@ -173,7 +173,7 @@ known_spelled : (kind : FrameKind) (byte : ℕ) (body : List ℕ) (x : Item) →
     → is_bad_id x ≡ false → item_body x ≡ Some (byte ∷ body)
 known_spelled kind byte body x is h e ok =
     subst (λ b. item_body x ≡ Some (b ∷ body)) is
-      (kind_spelled kind body x h (sym (item_of-byte_of kind body) ∙ ap (λ b. item_of b body) is ∙ e) ok)
+    (kind_spelled kind body x h (sym (item_of-byte_of kind body) ∙ ap (λ b. item_of b body) is ∙ e) ok)
 
 none_some : (o : Option Item) (x : Item) {B : Type 0} → o ≡ None → o ≡ Some x → B
 none_some o x none some = absurd (cc)

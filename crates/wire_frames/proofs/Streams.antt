@@ -148,7 +148,7 @@ of_long bytes false is_cut long h k = fault (λ more.
 of_long bytes true true long h k = cut (stream_of-cut bytes long h k)
 of_long bytes true false long h k =
     of_head bytes (number_at bytes 0) (item_of (slice_index bytes 4) (take (number_at bytes 0 - 1) (drop 5 bytes)))
-      (record { number = refl; in_range = h; whole = ltb-false (length bytes) (4 + number_at bytes 0) k; reads = refl })
+    (record { number = refl; in_range = h; whole = ltb-false (length bytes) (4 + number_at bytes 0) k; reads = refl })
 
 of_bytes : (bytes : List ℕ) (is_short : Bool) → nat_lt (length bytes) 4 ≡ is_short → HeadOf bytes
 of_bytes bytes true h = cut (stream_of-short bytes h)

@@ -219,7 +219,7 @@ item_of-hello : (job : JobNo) (key : JobKey) → job.0 < 2 ^ 32 → length key.0
 item_of-hello job key small long =
     let body = be4 job.0 ++ key.0 in
     ap (λ b. if b then Some (item.Hello (record { 0 = number_at body 0 }) (record { 0 = drop 4 body })) else None)
-      (is_of_length body 36 (omega (arith, length-append (be4 job.0) key.0)))
+    (is_of_length body 36 (omega (arith, length-append (be4 job.0) key.0)))
     ∙ ap (λ n. Some (item.Hello (record { 0 = n }) key)) (from_be_bytes-to_be_bytes_4 job.0 small)
 
 -- ---- frames
