@@ -8,7 +8,7 @@ use Rattle.private_store.specs.Frames.{Stream, after_item, be4, frame, item_body
 use Rattle.wire_frames.specs.Heads.{cut_end}
 use Rattle.wire_frames.specs.Items.{AreBytes, is_bad_id}
 use Rattle.wire_frames.proofs.Pieces.{alone}
-use Rattle.wire_frames.proofs.Spelled.{bytes_drop, bytes_take, further, item_body-item_of, number_spelled}
+use Rattle.wire_frames.proofs.Spelled.{bytes_drop, bytes_take, further, IsSpelled-item_of, number_spelled}
 use Rattle.wire_frames.proofs.Streams.{HeadOf, IsHead, cut, fault, has_bytes, head_of, whole}
 
 -- an item's frame is the bytes that it was read from
@@ -17,7 +17,7 @@ head_spelled bytes size x h at ok =
     let kind = slice_index bytes 4 in
     let body = take (size - 1) (drop 5 bytes) in
     let some = has_bytes size at.in_range in
-    let spelled : item_body x ≡ Some (kind ∷ body) = item_body-item_of kind body x (bytes_take (size - 1) (drop 5 bytes) (bytes_drop 5 bytes h)) at.reads ok in
+    let spelled : item_body x ≡ Some (kind ∷ body) = (IsSpelled-item_of kind body x (bytes_take (size - 1) (drop 5 bytes) (bytes_drop 5 bytes h)) at.reads ok).spelled in
     let same_length : length body ≡ size - 1 = length-take-le (size - 1) (drop 5 bytes) (omega (arith, at.whole, length-drop 5 bytes)) in
     let whole_length : suc (length body) ≡ size = omega arith in
     let four : be4 size ≡ take 4 bytes = ap be4 (sym at.number) ∙ number_spelled bytes 0 h (omega (arith, at.whole)) in
