@@ -6,7 +6,8 @@ use std::test::Fail;
 use wire_frames::Reader;
 
 /// A whole session: Hello of job 1 under a key of zeros; Create, Seal and Get of its first object.
-const SESSION: &str = "000000250100000001000000000000000000000000000000000000000000000000000000000000000000000022020000000000000000000000000000000000000001000000010000000100000000140000001d04000000000000000000000000000000000000000100000001000000010000001d0500000000000000000000000000000000000000010000000100000001";
+const SESSION: &str =
+    "000000250100000001000000000000000000000000000000000000000000000000000000000000000000000022020000000000000000000000000000000000000001000000010000000100000000140000001d04000000000000000000000000000000000000000100000001000000010000001d0500000000000000000000000000000000000000010000000100000001";
 
 /// What is not a frame, whatever follows: lengths out of range, kinds that there aren't, bodies of another length,
 /// and a copy kind that there isn't, once with an id that can't be.
@@ -95,9 +96,18 @@ fn a_fault_is_answered_for_good(rt: HostRuntime) -> Result<(), Fail> {
     for fault in FAULTS {
         let mut reader = Reader::new(alloc);
         let bytes = hex::decode(alloc, fault)?;
-        assert!(rt; matches!(fed(alloc, &mut reader, &bytes), Err(Refusal::Malformed)), "{fault}");
-        assert!(rt; matches!(reader.feed(alloc, &[]), Err(Refusal::Malformed)), "{fault}");
-        assert!(rt; matches!(reader.feed(alloc, &session), Err(Refusal::Malformed)), "{fault}");
+        assert!(rt;
+            matches!(fed(alloc, &mut reader, &bytes), Err(Refusal::Malformed)),
+            "{fault}"
+        );
+        assert!(rt;
+            matches!(reader.feed(alloc, &[]), Err(Refusal::Malformed)),
+            "{fault}"
+        );
+        assert!(rt;
+            matches!(reader.feed(alloc, &session), Err(Refusal::Malformed)),
+            "{fault}"
+        );
     }
     Ok(())
 }
@@ -114,7 +124,10 @@ fn items_before_a_fault_are_given(rt: HostRuntime) -> Result<(), Fail> {
         let items = fed(alloc, &mut reader, &bytes)?;
         assert!(rt; is_the_session(&items, object), "{fault}");
         assert!(rt; reader.in_mid_frame(), "{fault}");
-        assert!(rt; matches!(reader.feed(alloc, &[]), Err(Refusal::Malformed)), "{fault}");
+        assert!(rt;
+            matches!(reader.feed(alloc, &[]), Err(Refusal::Malformed)),
+            "{fault}"
+        );
     }
     Ok(())
 }
@@ -134,13 +147,17 @@ fn a_frame_that_is_not_whole_is_no_fault(rt: HostRuntime) -> Result<(), Fail> {
 #[test]
 fn the_longest_write_is_read(rt: HostRuntime) -> Result<(), Fail> {
     let alloc = rt.alloc();
-    let head = hex::decode(alloc, "00010040030000000000000000000000000000000000000001000000010000000100000007")?;
+    let head = hex::decode(
+        alloc,
+        "00010040030000000000000000000000000000000000000001000000010000000100000007",
+    )?;
     let payload = vec![in alloc; 9; 65_567]?;
     let mut reader = Reader::new(alloc);
     let items = items_of(alloc, &mut reader, &[&head, &payload])?;
     let object = first_object()?;
     let written = match items.as_slice() {
-        [Item::Command(Command::Write(id, 7, bytes))] => *id == object && bytes.as_slice() == payload.as_slice(),
+        [Item::Command(Command::Write(id, 7, bytes))] => *id == object
+            && bytes.as_slice() == payload.as_slice(),
         _ => false,
     };
     assert!(rt; written);
