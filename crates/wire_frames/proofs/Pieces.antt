@@ -65,7 +65,7 @@ given-onward clean items rest piece = refl
 given-onward mid_frame items rest piece = refl
 given-onward malformed items rest piece = λ i. record { items = sym (append-nil items) i; reader = failed }
 
-given-append : (before piece : List ℕ)
+pub given-append : (before piece : List ℕ)
     → given_by (stream_of (before ++ piece)) ≡ given_onto (stream_of before).items (given_by (continued (reading_after (stream_of before)) piece))
 given-append before piece =
     let s = stream_of before in
