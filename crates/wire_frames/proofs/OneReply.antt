@@ -1,14 +1,13 @@
 -- A frame is of one reply alone: what its bytes say.
-use Rattle.std.proofs.Common.{◌≡◌, ℕ, ◌+◌, ◌-◌, ◌*◌, ◌<◌, ◌≤◌, ◌^◌, List, [], ◌∷◌, ◌++◌, length, take, drop, flat_map, Option, Some, None, zero, suc, refl, sym, ap, subst, ◌∙◌, arith, append_assoc, append-nil, length-append}
+use Rattle.std.proofs.Common.{◌≡◌, ℕ, ◌+◌, ◌-◌, ◌*◌, List, [], ◌∷◌, ◌++◌, length, take, drop, flat_map, Option, Some, zero, suc, refl, sym, ap, subst, ◌∙◌, arith, append_assoc, append-nil, length-append}
 use Rattle.std.specs.Prelude.{All, option_and_then, option_map, slice_get, slice_index}
 use Rattle.std.specs.Int.{from_be_bytes, w32, w64}
 use Rattle.std.specs.Ordering.{nat_cmp}
 use Rattle.std.specs.FinMap.{find}
-use Rattle.std.proofs.Math.Seq.{get_or-append_seam}
 use Rattle.std.proofs.lemmas.List.{get_or-append-add}
 use Rattle.std.proofs.lemmas.Nat.{from_be_bytes-to_be_bytes_4, from_be_bytes-to_be_bytes_8}
-use Rattle.obj_id.specs.Ids.{IsId, id_bytes}
-use Rattle.obj_id.specs.Refusals.{all_refusals, number_of}
+use Rattle.obj_id.specs.Ids.{id_bytes}
+use Rattle.obj_id.specs.Refusals.{all_refusals}
 use Rattle.obj_id.specs.declared.commands.CopyState.{CopyState}
 use Rattle.obj_id.specs.declared.commands.CopyState.TheVariants.{Created, Sealed, Restoring, Fetching, Away}
 use Rattle.obj_id.specs.declared.commands.OwnItem.{OwnItem}
@@ -16,7 +15,7 @@ use Rattle.obj_id.specs.declared.commands.GrantedItem.{GrantedItem}
 use Rattle.obj_id.specs.declared.commands.Reply.{Reply}
 use Rattle.obj_id.specs.declared.commands.Reply.TheVariants as reply
 use Rattle.obj_id.proofs.RefusalTables.{refusal_at}
-use Rattle.private_store.specs.Frames.{be4, be8, granted_bytes, id_at, kind_byte, kind_of, number_at, own_bytes, reply_frame, state_byte}
+use Rattle.private_store.specs.Frames.{be4, granted_bytes, id_at, kind_byte, kind_of, number_at, own_bytes, reply_frame, state_byte}
 use Rattle.wire_frames.specs.Replies.{IsGrantedItem, IsList, IsOwnItem, IsReply}
 use Rattle.wire_frames.proofs.Written.{back, id_at-id_bytes, kind_of-kind_byte, length-id_bytes, number_back}
 
@@ -53,9 +52,13 @@ list_at body = reply.List
 
 abbrev usage_at : List ℕ → Reply (List ℕ)
 usage_at body = reply.Usage (record {
-    window = long_at body 0; window_used = long_at body 8; device = long_at body 16;
-    device_used = long_at body 24; copies = long_at body 32; works = long_at body 40
-  })
+  window = long_at body 0;
+  window_used = long_at body 8;
+  device = long_at body 16;
+  device_used = long_at body 24;
+  copies = long_at body 32;
+  works = long_at body 40;
+})
 
 abbrev said_at : ℕ → List ℕ → Option (Reply (List ℕ))
 said_at kind body = option_and_then (λ (read : List ℕ → Option (Reply (List ℕ))). read body) (find nat_cmp kind (
@@ -98,8 +101,8 @@ own_at-own_bytes i rest is =
     let kind : kind_of (slice_index bytes 29) ≡ i.kind = ap kind_of (byte_back (id_bytes i.id) tail 28 1 (kind_byte i.kind) size refl) ∙ kind_of-kind_byte i.kind in
     let front_size : length front ≡ 30 = omega (arith, size, length-append (id_bytes i.id) (state_byte i.state ∷ kind_byte i.kind ∷ [])) in
     let number : number_at bytes 30 ≡ i.length =
-      ap (λ b. number_at b 30) (sym (append_assoc (id_bytes i.id) (state_byte i.state ∷ kind_byte i.kind ∷ []) (be4 i.length ++ rest)))
-      ∙ number_back front i.length rest 30 front_size is.length_fits in
+    ap (λ b. number_at b 30) (sym (append_assoc (id_bytes i.id) (state_byte i.state ∷ kind_byte i.kind ∷ []) (be4 i.length ++ rest)))
+    ∙ number_back front i.length rest 30 front_size is.length_fits in
     ap own_at (own_parts i rest) ∙ (λ j. record { id = id j; state = state j; kind = kind j; length = number j })
 
 length-own_bytes : (i : OwnItem) → IsOwnItem i → length (own_bytes i) ≡ 34
@@ -156,13 +159,13 @@ list_again own granted is =
     let parts : (front ++ be4 m) ++ end ≡ front ++ (be4 m ++ end) = append_assoc front (be4 m) end in
     let count : from_be_bytes w32 (be4 n) ≡ n = from_be_bytes-to_be_bytes_4 n is.own_count in
     let behind : drop (34 * from_be_bytes w32 (be4 n)) ((front ++ be4 m) ++ end) ≡ be4 m ++ end =
-      (λ i. drop (34 * count i) (parts i)) ∙ back front (be4 m ++ end) (34 * n) (length-own_items own is.own_items) in
+    (λ i. drop (34 * count i) (parts i)) ∙ back front (be4 m ++ end) (34 * n) (length-own_items own is.own_items) in
     let first : items_at own_at 34 (from_be_bytes w32 (be4 n)) ((front ++ be4 m) ++ end) ≡ own =
-      (λ i. items_at own_at 34 (count i) (parts i)) ∙ own_again own (be4 m ++ end) is.own_items in
+    (λ i. items_at own_at 34 (count i) (parts i)) ∙ own_again own (be4 m ++ end) is.own_items in
     let second : items_at granted_at 33 (number_at (drop (34 * from_be_bytes w32 (be4 n)) ((front ++ be4 m) ++ end)) 0) (drop 4 (drop (34 * from_be_bytes w32 (be4 n)) ((front ++ be4 m) ++ end))) ≡ granted =
-      ap (λ b. items_at granted_at 33 (number_at b 0) (drop 4 b)) behind
-      ∙ ap (λ k. items_at granted_at 33 k end) (from_be_bytes-to_be_bytes_4 m is.granted_count)
-      ∙ granted_again granted is.granted_items in
+    ap (λ b. items_at granted_at 33 (number_at b 0) (drop 4 b)) behind
+    ∙ ap (λ k. items_at granted_at 33 k end) (from_be_bytes-to_be_bytes_4 m is.granted_count)
+    ∙ granted_again granted is.granted_items in
     λ i. reply.List (first i) (second i)
 
 said_by-reply_frame : (r : Reply (List ℕ)) → IsReply r → said_by (reply_frame r) ≡ Some r
@@ -173,10 +176,13 @@ said_by-reply_frame (reply.Got n) is = ap (λ k. Some (reply.Got k)) (from_be_by
 said_by-reply_frame (reply.Bytes bytes) is = refl
 said_by-reply_frame (reply.List own granted) is = ap (λ r. Some r) (list_again own granted is)
 said_by-reply_frame (reply.Usage u) is = λ i. Some (reply.Usage (record {
-    window = from_be_bytes-to_be_bytes_8 u.window is.window i; window_used = from_be_bytes-to_be_bytes_8 u.window_used is.window_used i;
-    device = from_be_bytes-to_be_bytes_8 u.device is.device i; device_used = from_be_bytes-to_be_bytes_8 u.device_used is.device_used i;
-    copies = from_be_bytes-to_be_bytes_8 u.copies is.copies i; works = from_be_bytes-to_be_bytes_8 u.works is.works i
-  }))
+  window = from_be_bytes-to_be_bytes_8 u.window is.window i;
+  window_used = from_be_bytes-to_be_bytes_8 u.window_used is.window_used i;
+  device = from_be_bytes-to_be_bytes_8 u.device is.device i;
+  device_used = from_be_bytes-to_be_bytes_8 u.device_used is.device_used i;
+  copies = from_be_bytes-to_be_bytes_8 u.copies is.copies i;
+  works = from_be_bytes-to_be_bytes_8 u.works is.works i;
+}))
 said_by-reply_frame (reply.Work work) is = absurd is
 said_by-reply_frame reply.NoWork is = absurd is
 said_by-reply_frame (reply.Refused r) is = ap (option_map reply.Refused) (refusal_at r)

@@ -1,5 +1,5 @@
 -- What is written is read again.
-use Rattle.std.proofs.Common.{◌≡◌, ℕ, ◌+◌, ◌-◌, ◌<◌, ◌≤◌, ◌^◌, Bool, true, false, ◌&&◌, List, [], ◌∷◌, ◌++◌, length, take, drop, Option, Some, None, zero, suc, refl, sym, ap, subst, ◌∙◌, arith, append_assoc, append-nil, length-append, length-drop}
+use Rattle.std.proofs.Common.{◌≡◌, ℕ, ◌+◌, ◌-◌, ◌<◌, ◌≤◌, ◌^◌, true, ◌&&◌, List, [], ◌∷◌, ◌++◌, length, take, drop, Some, None, suc, refl, sym, ap, subst, ◌∙◌, arith, append_assoc, append-nil, length-append}
 use Rattle.std.specs.Prelude.{◌==◌, All, flat_map, not, nat_le, if◌then◌else◌, slice_index}
 use Rattle.std.proofs.lemmas.Bool.Decides.{nat_tests}
 use Rattle.std.specs.Int.{from_be_bytes, w32}
@@ -22,7 +22,7 @@ use Rattle.wire_frames.specs.declared.kinds.FrameKind.TheVariants as frame
 use Rattle.wire_frames.specs.declared.kinds.ObjectKind.TheVariants as object
 use Rattle.wire_frames.proofs.KindTables.{item_of-byte_of}
 use Rattle.std.proofs.lemmas.Bool.{and_parts, le-leb, leb-true}
-use Rattle.wire_frames.proofs.Streams.{IsHead, stream_of-head}
+use Rattle.wire_frames.proofs.Streams.{stream_of-head}
 use Rattle.obj_id.specs.declared.works.JobKey.{JobKey}
 use Rattle.private_store.specs.declared.frames.Awaited.{Awaited}
 use Rattle.private_store.specs.declared.frames.Awaited.TheVariants as awaited
