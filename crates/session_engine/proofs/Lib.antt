@@ -1,0 +1,2 @@
+mod KnownBytes
+mod Answering

@@ -1,0 +1,10 @@
+//! The frames of a session: a reader that takes a stream in pieces and gives what its frames say, and the bytes
+//! of the frames that are sent. Contracts say both by the grammar of frames, in which lengths and numbers have
+//! their highest byte first.
+#![tactic(auto)]
+
+mod encode;
+mod reader;
+
+pub use encode::{encode_command, encode_reply};
+pub use reader::Reader;
