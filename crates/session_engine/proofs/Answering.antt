@@ -11,7 +11,7 @@ use Rattle.session_engine.specs.declared.ending.SessionFault.{SessionFault}
 use Rattle.session_engine.specs.declared.ending.SessionFault.TheVariants.{Read, Write, Memory}
 use Rattle.session_engine.specs.Calls.{Asked, Answered}
 use Rattle.session_engine.specs.Sessions.{AnswersItem, Run}
-use Rattle.session_engine.specs.Serving.{IsSent, Sends, AnswersAll, StopsWithin, StopsAnswering, Answering}
+use Rattle.session_engine.specs.Serving.{IsSent, Sends, Flushes, AnswersAll, StopsWithin, StopsAnswering, Answering}
 use Rattle.session_engine.proofs.KnownBytes.{Appends-none, Appends-then, Appends-kept}
 
 -- ---- what is sent
@@ -120,6 +120,27 @@ module _ {G : Type 0} (gives : G → Asked → Answered → G → Type 0) where
   stopped_more Read xs ys g g1 s s1 w w1 h = h
   stopped_more Write xs ys g g1 s s1 w w1 h = within_more Write xs ys g g1 s s1 w w1 h
   stopped_more Memory xs ys g g1 s s1 w w1 h = within_more Memory xs ys g g1 s s1 w w1 h
+
+  before_all : (fault : SessionFault) (xs : List Item) (g : G) (s : Option Seat) (w w1 : Option (List ℕ)) → IsSent fault w w1 [] → StopsWithin gives fault xs g s w g s w1
+  before_all fault xs g s w w1 h = record { answered = []; waiting = xs; parted = refl; sent = []; unsent = []; run = (refl, refl); written = h }
+
+  -- no item is answered, since the fault came to something else
+  pub stopped_before : (fault : SessionFault) (xs : List Item) (r : Reply (List ℕ)) (g : G) (s : Option Seat) (w w1 : Option (List ℕ))
+      → Sends r w w1 (Err fault) → StopsAnswering gives fault xs g s w g s w1
+  stopped_before Read xs r g s w w1 h = h
+  stopped_before Write xs r g s w w1 h = before_all Write xs g s w w1 tt
+  stopped_before Memory xs r g s w w1 h = before_all Memory xs g s w w1 (Appends-kept w w w1 [] (Appends-none w) h)
+
+  pub no_memory_before : (xs : List Item) (g : G) (s : Option Seat) (w : Option (List ℕ)) → StopsAnswering gives Memory xs g s w g s w
+  no_memory_before xs g s w = before_all Memory xs g s w w (Appends-none w)
+
+  -- all items are answered, and the answers may be kept back
+  pub stopped_after : (fault : SessionFault) (xs : List Item) (g g1 : G) (s s1 : Option Seat) (w w1 w2 : Option (List ℕ))
+      → AnswersAll gives xs g s w g1 s1 w1 → Flushes w1 w2 (Err fault) → StopsAnswering gives fault xs g s w g1 s1 w2
+  stopped_after Read xs g g1 s s1 w w1 w2 h k = k
+  stopped_after Write xs g g1 s s1 w w1 w2 h k =
+      record { answered = xs; waiting = []; parted = sym (append-nil xs); sent = []; unsent = h.replies; run = h.run; written = tt }
+  stopped_after Memory xs g g1 s s1 w w1 w2 h k = absurd k
 
   -- ---- the items so far
 

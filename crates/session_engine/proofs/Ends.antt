@@ -1,0 +1,43 @@
+-- A stream that ends clean leaves nothing, and one that ends inside a frame leaves something.
+use Rattle.std.proofs.Common.{◌≡◌, ◌≢◌, ℕ, zero, suc, ◌+◌, ◌-◌, ◌<◌, ◌≤◌, Bool, true, false, nat_lt, List, [], ◌∷◌, ◌++◌, length, take, drop, Option, Some, None, refl, sym, ap, subst, ◌∙◌, arith, length-drop}
+use Rattle.std.specs.Prelude.{⊤, slice_index}
+use Rattle.private_store.specs.declared.frames.Item.{Item}
+use Rattle.private_store.specs.Frames.{End, clean, mid_frame, malformed, Stream, stopped, after_item, frames_of, is_command_length, item_of, number_at, stream_of}
+
+abbrev pub Leaves : End → List ℕ → Type 0
+Leaves clean rest = rest ≡ []
+Leaves mid_frame rest = rest ≢ []
+Leaves malformed rest = ⊤
+
+-- one step of the grammar, for any answer of its tests
+leaves_step : (b : ℕ) (bs : List ℕ) (short ranged partial : Bool) (read : Option Item) (others : Stream) → Leaves others.end others.rest →
+    let stream = elim short [
+      | true ↦ stopped (b ∷ bs) mid_frame
+      | false ↦ elim ranged [
+        | false ↦ stopped (b ∷ bs) malformed
+        | true ↦ elim partial [
+          | true ↦ stopped (b ∷ bs) mid_frame
+          | false ↦ elim read [
+            | None ↦ stopped (b ∷ bs) malformed
+            | Some x ↦ after_item x others
+          ]
+        ]
+      ]
+    ] in Leaves stream.end stream.rest
+leaves_step b bs true ranged partial read others h = λ e. cc
+leaves_step b bs false false partial read others h = tt
+leaves_step b bs false true true read others h = λ e. cc
+leaves_step b bs false true false None others h = tt
+leaves_step b bs false true false (Some x) others h = h
+
+leaves_frames : (n : ℕ) (bytes : List ℕ) → length bytes < n → Leaves (frames_of n bytes).end (frames_of n bytes).rest
+leaves_frames zero bytes h = absurd (omega arith)
+leaves_frames (suc n) [] h = refl
+leaves_frames (suc n) (b ∷ bs) h =
+    let size = number_at (b ∷ bs) 0 in
+    leaves_step b bs (nat_lt (length (b ∷ bs)) 4) (is_command_length size) (nat_lt (length (b ∷ bs)) (4 + size))
+    (item_of (slice_index (b ∷ bs) 4) (take (size - 1) (drop 5 (b ∷ bs)))) (frames_of n (drop (4 + size) (b ∷ bs)))
+    (leaves_frames n (drop (4 + size) (b ∷ bs)) (omega (arith, length-drop (4 + size) (b ∷ bs))))
+
+pub leaves_stream : (bytes : List ℕ) → Leaves (stream_of bytes).end (stream_of bytes).rest
+leaves_stream bytes = leaves_frames (suc (length bytes)) bytes (omega arith)

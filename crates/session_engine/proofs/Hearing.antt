@@ -1,0 +1,42 @@
+-- What a piece of the stream says, and what becomes of it.
+use Rattle.std.proofs.Common.{◌≡◌, ℕ, List, [], ◌∷◌, Option, Result, Ok, Err, refl, sym, ap, subst}
+use Rattle.std.specs.Io.KnownBytes.{Keeps}
+use Rattle.obj_id.specs.declared.refusals.Refusal.TheVariants.{Malformed}
+use Rattle.private_store.specs.declared.frames.Item.{Item}
+use Rattle.private_store.specs.Frames.{End, clean, mid_frame, malformed}
+use Rattle.wire_frames.specs.Reading.{Reading, continued, answer_at, fed, told}
+use Rattle.session_engine.specs.declared.session.Seat.{Seat}
+use Rattle.session_engine.specs.declared.ending.SessionFault.{SessionFault}
+use Rattle.session_engine.specs.declared.ending.SessionFault.TheVariants.{Read, Write, Memory}
+use Rattle.session_engine.specs.declared.serving.Heard.TheVariants.{Items, NoFrame}
+use Rattle.session_engine.specs.Calls.{Asked, Answered}
+use Rattle.session_engine.specs.Serving.{Sends, Flushes, AnswersAll, StopsAnswering, HearsPiece, not_a_frame}
+use Rattle.session_engine.proofs.Answering.{answered_kept, stopped_before, stopped_after}
+
+answer_at-ok : (end : End) (xs ys : List Item) → answer_at end xs ≡ Ok ys → xs ≡ ys
+answer_at-ok clean xs ys h = cc
+answer_at-ok mid_frame xs ys h = cc
+answer_at-ok malformed [] ys h = cc
+answer_at-ok malformed (x ∷ xs) ys h = cc
+
+-- the items that are told are those that the stream goes on with
+pub told_items : (reading : Reading) (piece : List ℕ) (items : List Item) (new : Reading) → fed reading piece ≡ told (Ok items) new → (continued reading piece).items ≡ items
+told_items reading piece items new h = answer_at-ok (continued reading piece).end (continued reading piece).items items (ap (λ f. f.answer) h)
+
+module _ {G : Type 0} (gives : G → Asked → Answered → G → Type 0) (reading : Reading) (piece : List ℕ) (g : G) (s : Option Seat) (w : Option (List ℕ)) (new : Reading) (g1 : G) (s1 : Option Seat) (w1 : Option (List ℕ)) where
+  module _ (items : List Item) (is_fed : fed reading piece ≡ told (Ok items) new) where
+    pub hears_items : (w2 : Option (List ℕ)) → AnswersAll gives items g s w g1 s1 w1 → Keeps w1 w2 → HearsPiece gives reading piece g s w new g1 s1 w2 (Ok Items)
+    hears_items w2 h k = record { items = items; is_fed = is_fed; answered = answered_kept gives items g g1 s s1 w w1 w2 h k }
+
+    pub stops_in_items : (fault : SessionFault) → StopsAnswering gives fault items g s w g1 s1 w1 → HearsPiece gives reading piece g s w new g1 s1 w1 (Err fault)
+    stops_in_items fault h = subst (λ l. StopsAnswering gives fault l g s w g1 s1 w1) (sym (told_items reading piece items new is_fed)) h
+
+    pub stops_behind_items : (w2 : Option (List ℕ)) (fault : SessionFault) → AnswersAll gives items g s w g1 s1 w1 → Flushes w1 w2 (Err fault) → HearsPiece gives reading piece g s w new g1 s1 w2 (Err fault)
+    stops_behind_items w2 fault h k = subst (λ l. StopsAnswering gives fault l g s w g1 s1 w2) (sym (told_items reading piece items new is_fed)) (stopped_after gives fault items g g1 s s1 w w1 w2 h k)
+
+-- the refusal of the stream may be kept back
+pub stops_behind_refusal : {G : Type 0} (gives : G → Asked → Answered → G → Type 0) (items : List Item) (g : G) (s : Option Seat) (w w1 w2 : Option (List ℕ)) (fault : SessionFault)
+    → Flushes w1 w2 (Err fault) → StopsAnswering gives fault items g s w g s w2
+stops_behind_refusal gives items g s w w1 w2 Read h = h
+stops_behind_refusal gives items g s w w1 w2 Write h = stopped_before gives Write items not_a_frame g s w w2 tt
+stops_behind_refusal gives items g s w w1 w2 Memory h = absurd h
