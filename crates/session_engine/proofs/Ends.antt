@@ -9,33 +9,36 @@ Leaves clean rest = rest ≡ []
 Leaves mid_frame rest = rest ≢ []
 Leaves malformed rest = ⊤
 
--- one step of the grammar, for any answer of its tests
-leaves_step : (b : ℕ) (bs : List ℕ) (short ranged partial : Bool) (read : Option Item) (others : Stream) → Leaves others.end others.rest →
-    let stream = elim short [
-      | true ↦ stopped (b ∷ bs) mid_frame
-      | false ↦ elim ranged [
-        | false ↦ stopped (b ∷ bs) malformed
-        | true ↦ elim partial [
-          | true ↦ stopped (b ∷ bs) mid_frame
-          | false ↦ elim read [
-            | None ↦ stopped (b ∷ bs) malformed
-            | Some x ↦ after_item x others
-          ]
-        ]
+-- one step of the grammar, by the answers of its tests
+abbrev tested : List ℕ → Bool → Bool → Bool → Option Item → Stream → Stream
+tested bytes short ranged partial read others = elim short [
+  | true ↦ stopped bytes mid_frame
+  | false ↦ elim ranged [
+    | false ↦ stopped bytes malformed
+    | true ↦ elim partial [
+      | true ↦ stopped bytes mid_frame
+      | false ↦ elim read [
+        | None ↦ stopped bytes malformed
+        | Some x ↦ after_item x others
       ]
-    ] in Leaves stream.end stream.rest
-leaves_step b bs true ranged partial read others h = λ e. cc
-leaves_step b bs false false partial read others h = tt
-leaves_step b bs false true true read others h = λ e. cc
-leaves_step b bs false true false None others h = tt
-leaves_step b bs false true false (Some x) others h = h
+    ]
+  ]
+]
+
+leaves_tested : (b : ℕ) (bs : List ℕ) (short ranged partial : Bool) (read : Option Item) (others : Stream) → Leaves others.end others.rest
+    → Leaves (tested (b ∷ bs) short ranged partial read others).end (tested (b ∷ bs) short ranged partial read others).rest
+leaves_tested b bs true ranged partial read others h = λ e. cc
+leaves_tested b bs false false partial read others h = tt
+leaves_tested b bs false true true read others h = λ e. cc
+leaves_tested b bs false true false None others h = tt
+leaves_tested b bs false true false (Some x) others h = h
 
 leaves_frames : (n : ℕ) (bytes : List ℕ) → length bytes < n → Leaves (frames_of n bytes).end (frames_of n bytes).rest
 leaves_frames zero bytes h = absurd (omega arith)
 leaves_frames (suc n) [] h = refl
 leaves_frames (suc n) (b ∷ bs) h =
     let size = number_at (b ∷ bs) 0 in
-    leaves_step b bs (nat_lt (length (b ∷ bs)) 4) (is_command_length size) (nat_lt (length (b ∷ bs)) (4 + size))
+    leaves_tested b bs (nat_lt (length (b ∷ bs)) 4) (is_command_length size) (nat_lt (length (b ∷ bs)) (4 + size))
     (item_of (slice_index (b ∷ bs) 4) (take (size - 1) (drop 5 (b ∷ bs)))) (frames_of n (drop (4 + size) (b ∷ bs)))
     (leaves_frames n (drop (4 + size) (b ∷ bs)) (omega (arith, length-drop (4 + size) (b ∷ bs))))
 

@@ -1,5 +1,5 @@
 -- A session so far, and how it ends.
-use Rattle.std.proofs.Common.{◌≡◌, ◌≢◌, ℕ, true, false, not, List, [], ◌∷◌, ◌++◌, Option, None, Some, IfSome, Result, Ok, Err, refl, sym, ap, subst, ◌∙◌, append-nil}
+use Rattle.std.proofs.Common.{◌≡◌, ◌≢◌, ℕ, Bool, true, false, not, List, [], ◌∷◌, ◌++◌, Option, None, Some, IfSome, Result, Ok, Err, refl, sym, ap, subst, ◌∙◌, append-nil}
 use Rattle.std.specs.Prelude.{⊤, if◌then◌else◌}
 use Rattle.std.specs.Io.KnownBytes.{Keeps, Consumes, IsAtEnd, Appends}
 use Rattle.std.proofs.lemmas.List.{append_cancel_left}
@@ -7,16 +7,21 @@ use Rattle.obj_id.specs.declared.refusals.Refusal.{Refusal}
 use Rattle.obj_id.specs.declared.refusals.Refusal.TheVariants.{Malformed as NotAFrame}
 use Rattle.private_store.specs.declared.frames.Item.{Item}
 use Rattle.private_store.specs.Frames.{End, clean, mid_frame, malformed, Stream, stream_of}
-use Rattle.wire_frames.specs.Reading.{Reading, continued, answer_at, fed, told, is_empty, is_in_mid_frame, reading_at, reading_after}
+use Rattle.wire_frames.specs.Reading.{Reading, unfinished, failed, continued, answer_at, fed, told, is_empty, is_in_mid_frame, reading_at, reading_after}
+use Rattle.wire_frames.proofs.Pieces.{onward_at, stream_of-append}
 use Rattle.session_engine.specs.declared.session.Seat.{Seat}
 use Rattle.session_engine.specs.declared.ending.Ended.{Ended}
 use Rattle.session_engine.specs.declared.ending.Ended.TheVariants.{Clean, MidFrame, Malformed}
 use Rattle.session_engine.specs.declared.ending.SessionFault.{SessionFault}
 use Rattle.session_engine.specs.declared.ending.SessionFault.TheVariants.{Read, Write, Memory}
+use Rattle.session_engine.specs.declared.serving.Heard.{Heard}
+use Rattle.session_engine.specs.declared.serving.Heard.TheVariants.{Items, NoFrame}
 use Rattle.session_engine.specs.Calls.{Asked, Answered}
-use Rattle.session_engine.specs.Serving.{AnswersAll, StopsWithin, StopsAnswering, Hears, HearsNoFrame, EndsIn, AnswersInput, not_a_frame}
+use Rattle.session_engine.specs.Serving.{AnswersAll, StopsWithin, StopsAnswering, Concludes, Hears, HearsNoFrame, HearsPiece, EndsIn, AnswersInput, not_a_frame}
+use Rattle.session_engine.specs.Sessions.{Run}
+use Rattle.obj_id.specs.declared.commands.Reply.{Reply}
 use Rattle.session_engine.proofs.KnownBytes.{Appends-none, Consumes-none, Consumes-then, Consumes-kept, Consumes-all}
-use Rattle.session_engine.proofs.Answering.{Appends-replies, Appends-reply, answered_none, answered_then, stopped_then}
+use Rattle.session_engine.proofs.Answering.{Appends-replies, Appends-reply, answered_none, answered_then, stopped_then, no_memory_before}
 use Rattle.session_engine.proofs.Ends.{Leaves, leaves_stream}
 use Rattle.session_engine.proofs.Hearing.{told_items}
 
@@ -26,8 +31,30 @@ pub record GoesOn (bytes piece : List ℕ) : Type 0 where
   pub end : (stream_of (bytes ++ piece)).end ≡ (continued (reading_after (stream_of bytes)) piece).end
   pub reading : reading_after (stream_of (bytes ++ piece)) ≡ reading_after (continued (reading_after (stream_of bytes)) piece)
 
+onward_items : (end : End) (items : List Item) (rest piece : List ℕ) → (onward_at end items rest piece).items ≡ items ++ (continued (reading_at end rest) piece).items
+onward_items clean items rest piece = refl
+onward_items mid_frame items rest piece = refl
+onward_items malformed items rest piece = sym (append-nil items)
+
+onward_end : (end : End) (items : List Item) (rest piece : List ℕ) → (onward_at end items rest piece).end ≡ (continued (reading_at end rest) piece).end
+onward_end clean items rest piece = refl
+onward_end mid_frame items rest piece = refl
+onward_end malformed items rest piece = refl
+
+onward_reading : (end : End) (items : List Item) (rest piece : List ℕ) → reading_after (onward_at end items rest piece) ≡ reading_after (continued (reading_at end rest) piece)
+onward_reading clean items rest piece = refl
+onward_reading mid_frame items rest piece = refl
+onward_reading malformed items rest piece = refl
+
 goes_on : (bytes piece : List ℕ) → GoesOn bytes piece
-goes_on bytes piece = ?
+goes_on bytes piece =
+    let s = stream_of bytes in
+    let on = stream_of-append bytes piece in
+    record {
+      items = ap (λ t. t.items) on ∙ onward_items s.end s.items s.rest piece;
+      end = ap (λ t. t.end) on ∙ onward_end s.end s.items s.rest piece;
+      reading = ap reading_after on ∙ onward_reading s.end s.items s.rest piece;
+    }
 
 -- ---- a piece with nothing in it
 
@@ -38,8 +65,146 @@ end_told mid_frame xs ys n h = λ e. cc
 end_told malformed [] ys n h = cc
 end_told malformed (x ∷ xs) ys n h = cc
 
--- the bytes are all, and the reader kept what makes the end
-IsEnd : Ended → End → List ℕ → Type 0
-IsEnd Clean end rest = end ≡ clean
-IsEnd MidFrame end rest = (end ≡ mid_frame) × (rest ≢ [])
-IsEnd Malformed end rest = end ≡ malformed
+no_items : (bytes : List ℕ) → (continued (reading_after (stream_of bytes)) []).items ≡ []
+no_items bytes =
+    append_cancel_left (stream_of bytes).items (continued (reading_after (stream_of bytes)) []).items []
+    (sym (goes_on bytes []).items ∙ ap (λ l. (stream_of l).items) (append-nil bytes) ∙ sym (append-nil (stream_of bytes).items))
+
+no_fault : (bytes : List ℕ) (items : List Item) (new : Reading) → fed (reading_after (stream_of bytes)) [] ≡ told (Ok items) new → (stream_of (bytes ++ [])).end ≢ malformed
+no_fault bytes items new is_fed =
+    subst (λ e. e ≢ malformed) (sym (goes_on bytes []).end)
+    (end_told (continued (reading_after (stream_of bytes)) []).end (continued (reading_after (stream_of bytes)) []).items items (no_items bytes) (ap (λ f. f.answer) is_fed))
+
+-- a fault that is told has no items before it
+fault_items : (end : End) (xs : List Item) → answer_at end xs ≡ Err NotAFrame → xs ≡ []
+fault_items clean xs h = absurd (let f : ⊥ = cc in f)
+fault_items mid_frame xs h = absurd (let f : ⊥ = cc in f)
+fault_items malformed [] h = refl
+fault_items malformed (x ∷ xs) h = absurd (let f : ⊥ = cc in f)
+
+fault_end : (end : End) (xs : List Item) → answer_at end xs ≡ Err NotAFrame → end ≡ malformed
+fault_end clean xs h = absurd (let f : ⊥ = cc in f)
+fault_end mid_frame xs h = absurd (let f : ⊥ = cc in f)
+fault_end malformed xs h = refl
+
+-- the end by what the reader keeps
+ended_in : (end : End) (rest : List ℕ) (input : Option (List ℕ)) (bytes : List ℕ) → (stream_of bytes).end ≡ end → (stream_of bytes).rest ≡ rest → end ≢ malformed → Leaves end rest → IfSome input (λ all. all ≡ bytes)
+    → EndsIn (if is_in_mid_frame (reading_at end rest) then MidFrame else Clean) bytes input
+ended_in clean [] input bytes e r no_fault leaves all = (e, all)
+ended_in clean (x ∷ xs) input bytes e r no_fault leaves all = absurd (let f : ⊥ = cc in f)
+ended_in mid_frame [] input bytes e r no_fault leaves all = absurd (leaves refl)
+ended_in mid_frame (x ∷ xs) input bytes e r no_fault leaves all = (e, subst (λ l. l ≢ []) (sym r) leaves, all)
+ended_in malformed rest input bytes e r no_fault leaves all = absurd (no_fault refl)
+
+-- all is answered, and nothing is added where the stream has no fault
+concluded : {G : Type 0} (gives : G → Asked → Answered → G → Type 0) (xs : List Item) (g g1 : G) (s s1 : Option Seat) (w w1 : Option (List ℕ)) (in_mid_frame : Bool)
+    → AnswersAll gives xs g s w g1 s1 w1 → Concludes gives (if in_mid_frame then MidFrame else Clean) xs g s w g1 s1 w1
+concluded gives xs g g1 s s1 w w1 true h = record { replies = h.replies; run = h.run; written = h.written }
+concluded gives xs g g1 s s1 w w1 false h = record { replies = h.replies; run = h.run; written = h.written }
+
+same_run : {G : Type 0} (gives : G → Asked → Answered → G → Type 0) (xs ys : List Item) (p : List (Reply (List ℕ))) (g g1 g2 : G) (s s1 s2 : Option Seat)
+    → Run gives xs p g1 s1 g s → ys ≡ xs → g2 ≡ g1 → s2 ≡ s1 → Run gives ys p g2 s2 g s
+same_run gives xs ys p g g1 g2 s s1 s2 h items gate seat =
+    subst (λ l. Run gives l p g2 s2 g s) (sym items) (subst (λ at. Run gives xs p g2 at g s) (sym seat) (subst (λ at. Run gives xs p at s1 g s) (sym gate) h))
+
+-- ---- a session so far
+
+module _ {G : Type 0} (gives : G → Asked → Answered → G → Type 0) (a w : Option (List ℕ)) (g : G) where
+  pub record Progress (frames : Reading) (a1 w1 : Option (List ℕ)) (g1 : G) (s1 : Option Seat) : Type 0 where
+    pub bytes : List ℕ
+    pub consumed : Consumes a a1 bytes
+    pub reading : reading_after (stream_of bytes) ≡ frames
+    pub answered : AnswersAll gives (stream_of bytes).items g None w g1 s1 w1
+
+  pub begun : (s : Option Seat) → s ≡ None → Progress (unfinished []) a w g s
+  begun s none = subst (λ at. Progress (unfinished []) a w g at) (sym none) (record { bytes = []; consumed = Consumes-none a; reading = refl; answered = answered_none gives g None w })
+
+  pub no_buffer : (s : Option Seat) → s ≡ None → AnswersInput gives g g s a a w w (Err Memory)
+  no_buffer s none =
+      subst (λ at. AnswersInput gives g g at a a w w (Err Memory)) (sym none)
+      (record { bytes = []; consumed = Consumes-none a; outcome = no_memory_before gives [] g None w })
+
+  module _ (frames : Reading) (a1 w1 : Option (List ℕ)) (g1 : G) (s1 : Option Seat) (so_far : Progress frames a1 w1 g1 s1) where
+    pub reading_failed : (a2 : Option (List ℕ)) → Keeps a1 a2 → AnswersInput gives g g1 s1 a a2 w w1 (Err Read)
+    reading_failed a2 kept = record { bytes = so_far.bytes; consumed = Consumes-kept a a1 a2 so_far.bytes so_far.consumed kept; outcome = so_far.answered }
+
+    module _ (a2 w2 : Option (List ℕ)) (g2 : G) (s2 : Option Seat) (frames2 : Reading) (piece : List ℕ) (read : Consumes a1 a2 piece) where
+      consumed_on : Consumes a a2 (so_far.bytes ++ piece)
+      consumed_on = Consumes-then a a1 a2 so_far.bytes piece so_far.consumed read
+
+      items_on : (items : List Item) → (continued frames piece).items ≡ items → (stream_of (so_far.bytes ++ piece)).items ≡ (stream_of so_far.bytes).items ++ items
+      items_on items h = (goes_on so_far.bytes piece).items ∙ ap (λ l. (stream_of so_far.bytes).items ++ l) (ap (λ r. (continued r piece).items) so_far.reading ∙ h)
+
+      heard_items : Hears gives frames piece g1 s1 w1 frames2 g2 s2 w2 → Progress frames2 a2 w2 g2 s2
+      heard_items hears =
+          record {
+            bytes = so_far.bytes ++ piece;
+            consumed = consumed_on;
+            reading = (goes_on so_far.bytes piece).reading ∙ ap (λ r. reading_after (continued r piece)) so_far.reading ∙ ap (λ f. f.reader) hears.is_fed;
+            answered =
+                subst (λ l. AnswersAll gives l g None w g2 s2 w2) (sym (items_on hears.items (told_items frames piece hears.items frames2 hears.is_fed)))
+                (answered_then gives (stream_of so_far.bytes).items hears.items g g1 g2 None s1 s2 w w1 w2 so_far.answered hears.answered);
+          }
+
+      pub heard : (what : Heard) → what ≡ Items → HearsPiece gives frames piece g1 s1 w1 frames2 g2 s2 w2 (Ok what) → Progress frames2 a2 w2 g2 s2
+      heard Items is hears = heard_items hears
+      heard NoFrame is hears = absurd (let f : ⊥ = cc in f)
+
+      stopped : (fault : SessionFault) → StopsAnswering gives fault (continued frames piece).items g1 s1 w1 g2 s2 w2 → StopsAnswering gives fault (stream_of (so_far.bytes ++ piece)).items g None w g2 s2 w2
+      stopped fault stops =
+          subst (λ l. StopsAnswering gives fault l g None w g2 s2 w2) (sym (items_on (continued frames piece).items refl))
+          (stopped_then gives fault (stream_of so_far.bytes).items (continued frames piece).items g g1 g2 None s1 s2 w w1 w2 so_far.answered stops)
+
+      pub hearing_stopped : (fault : SessionFault) → StopsAnswering gives fault (continued frames piece).items g1 s1 w1 g2 s2 w2 → AnswersInput gives g g2 s2 a a2 w w2 (Err fault)
+      hearing_stopped Read stops = absurd stops
+      hearing_stopped Write stops = record { bytes = so_far.bytes ++ piece; consumed = consumed_on; outcome = stopped Write stops }
+      hearing_stopped Memory stops = record { bytes = so_far.bytes ++ piece; consumed = consumed_on; outcome = stopped Memory stops }
+
+      no_frame_told : HearsNoFrame gives frames piece g1 s1 w1 frames2 g2 s2 w2 → AnswersInput gives g g2 s2 a a2 w w2 (Ok Malformed)
+      no_frame_told hears =
+          let now = continued frames piece in
+          let none : now.items ≡ [] = fault_items now.end now.items (ap (λ f. f.answer) hears.is_fed) in
+          record {
+            bytes = so_far.bytes ++ piece;
+            consumed = consumed_on;
+            outcome = (
+              (goes_on so_far.bytes piece).end ∙ ap (λ r. (continued r piece).end) so_far.reading ∙ fault_end now.end now.items (ap (λ f. f.answer) hears.is_fed),
+              record {
+                replies = so_far.answered.replies;
+                run = same_run gives (stream_of so_far.bytes).items (stream_of (so_far.bytes ++ piece)).items so_far.answered.replies g g1 g2 None s1 s2 so_far.answered.run (items_on [] none ∙ append-nil (stream_of so_far.bytes).items) hears.gate hears.seat;
+                written = Appends-replies w w1 w2 so_far.answered.replies (not_a_frame ∷ []) so_far.answered.written (Appends-reply w1 w2 not_a_frame hears.written);
+              }
+            );
+          }
+
+      pub no_frame_heard : (what : Heard) → what ≡ NoFrame → HearsPiece gives frames piece g1 s1 w1 frames2 g2 s2 w2 (Ok what) → AnswersInput gives g g2 s2 a a2 w w2 (Ok Malformed)
+      no_frame_heard Items is hears = absurd (let f : ⊥ = cc in f)
+      no_frame_heard NoFrame is hears = no_frame_told hears
+
+    module _ (w2 : Option (List ℕ)) (g2 : G) (s2 : Option Seat) (frames2 : Reading) (hears : Hears gives frames [] g1 s1 w1 frames2 g2 s2 w2) (end : IsAtEnd a1) where
+      last : Progress frames2 a1 w2 g2 s2
+      last = heard_items a1 w2 g2 s2 frames2 [] (Consumes-none a1) hears
+
+      told_at_last : fed (reading_after (stream_of so_far.bytes)) [] ≡ told (Ok hears.items) frames2
+      told_at_last = ap (λ r. fed r []) so_far.reading ∙ hears.is_fed
+
+      last_ended : (ended : Ended) → ended ≡ (if is_in_mid_frame frames2 then MidFrame else Clean) → AnswersInput gives g g2 s2 a a1 w w2 (Ok ended)
+      unfolding last heard_items
+      last_ended ended is =
+          let all = so_far.bytes ++ [] in
+          let stream = stream_of all in
+          subst (λ e. AnswersInput gives g g2 s2 a a1 w w2 (Ok e)) (sym (is ∙ ap (λ r. if is_in_mid_frame r then MidFrame else Clean) (sym last.reading)))
+          (record {
+            bytes = all;
+            consumed = last.consumed;
+            outcome = (
+              ended_in stream.end stream.rest a all refl refl (no_fault so_far.bytes hears.items frames2 told_at_last) (leaves_stream all) (Consumes-all a a1 all last.consumed end),
+              concluded gives stream.items g g2 None s2 w w2 (is_in_mid_frame (reading_at stream.end stream.rest)) last.answered
+            );
+          })
+
+    -- nothing is left to read, and nothing waits to be told
+    pub input_ended : (w2 : Option (List ℕ)) (g2 : G) (s2 : Option Seat) (frames2 : Reading) (what : Heard) → what ≡ Items → HearsPiece gives frames [] g1 s1 w1 frames2 g2 s2 w2 (Ok what) → IsAtEnd a1
+        → (ended : Ended) → ended ≡ (if is_in_mid_frame frames2 then MidFrame else Clean) → AnswersInput gives g g2 s2 a a1 w w2 (Ok ended)
+    input_ended w2 g2 s2 frames2 Items is hears end ended ends = last_ended w2 g2 s2 frames2 hears end ended ends
+    input_ended w2 g2 s2 frames2 NoFrame is hears end ended ends = absurd (let f : ⊥ = cc in f)

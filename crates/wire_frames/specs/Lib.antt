@@ -1,2 +1,6 @@
+pub mod Heads
+pub mod Items
+pub mod Kinds
+pub mod Laws
 pub mod Reading
 pub mod Writing

@@ -3,8 +3,14 @@
 //! their highest byte first.
 #![tactic(auto)]
 
+mod bodies;
 mod encode;
+mod frames;
+mod kinds;
+pub mod laws;
 mod reader;
+mod replies;
 
-pub use encode::{encode_command, encode_reply};
+pub use encode::encode_command;
 pub use reader::Reader;
+pub use replies::encode_reply;

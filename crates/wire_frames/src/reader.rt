@@ -1,8 +1,10 @@
 //! A reader of a stream that comes in pieces.
 ghost use Rattle.std.specs.Prelude.{◌≡◌, ◌⊎◌, [], Ok, Err, IfOk, IfErr};
 ghost use Rattle.obj_id.specs.declared.refusals.Refusal.TheVariants.{Malformed, NoMemory};
-ghost use Rattle.wire_frames.specs.Reading.{unfinished, fed, told, is_in_mid_frame};
+ghost use Rattle.wire_frames.specs.Reading.{failed, unfinished, fed, told, is_in_mid_frame};
 
+use crate::frames::read_frames;
+use bytes::BytesMut;
 use obj_id::Refusal;
 use private_store::Item;
 use std::alloc::Global;
@@ -12,7 +14,7 @@ use std::marker::Model;
 #[derive(Drop)]
 pub struct Reader {
     // the bytes of a frame that isn't whole yet
-    rest: Vec<u8>,
+    rest: BytesMut,
     // a fault was met
     failed: bool,
 }
@@ -31,7 +33,7 @@ impl Reader {
         ensures { result ≡ unfinished [] }
     {
         Reader {
-            rest: Vec::new(alloc),
+            rest: BytesMut::new(alloc),
             failed: false,
         }
     }
@@ -45,10 +47,29 @@ impl Reader {
     pub fn feed(&mut self, alloc: Global, piece: &[u8]) -> Result<Vec<Item>, Refusal>
         ensures items { IfOk result (λ items. fed self.old piece.now ≡ told (Ok items.items) self.new) }
         ensures fault { result ≡ Err Malformed → fed self.old piece.now ≡ told (Err Malformed) self.new }
+        ensures for_good { self.old ≡ failed → result ≡ Err Malformed }
         ensures memory { result ≡ Err NoMemory → self.new ≡ self.old }
         ensures refusals { IfErr result (λ refusal. (refusal ≡ Malformed) ⊎ (refusal ≡ NoMemory)) }
     {
-        Err(Refusal::NoMemory)
+        if self.failed {
+            return Err(Refusal::Malformed);
+        }
+        let kept = self.rest.len();
+        self.rest.extend_from_slice(piece)?;
+        let Ok(frames) = read_frames(alloc, self.rest.as_slice()) else {
+            self.rest.truncate(kept);
+            return Err(Refusal::NoMemory);
+        };
+        if !frames.faulty {
+            self.rest.advance(frames.used);
+            return Ok(frames.items);
+        }
+        self.failed = true;
+        self.rest.clear();
+        if frames.items.is_empty() {
+            return Err(Refusal::Malformed);
+        }
+        Ok(frames.items)
     }
 
     /// Whether some bytes of a frame have come, and not all. True of a reader that has met a fault.

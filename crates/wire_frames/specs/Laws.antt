@@ -1,0 +1,25 @@
+-- Streams in pieces.
+use Rattle.std.specs.Prelude.{ℕ, List, [], ◌∷◌, ◌++◌, Result, Ok, Err}
+use Rattle.obj_id.specs.declared.refusals.Refusal.{Refusal}
+use Rattle.private_store.specs.declared.frames.Item.{Item}
+use Rattle.private_store.specs.Frames.{Stream}
+use Rattle.wire_frames.specs.Reading.{Reading, fed, reading_after}
+
+-- pieces fed one after the other: all items that were answered, and what the reader keeps
+pub record Feeding : Type 0 where
+  pub items : List Item
+  pub reader : Reading
+
+abbrev pub items_in : Result (List Item) Refusal → List Item
+items_in (Ok items) = items
+items_in (Err _) = []
+
+abbrev pub feeding : Reading → List (List ℕ) → Feeding
+feeding reader [] = record { items = []; reader = reader }
+feeding reader (piece ∷ pieces) =
+    let others = feeding (fed reader piece).reader pieces in
+    record { items = items_in (fed reader piece).answer ++ others.items; reader = others.reader }
+
+-- what a stream gives, and what a reader keeps behind it
+abbrev pub given_by : Stream → Feeding
+given_by stream = record { items = stream.items; reader = reading_after stream }

@@ -1,0 +1,165 @@
+//! What the bodies of frames say.
+ghost use Rattle.std.specs.Prelude.{◌≡◌, ◌+◌, ◌≤◌, Some, None, IsTrue, if◌then◌else◌, IfOk, length, slice_index};
+ghost use Rattle.private_store.specs.Frames.{bare as bare_lem, hello as hello_lem, id_at as id_at_lem, is_id, kind_of, number_at as number_at_lem, task_at as task_at_lem};
+ghost use Rattle.wire_frames.specs.Kinds.{end_task as end_task_lem, fits as fits_lem, read_about, read_of, said};
+
+use crate::kinds::{FrameKind, ObjectKind};
+use bytes::Bytes;
+use obj_id::{Command, JobKey, JobNo, Kind, ObjectId, TaskNo};
+use private_store::{Awaited, Item};
+use std::alloc::{AllocError, Global};
+
+/// What a frame of this kind and body says; `None` where the body has another form. The bytes of a write are
+/// copied once.
+pub(crate) fn item(alloc: Global, kind: FrameKind, body: &[u8]) -> Result<Option<Item>, AllocError>
+    ensures { IfOk result (λ item. item ≡ read_of kind body.now) }
+{
+    match kind {
+        FrameKind::Hello => Ok(hello(body)),
+        FrameKind::EndTask => Ok(end_task(body)),
+        FrameKind::List => Ok(bare(Command::List, body)),
+        FrameKind::Usage => Ok(bare(Command::Usage, body)),
+        FrameKind::Leave => Ok(bare(Command::Leave, body)),
+        FrameKind::About(kind) => about(alloc, kind, body),
+    }
+}
+
+/// A job and its key.
+fn hello(body: &[u8]) -> Option<Item>
+    ensures { result ≡ hello_lem body.now }
+{
+    if body.len() != 36 {
+        return None;
+    }
+    let mut key = [0; 32];
+    key.copy_from_slice(&body[4..]);
+    Some(Item::Hello(JobNo(number_at(body, 0)), JobKey(key)))
+}
+
+/// A task.
+fn end_task(body: &[u8]) -> Option<Item>
+    ensures { result ≡ end_task_lem body.now }
+{
+    if body.len() != 20 {
+        return None;
+    }
+    Some(Item::Command(Command::EndTask(task_at(body, 0))))
+}
+
+/// Nothing but the kind.
+fn bare(command: Command<Bytes>, body: &[u8]) -> Option<Item>
+    ensures { result ≡ bare_lem command body.now }
+{
+    if body.is_empty() {
+        Some(Item::Command(command))
+    } else {
+        None
+    }
+}
+
+/// An object's id, and what its kind has behind it.
+fn about(alloc: Global, kind: ObjectKind, body: &[u8]) -> Result<Option<Item>, AllocError>
+    ensures { IfOk result (λ item. item ≡ read_about kind body.now) }
+{
+    if !fits(kind, body) {
+        return Ok(None);
+    }
+    match id_at(body) {
+        None => Ok(Some(Item::BadId)),
+        Some(id) => Ok(Some(about_object(alloc, kind, id, body)?)),
+    }
+}
+
+/// Whether a body has the form of its kind: the right length, and a copy kind that there is.
+fn fits(kind: ObjectKind, body: &[u8]) -> bool
+    ensures { result ≡ fits_lem kind body.now }
+{
+    match kind {
+        ObjectKind::Create | ObjectKind::CreateWait => body.len() == 33 && body[28] <= 1,
+        ObjectKind::Write => body.len() >= 32,
+        ObjectKind::Seal
+        | ObjectKind::Get
+        | ObjectKind::Release
+        | ObjectKind::Delete
+        | ObjectKind::GetWait => body.len() == 28,
+        ObjectKind::Grant | ObjectKind::Withdraw => body.len() == 32,
+        ObjectKind::Read | ObjectKind::Peek => body.len() == 36,
+        ObjectKind::Unpin | ObjectKind::Borrow | ObjectKind::GiveUp => body.len() == 48,
+    }
+}
+
+/// What a body that has the form of its kind says of its object.
+fn about_object(
+    alloc: Global,
+    kind: ObjectKind,
+    id: ObjectId,
+    body: &[u8],
+) -> Result<Item, AllocError>
+    requires { IsTrue (fits_lem kind body.now) }
+    ensures { IfOk result (λ item. item ≡ said kind id body.now) }
+{
+    match kind {
+        ObjectKind::Create => Ok(Item::Command(Command::Create(id, kind_at(body), number_at(body, 29)))),
+        ObjectKind::Write => {
+            let bytes = Bytes::copy_from_slice(alloc, &body[32..])?;
+            Ok(Item::Command(Command::Write(id, number_at(body, 28), bytes)))
+        }
+        ObjectKind::Seal => Ok(Item::Command(Command::Seal(id))),
+        ObjectKind::Get => Ok(Item::Command(Command::Get(id))),
+        ObjectKind::Read => Ok(Item::Command(Command::Read(id, number_at(body, 28), number_at(body, 32)))),
+        ObjectKind::Release => Ok(Item::Command(Command::Release(id))),
+        ObjectKind::Unpin => Ok(Item::Command(Command::Unpin(id, task_at(body, 28)))),
+        ObjectKind::Borrow => Ok(Item::Command(Command::Borrow(id, task_at(body, 28)))),
+        ObjectKind::GiveUp => Ok(Item::Command(Command::GiveUp(id, task_at(body, 28)))),
+        ObjectKind::Delete => Ok(Item::Command(Command::Delete(id))),
+        ObjectKind::Grant => Ok(Item::Command(Command::Grant(id, JobNo(number_at(body, 28))))),
+        ObjectKind::Withdraw => Ok(Item::Command(Command::Withdraw(id, JobNo(number_at(body, 28))))),
+        ObjectKind::Peek => Ok(Item::Command(Command::Peek(id, number_at(body, 28), number_at(body, 32)))),
+        ObjectKind::GetWait => Ok(Item::Wait(Awaited::Get(id))),
+        ObjectKind::CreateWait => {
+            let kind = kind_at(body);
+            Ok(Item::Wait(Awaited::Create(id, kind, number_at(body, 29))))
+        }
+    }
+}
+
+/// The object's id at the head of a body.
+fn id_at(body: &[u8]) -> Option<ObjectId>
+    requires { 28 ≤ length body.now }
+    ensures { result ≡ (if is_id (id_at_lem body.now) then Some (id_at_lem body.now) else None) }
+{
+    let job = JobNo(number_at(body, 20));
+    ObjectId::new(task_at(body, 0), job, number_at(body, 24)).ok()
+}
+
+/// The 20 bytes of a task.
+fn task_at(body: &[u8], at: usize) -> TaskNo
+    requires { at + 20 ≤ length body.now }
+    ensures { result ≡ task_at_lem body.now at }
+{
+    let mut task = [0; 20];
+    task.copy_from_slice(&body[at..at + 20]);
+    TaskNo(task)
+}
+
+/// A number of four bytes.
+pub(crate) fn number_at(body: &[u8], at: usize) -> u32
+    requires { at + 4 ≤ length body.now }
+    ensures { result ≡ number_at_lem body.now at }
+{
+    let mut number = [0; 4];
+    number.copy_from_slice(&body[at..at + 4]);
+    u32::from_be_bytes(number)
+}
+
+/// The copy kind of a body that creates.
+fn kind_at(body: &[u8]) -> Kind
+    requires { 29 ≤ length body.now }
+    ensures { result ≡ kind_of (slice_index body.now 28) }
+{
+    if body[28] == 0 {
+        Kind::Primary
+    } else {
+        Kind::Secondary
+    }
+}
