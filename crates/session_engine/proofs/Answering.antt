@@ -1,5 +1,5 @@
 -- Runs one after another, and what is written of them.
-use Rattle.std.proofs.Common.{◌≡◌, ℕ, List, [], ◌∷◌, ◌++◌, Option, None, Some, Result, Ok, Err, refl, sym, ap, subst, ◌∙◌, append_assoc, append-nil}
+use Rattle.std.proofs.Common.{◌≡◌, ℕ, List, [], ◌∷◌, ◌++◌, Option, Result, Ok, Err, refl, sym, ap, subst, ◌∙◌, append_assoc, append-nil}
 use Rattle.std.specs.Prelude.{⊤, IsErrAnd}
 use Rattle.std.specs.Io.KnownBytes.{Appends, Keeps}
 use Rattle.std.proofs.lemmas.Grind.{flat_map-append}
@@ -11,7 +11,8 @@ use Rattle.session_engine.specs.declared.ending.SessionFault.{SessionFault}
 use Rattle.session_engine.specs.declared.ending.SessionFault.TheVariants.{Read, Write, Memory}
 use Rattle.session_engine.specs.Calls.{Asked, Answered}
 use Rattle.session_engine.specs.Sessions.{AnswersItem, Run}
-use Rattle.session_engine.specs.Serving.{IsSent, Sends, Flushes, AnswersAll, StopsWithin, StopsAnswering, Answering}
+use Rattle.session_engine.specs.Serving.{IsSent, AnswersAll, StopsWithin}
+use Rattle.session_engine.specs.Hearing.{Sends, Flushes, StopsAnswering, Answering}
 use Rattle.session_engine.proofs.KnownBytes.{Appends-none, Appends-then, Appends-kept}
 
 -- ---- what is sent
@@ -40,14 +41,14 @@ module _ {G : Type 0} (gives : G → Asked → Answered → G → Type 0) where
   -- ---- runs
 
   Run-then : (xs : List Item) (p : List (Reply (List ℕ))) (ys : List Item) (q : List (Reply (List ℕ))) (g g1 g2 : G) (s s1 s2 : Option Seat)
-      → Run gives xs p g1 s1 g s → Run gives ys q g2 s2 g1 s1 → Run gives (xs ++ ys) (p ++ q) g2 s2 g s
-  Run-then [] [] ys q g g1 g2 s s1 s2 h k = subst (λ at. Run gives ys q g2 s2 g at) h.1 (subst (λ gate. Run gives ys q g2 s2 gate s1) h.0 k)
+      → Run gives xs p g s g1 s1 → Run gives ys q g1 s1 g2 s2 → Run gives (xs ++ ys) (p ++ q) g s g2 s2
+  Run-then [] [] ys q g g1 g2 s s1 s2 h k = subst (λ at. Run gives ys q g at g2 s2) h.1 (subst (λ gate. Run gives ys q gate s1 g2 s2) h.0 k)
   Run-then [] (r ∷ p) ys q g g1 g2 s s1 s2 h k = absurd h
   Run-then (x ∷ xs) [] ys q g g1 g2 s s1 s2 h k = absurd h
   Run-then (x ∷ xs) (r ∷ p) ys q g g1 g2 s s1 s2 h k =
       record { gate = h.gate; seat_then = h.seat_then; first = h.first; others = Run-then xs p ys q h.gate g1 g2 h.seat_then s1 s2 h.others k }
 
-  Run-one : (x : Item) (r : Reply (List ℕ)) (g g1 : G) (s s1 : Option Seat) → AnswersItem gives g s x r g1 s1 → Run gives (x ∷ []) (r ∷ []) g1 s1 g s
+  Run-one : (x : Item) (r : Reply (List ℕ)) (g g1 : G) (s s1 : Option Seat) → AnswersItem gives g s x r g1 s1 → Run gives (x ∷ []) (r ∷ []) g s g1 s1
   Run-one x r g g1 s s1 h = record { gate = g1; seat_then = s1; first = h; others = (refl, refl) }
 
   -- ---- answers that are written
@@ -92,7 +93,7 @@ module _ {G : Type 0} (gives : G → Asked → Answered → G → Type 0) where
         parted = ap (λ l. xs ++ l) k.parted ∙ sym (append_assoc xs k.answered k.waiting);
         sent = h.replies ++ k.sent;
         unsent = k.unsent;
-        run = subst (λ l. Run gives (xs ++ k.answered) l g2 s2 g s) (sym (append_assoc h.replies k.sent k.unsent)) (Run-then xs h.replies k.answered (k.sent ++ k.unsent) g g1 g2 s s1 s2 h.run k.run);
+        run = subst (λ l. Run gives (xs ++ k.answered) l g s g2 s2) (sym (append_assoc h.replies k.sent k.unsent)) (Run-then xs h.replies k.answered (k.sent ++ k.unsent) g g1 g2 s s1 s2 h.run k.run);
         written = IsSent-then fault w w1 w2 h.replies k.sent h.written k.written;
       }
 

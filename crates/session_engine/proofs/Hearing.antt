@@ -1,16 +1,16 @@
 -- What a piece of the stream says, and what becomes of it.
-use Rattle.std.proofs.Common.{◌≡◌, ℕ, List, [], ◌∷◌, Option, Result, Ok, Err, refl, sym, ap, subst}
+use Rattle.std.proofs.Common.{◌≡◌, ℕ, List, [], ◌∷◌, Option, Ok, Err, sym, ap, subst}
 use Rattle.std.specs.Io.KnownBytes.{Keeps}
-use Rattle.obj_id.specs.declared.refusals.Refusal.TheVariants.{Malformed}
 use Rattle.private_store.specs.declared.frames.Item.{Item}
 use Rattle.private_store.specs.Frames.{End, clean, mid_frame, malformed}
 use Rattle.wire_frames.specs.Reading.{Reading, continued, answer_at, fed, told}
 use Rattle.session_engine.specs.declared.session.Seat.{Seat}
 use Rattle.session_engine.specs.declared.ending.SessionFault.{SessionFault}
 use Rattle.session_engine.specs.declared.ending.SessionFault.TheVariants.{Read, Write, Memory}
-use Rattle.session_engine.specs.declared.serving.Heard.TheVariants.{Items, NoFrame}
+use Rattle.session_engine.specs.declared.serving.Heard.TheVariants.{Items}
 use Rattle.session_engine.specs.Calls.{Asked, Answered}
-use Rattle.session_engine.specs.Serving.{Sends, Flushes, AnswersAll, StopsAnswering, HearsPiece, not_a_frame}
+use Rattle.session_engine.specs.Serving.{AnswersAll, not_a_frame}
+use Rattle.session_engine.specs.Hearing.{Flushes, StopsAnswering, HearsPiece}
 use Rattle.session_engine.proofs.Answering.{answered_kept, stopped_before, stopped_after}
 
 answer_at-ok : (end : End) (xs ys : List Item) → answer_at end xs ≡ Ok ys → xs ≡ ys

@@ -1,13 +1,12 @@
 -- A session so far, and how it ends.
-use Rattle.std.proofs.Common.{◌≡◌, ◌≢◌, ℕ, Bool, true, false, not, List, [], ◌∷◌, ◌++◌, Option, None, Some, IfSome, Result, Ok, Err, refl, sym, ap, subst, ◌∙◌, append-nil}
-use Rattle.std.specs.Prelude.{⊤, if◌then◌else◌}
-use Rattle.std.specs.Io.KnownBytes.{Keeps, Consumes, IsAtEnd, Appends}
+use Rattle.std.proofs.Common.{◌≡◌, ◌≢◌, ℕ, Bool, true, false, List, [], ◌∷◌, ◌++◌, Option, None, IfSome, Ok, Err, refl, sym, ap, subst, ◌∙◌, append-nil}
+use Rattle.std.specs.Prelude.{if◌then◌else◌}
+use Rattle.std.specs.Io.KnownBytes.{Keeps, Consumes, IsAtEnd}
 use Rattle.std.proofs.lemmas.List.{append_cancel_left}
-use Rattle.obj_id.specs.declared.refusals.Refusal.{Refusal}
 use Rattle.obj_id.specs.declared.refusals.Refusal.TheVariants.{Malformed as NotAFrame}
 use Rattle.private_store.specs.declared.frames.Item.{Item}
-use Rattle.private_store.specs.Frames.{End, clean, mid_frame, malformed, Stream, stream_of}
-use Rattle.wire_frames.specs.Reading.{Reading, unfinished, failed, continued, answer_at, fed, told, is_empty, is_in_mid_frame, reading_at, reading_after}
+use Rattle.private_store.specs.Frames.{End, clean, mid_frame, malformed, stream_of}
+use Rattle.wire_frames.specs.Reading.{Reading, unfinished, continued, answer_at, fed, told, is_in_mid_frame, reading_at, reading_after}
 use Rattle.wire_frames.proofs.Pieces.{onward_at, stream_of-append}
 use Rattle.session_engine.specs.declared.session.Seat.{Seat}
 use Rattle.session_engine.specs.declared.ending.Ended.{Ended}
@@ -17,10 +16,11 @@ use Rattle.session_engine.specs.declared.ending.SessionFault.TheVariants.{Read, 
 use Rattle.session_engine.specs.declared.serving.Heard.{Heard}
 use Rattle.session_engine.specs.declared.serving.Heard.TheVariants.{Items, NoFrame}
 use Rattle.session_engine.specs.Calls.{Asked, Answered}
-use Rattle.session_engine.specs.Serving.{AnswersAll, StopsWithin, StopsAnswering, Concludes, Hears, HearsNoFrame, HearsPiece, EndsIn, AnswersInput, not_a_frame}
+use Rattle.session_engine.specs.Serving.{AnswersAll, Concludes, EndsIn, AnswersInput, not_a_frame}
+use Rattle.session_engine.specs.Hearing.{StopsAnswering, Hears, HearsNoFrame, HearsPiece}
 use Rattle.session_engine.specs.Sessions.{Run}
 use Rattle.obj_id.specs.declared.commands.Reply.{Reply}
-use Rattle.session_engine.proofs.KnownBytes.{Appends-none, Consumes-none, Consumes-then, Consumes-kept, Consumes-all}
+use Rattle.session_engine.proofs.KnownBytes.{Consumes-none, Consumes-then, Consumes-kept, Consumes-all}
 use Rattle.session_engine.proofs.Answering.{Appends-replies, Appends-reply, answered_none, answered_then, stopped_then, no_memory_before}
 use Rattle.session_engine.proofs.Ends.{Leaves, leaves_stream}
 use Rattle.session_engine.proofs.Hearing.{told_items}
@@ -103,9 +103,9 @@ concluded gives xs g g1 s s1 w w1 true h = record { replies = h.replies; run = h
 concluded gives xs g g1 s s1 w w1 false h = record { replies = h.replies; run = h.run; written = h.written }
 
 same_run : {G : Type 0} (gives : G → Asked → Answered → G → Type 0) (xs ys : List Item) (p : List (Reply (List ℕ))) (g g1 g2 : G) (s s1 s2 : Option Seat)
-    → Run gives xs p g1 s1 g s → ys ≡ xs → g2 ≡ g1 → s2 ≡ s1 → Run gives ys p g2 s2 g s
+    → Run gives xs p g s g1 s1 → ys ≡ xs → g2 ≡ g1 → s2 ≡ s1 → Run gives ys p g s g2 s2
 same_run gives xs ys p g g1 g2 s s1 s2 h items gate seat =
-    subst (λ l. Run gives l p g2 s2 g s) (sym items) (subst (λ at. Run gives xs p g2 at g s) (sym seat) (subst (λ at. Run gives xs p at s1 g s) (sym gate) h))
+    subst (λ l. Run gives l p g s g2 s2) (sym items) (subst (λ at. Run gives xs p g s g2 at) (sym seat) (subst (λ at. Run gives xs p g s at s1) (sym gate) h))
 
 -- ---- a session so far
 

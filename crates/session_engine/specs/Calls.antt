@@ -3,6 +3,7 @@ use Rattle.std.specs.Prelude.{ℕ, List, Result, Ok, Err, ⊤}
 use Rattle.obj_id.specs.declared.ids.JobNo.{JobNo}
 use Rattle.obj_id.specs.declared.works.JobKey.{JobKey}
 use Rattle.obj_id.specs.declared.refusals.Refusal.{Refusal}
+use Rattle.obj_id.specs.declared.refusals.Refusal.TheVariants.{NotAdmitted, TooMany, NoMemory}
 use Rattle.obj_id.specs.declared.commands.Command.{Command}
 use Rattle.obj_id.specs.declared.commands.Reply.{Reply}
 use Rattle.obj_id.specs.declared.commands.Reply.TheVariants as reply
@@ -23,3 +24,10 @@ pub data Answered : Type 0 where
 abbrev pub entry_of : Result ℕ Refusal → Answered
 entry_of (Ok number) = entered number
 entry_of (Err refusal) = replied (reply.Refused refusal)
+
+-- why a session isn't let in: no such job here or another key, no number left, or no memory
+abbrev pub IsEntryRefusal : Refusal → Type 0
+IsEntryRefusal NotAdmitted = ⊤
+IsEntryRefusal TooMany = ⊤
+IsEntryRefusal NoMemory = ⊤
+IsEntryRefusal _ = ⊥

@@ -1,19 +1,16 @@
--- What a session reads and writes, and how it ends.
+-- A session as a whole: what it reads and writes, and how it ends.
 use Rattle.std.specs.Prelude.{◌≡◌, ◌≢◌, ℕ, List, [], ◌∷◌, ◌++◌, Option, None, IfSome, Result, Ok, Err, ⊤}
-use Rattle.std.specs.Io.KnownBytes.{Keeps, Appends, Consumes}
+use Rattle.std.specs.Io.KnownBytes.{Appends, Consumes}
 use Rattle.obj_id.specs.declared.refusals.Refusal.TheVariants as refusal
 use Rattle.obj_id.specs.declared.commands.Reply.{Reply}
 use Rattle.obj_id.specs.declared.commands.Reply.TheVariants as reply
 use Rattle.private_store.specs.declared.frames.Item.{Item}
-use Rattle.private_store.specs.Frames.{Stream, clean, mid_frame, malformed, stream_of, reply_frame, replies_bytes}
-use Rattle.wire_frames.specs.Reading.{Reading, continued, fed, told}
+use Rattle.private_store.specs.Frames.{clean, mid_frame, malformed, stream_of, replies_bytes}
 use Rattle.session_engine.specs.declared.session.Seat.{Seat}
 use Rattle.session_engine.specs.declared.ending.Ended.{Ended}
 use Rattle.session_engine.specs.declared.ending.Ended.TheVariants.{Clean, MidFrame, Malformed}
 use Rattle.session_engine.specs.declared.ending.SessionFault.{SessionFault}
 use Rattle.session_engine.specs.declared.ending.SessionFault.TheVariants.{Read, Write, Memory}
-use Rattle.session_engine.specs.declared.serving.Heard.{Heard}
-use Rattle.session_engine.specs.declared.serving.Heard.TheVariants.{Items, NoFrame}
 use Rattle.session_engine.specs.Calls.{Asked, Answered}
 use Rattle.session_engine.specs.Sessions.{Run, Leaves}
 
@@ -39,31 +36,17 @@ IsSent Read written_old written_new sent = Appends written_old written_new (repl
 IsSent Write written_old written_new sent = ⊤
 IsSent Memory written_old written_new sent = Appends written_old written_new (replies_bytes sent)
 
--- a reply is written; where it isn't, writing failed or nothing went out
-abbrev pub Sends : Reply (List ℕ) → Option (List ℕ) → Option (List ℕ) → Result ⊤ SessionFault → Type 0
-Sends reply written_old written_new (Ok u) = Appends written_old written_new (reply_frame reply)
-Sends reply written_old written_new (Err Read) = ⊥
-Sends reply written_old written_new (Err Write) = ⊤
-Sends reply written_old written_new (Err Memory) = Keeps written_old written_new
-
--- what the writer kept back goes out, or writing failed
-abbrev pub Flushes : Option (List ℕ) → Option (List ℕ) → Result ⊤ SessionFault → Type 0
-Flushes written_old written_new (Ok u) = Keeps written_old written_new
-Flushes written_old written_new (Err Read) = ⊥
-Flushes written_old written_new (Err Write) = ⊤
-Flushes written_old written_new (Err Memory) = ⊥
-
 module _ {G : Type 0} (gives : G → Asked → Answered → G → Type 0) where
   -- all items are answered, and the session ends so
   pub record Concludes (ended : Ended) (items : List Item) (gate_old : G) (seat_old : Option Seat) (written_old : Option (List ℕ)) (gate_new : G) (seat_new : Option Seat) (written_new : Option (List ℕ)) : Type 0 where
     pub replies : List (Reply (List ℕ))
-    pub run : Run gives items replies gate_new seat_new gate_old seat_old
+    pub run : Run gives items replies gate_old seat_old gate_new seat_new
     pub written : Appends written_old written_new (replies_bytes (replies_at ended replies))
 
   -- all items are answered, and nothing else is written
   pub record AnswersAll (items : List Item) (gate_old : G) (seat_old : Option Seat) (written_old : Option (List ℕ)) (gate_new : G) (seat_new : Option Seat) (written_new : Option (List ℕ)) : Type 0 where
     pub replies : List (Reply (List ℕ))
-    pub run : Run gives items replies gate_new seat_new gate_old seat_old
+    pub run : Run gives items replies gate_old seat_old gate_new seat_new
     pub written : Appends written_old written_new (replies_bytes replies)
 
   -- a fault came: a beginning of the items is answered, and a beginning of the answers written
@@ -73,38 +56,8 @@ module _ {G : Type 0} (gives : G → Asked → Answered → G → Type 0) where
     pub parted : items ≡ answered ++ waiting
     pub sent : List (Reply (List ℕ))
     pub unsent : List (Reply (List ℕ))
-    pub run : Run gives answered (sent ++ unsent) gate_new seat_new gate_old seat_old
+    pub run : Run gives answered (sent ++ unsent) gate_old seat_old gate_new seat_new
     pub written : IsSent fault written_old written_new sent
-
-  -- a fault in the midst of answers is one of writing or of memory
-  abbrev pub StopsAnswering : SessionFault → List Item → G → Option Seat → Option (List ℕ) → G → Option Seat → Option (List ℕ) → Type 0
-  StopsAnswering Read items gate_old seat_old written_old gate_new seat_new written_new = ⊥
-  StopsAnswering Write items gate_old seat_old written_old gate_new seat_new written_new = StopsWithin Write items gate_old seat_old written_old gate_new seat_new written_new
-  StopsAnswering Memory items gate_old seat_old written_old gate_new seat_new written_new = StopsWithin Memory items gate_old seat_old written_old gate_new seat_new written_new
-
-  -- what becomes of items
-  abbrev pub Answering : List Item → G → Option Seat → Option (List ℕ) → G → Option Seat → Option (List ℕ) → Result ⊤ SessionFault → Type 0
-  Answering items gate_old seat_old written_old gate_new seat_new written_new (Ok u) = AnswersAll items gate_old seat_old written_old gate_new seat_new written_new
-  Answering items gate_old seat_old written_old gate_new seat_new written_new (Err fault) = StopsAnswering fault items gate_old seat_old written_old gate_new seat_new written_new
-
-  -- what a piece says is answered
-  pub record Hears (reading_old : Reading) (piece : List ℕ) (gate_old : G) (seat_old : Option Seat) (written_old : Option (List ℕ)) (reading_new : Reading) (gate_new : G) (seat_new : Option Seat) (written_new : Option (List ℕ)) : Type 0 where
-    pub items : List Item
-    pub is_fed : fed reading_old piece ≡ told (Ok items) reading_new
-    pub answered : AnswersAll items gate_old seat_old written_old gate_new seat_new written_new
-
-  -- a fault of the stream is answered
-  pub record HearsNoFrame (reading_old : Reading) (piece : List ℕ) (gate_old : G) (seat_old : Option Seat) (written_old : Option (List ℕ)) (reading_new : Reading) (gate_new : G) (seat_new : Option Seat) (written_new : Option (List ℕ)) : Type 0 where
-    pub is_fed : fed reading_old piece ≡ told (Err refusal.Malformed) reading_new
-    pub gate : gate_new ≡ gate_old
-    pub seat : seat_new ≡ seat_old
-    pub written : Appends written_old written_new (reply_frame not_a_frame)
-
-  -- what becomes of a piece
-  abbrev pub HearsPiece : Reading → List ℕ → G → Option Seat → Option (List ℕ) → Reading → G → Option Seat → Option (List ℕ) → Result Heard SessionFault → Type 0
-  HearsPiece reading_old piece gate_old seat_old written_old reading_new gate_new seat_new written_new (Ok Items) = Hears reading_old piece gate_old seat_old written_old reading_new gate_new seat_new written_new
-  HearsPiece reading_old piece gate_old seat_old written_old reading_new gate_new seat_new written_new (Ok NoFrame) = HearsNoFrame reading_old piece gate_old seat_old written_old reading_new gate_new seat_new written_new
-  HearsPiece reading_old piece gate_old seat_old written_old reading_new gate_new seat_new written_new (Err fault) = StopsAnswering fault (continued reading_old piece).items gate_old seat_old written_old gate_new seat_new written_new
 
   -- how a session ended or stopped that had read these bytes of its input
   abbrev pub IsOutcome : List ℕ → Option (List ℕ) → G → Option (List ℕ) → G → Option Seat → Option (List ℕ) → Result Ended SessionFault → Type 0

@@ -1,11 +1,10 @@
 -- A session: the answer to each item, over a gate that is known by a relation of the gate before, what it is
 -- asked, what it answers, and the gate after.
-use Rattle.std.specs.Prelude.{◌≡◌, ℕ, List, [], ◌∷◌, Option, Some, None, ⊤}
+use Rattle.std.specs.Prelude.{◌≡◌, ℕ, List, [], ◌∷◌, Option, Some, None}
 use Rattle.obj_id.specs.declared.ids.JobNo.{JobNo}
 use Rattle.obj_id.specs.declared.works.JobKey.{JobKey}
 use Rattle.obj_id.specs.declared.refusals.Refusal.{Refusal}
 use Rattle.obj_id.specs.declared.refusals.Refusal.TheVariants.{NotAdmitted, BadId, Exists}
-use Rattle.obj_id.specs.declared.commands.Command.{Command}
 use Rattle.obj_id.specs.declared.commands.Command.TheVariants as command
 use Rattle.obj_id.specs.declared.commands.Reply.{Reply}
 use Rattle.obj_id.specs.declared.commands.Reply.TheVariants as reply
@@ -63,10 +62,10 @@ module _ {G : Type 0} (gives : G → Asked → Answered → G → Type 0) where
 
   -- the items are answered in order, each by the gate and in the seat that the one before it left
   abbrev pub Run : List Item → List (Reply (List ℕ)) → G → Option Seat → G → Option Seat → Type 0
-  Run [] [] after seat_after before seat = (after ≡ before) × (seat_after ≡ seat)
-  Run [] (_ ∷ _) after seat_after before seat = ⊥
-  Run (_ ∷ _) [] after seat_after before seat = ⊥
-  Run (x ∷ items) (answer ∷ replies) after seat_after before seat = Then before seat x answer (Run items replies after seat_after)
+  Run [] [] before seat after seat_after = (after ≡ before) × (seat_after ≡ seat)
+  Run [] (_ ∷ _) before seat after seat_after = ⊥
+  Run (_ ∷ _) [] before seat after seat_after = ⊥
+  Run (x ∷ items) (answer ∷ replies) before seat after seat_after = Then before seat x answer (λ gate seat_then. Run items replies gate seat_then after seat_after)
 
   -- a session that entered asks for one Leave, whatever the answer
   abbrev pub Leaves : Option Seat → G → G → Type 0

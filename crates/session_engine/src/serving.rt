@@ -2,7 +2,8 @@
 ghost use Rattle.std.specs.Prelude.{◌≡◌, ◌<◌, None, [], ◌∷◌, length, IsTrue, if◌then◌else◌};
 ghost use Rattle.wire_frames.specs.Reading.{is_in_mid_frame};
 ghost use Rattle.wire_frames.specs.Writing.{has_reply_frame};
-ghost use Rattle.session_engine.specs.Serving.{Sends, Flushes, Answering, HearsPiece, AnswersInput, Served};
+ghost use Rattle.session_engine.specs.Hearing.{Sends, Flushes, Answering, HearsPiece};
+ghost use Rattle.session_engine.specs.Serving.{AnswersInput, Served};
 
 use crate::session::{Seat, answer, leave};
 use crate::{Ended, Gate, SessionFault};
