@@ -18,8 +18,10 @@ pub struct Desk {
     length: u32,
     /// Sessions that were let in.
     pub entries: u32,
-    /// Sessions that left.
+    /// How often a session left.
     pub leaves: u32,
+    /// Whether the last call was a Leave.
+    pub is_left: bool,
     /// Calls of another job or session, or of nobody who is in.
     pub strays: u32,
 }
@@ -30,12 +32,14 @@ impl Desk {
             length: 0,
             entries: 0,
             leaves: 0,
+            is_left: false,
             strays: 0,
         }
     }
 
     fn look_at(&mut self, job: JobNo, session: u32) {
-        if job != JOB || session != SESSION || self.leaves >= self.entries {
+        self.is_left = false;
+        if job != JOB || session != SESSION || self.entries == 0 {
             self.strays = self.strays.saturating_add(1);
         }
     }
@@ -47,6 +51,7 @@ impl Desk {
 
     fn leave(&mut self) -> Reply<Bytes> {
         self.leaves = self.leaves.saturating_add(1);
+        self.is_left = true;
         Reply::Ok
     }
 }

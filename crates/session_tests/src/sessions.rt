@@ -72,6 +72,7 @@ fn bytes_of(alloc: Global, texts: &[&str]) -> Result<Vec<u8>, FromHexError> {
 }
 
 /// A reader that gives so many bytes at once, at most.
+#[derive(Drop)]
 struct Drip<R> {
     inner: R,
     at_once: usize,
@@ -94,7 +95,8 @@ struct Way {
     failing_write: u64,
 }
 
-const WHOLE: Way = Way {
+/// All at once, and no call fails.
+const PLAIN: Way = Way {
     cut: 0,
     at_once: usize::MAX,
     failing_read: 0,
@@ -102,13 +104,14 @@ const WHOLE: Way = Way {
 };
 
 /// What came of a session.
+#[derive(Drop)]
 struct Session {
     outcome: Result<Ended, SessionFault>,
     written: Vec<u8>,
     desk: Desk,
 }
 
-fn session(alloc: Global, input: &[u8], way: Way) -> Session {
+fn session_once(alloc: Global, input: &[u8], way: Way) -> Session {
     let cut = way.cut.min(input.len());
     let pieces = Read::chain(&input[..cut], &input[cut..]);
     let drip = Drip {
@@ -126,23 +129,198 @@ fn session(alloc: Global, input: &[u8], way: Way) -> Session {
     }
 }
 
-/// A session, once more where memory was wanting: what was written then is a beginning of what is wanted.
-fn served(rt: &impl Abort, alloc: Global, input: &[u8], way: Way, want: &[u8]) -> Session {
-    let first = session(alloc, input, way);
-    let session = match first.outcome {
-        Err(SessionFault::Memory) => {
-            assert!(rt; want.starts_with(&first.written));
-            looked_at(rt, &first.desk);
-            session(alloc, input, way)
-        }
-        _ => first,
-    };
-    looked_at(rt, &session.desk);
+/// A session, once more where memory was wanting: what was written then is a beginning.
+fn served(rt: &impl Abort, alloc: Global, input: &[u8], way: Way, whole: &[u8]) -> Session {
+    let session = session_once(alloc, input, way);
+    if session.outcome != Err(SessionFault::Memory) {
+        look_at(rt, &session, whole);
+        return session;
+    }
+    look_at(rt, &session, whole);
+    let session = session_once(alloc, input, way);
+    look_at(rt, &session, whole);
     session
 }
 
-/// Who came in has left, once and last, and nobody else called.
-fn looked_at(rt: &impl Abort, desk: &Desk) {
-    assert_eq!(rt; desk.strays, 0);
-    assert!(rt; desk.entries == 0 || desk.leaves >= 1);
+/// Who came in left last, and nobody else called; what was written is a beginning of the whole answer.
+fn look_at(rt: &impl Abort, session: &Session, whole: &[u8]) {
+    assert!(rt; whole.starts_with(session.written.as_slice()));
+    assert_eq!(rt; session.desk.strays, 0);
+    assert_eq!(rt; session.desk.is_left, session.desk.entries == 1);
+}
+
+/// Rows of a session's input, its whole answer, and its end.
+const ROWS: [(&[&str], &[&str], Ended); 12] = [
+    (&["00000000"], &[MALFORMED], Ended::Malformed),
+    (&["ffffffff"], &[MALFORMED], Ended::Malformed),
+    (&["000000"], &[], Ended::MidFrame),
+    (&[], &[], Ended::Clean),
+    (&[HELLO, CREATE, SEAL, GET], &[OK, PLACED, OK, GOT], Ended::Clean),
+    (&[HELLO, NO_KIND], &[OK, MALFORMED], Ended::Malformed),
+    (&[HELLO, CREATE_OF_NO_KIND], &[OK, MALFORMED], Ended::Malformed),
+    (&[HELLO, GET_OF_NO_ID], &[OK, BAD_ID], Ended::Clean),
+    // nothing is answered behind what isn't a frame
+    (&[HELLO, NO_KIND, CREATE], &[OK, MALFORMED], Ended::Malformed),
+    // before a Hello that is accepted, which may be tried again
+    (
+        &[CREATE, GET_WAIT, GET_OF_NO_ID, HELLO_WITH_ANOTHER_KEY, SEAL, HELLO, CREATE],
+        &[NOT_ADMITTED, NOT_ADMITTED, BAD_ID, NOT_ADMITTED, NOT_ADMITTED, OK, PLACED],
+        Ended::Clean,
+    ),
+    // after it
+    (
+        &[HELLO, HELLO, HELLO_WITH_ANOTHER_KEY, CREATE_WAIT, GET_WAIT],
+        &[OK, EXISTS, EXISTS, PLACED, GOT],
+        Ended::Clean,
+    ),
+    (&[HELLO, CREATE, "0000001d04"], &[OK, PLACED], Ended::MidFrame),
+];
+
+#[test]
+fn sessions_are_answered_wherever_they_are_cut(rt: HostRuntime) -> Result<(), Fail> {
+    let alloc = rt.alloc();
+    for (input, whole, ended) in ROWS {
+        let input = bytes_of(alloc, input)?;
+        let whole = bytes_of(alloc, whole)?;
+        for cut in 0..=input.len() {
+            let way = Way { cut, ..PLAIN };
+            let session = served(&rt, alloc, &input, way, &whole);
+            assert_eq!(rt; session.outcome, Ok(ended), "cut at {cut}");
+            assert_eq!(rt; session.written, whole, "cut at {cut}");
+        }
+    }
+    Ok(())
+}
+
+/// Inputs and answers, and how often the gate is told of a Leave.
+const LEAVES: [(&[&str], &[&str], u32); 4] = [
+    (&[LEAVE], &[NOT_ADMITTED], 0),
+    (&[HELLO_WITH_ANOTHER_KEY], &[NOT_ADMITTED], 0),
+    (&[HELLO, NO_KIND], &[OK, MALFORMED], 1),
+    (&[HELLO, LEAVE, GET, LEAVE], &[OK, OK, "000000058200000000", OK], 3),
+];
+
+/// How many bytes of answers are due to the worked session when so much of it has come.
+const BORDERS: [(usize, usize); 5] = [(0, 0), (41, 5), (79, 18), (112, 23), (145, 32)];
+
+fn due(come: usize) -> usize {
+    let mut due = 0;
+    for (input, answers) in BORDERS {
+        if input <= come {
+            due = answers;
+        }
+    }
+    due
+}
+
+fn is_border(come: usize) -> bool {
+    BORDERS.iter().any(|border| border.0 == come)
+}
+
+fn worked_session(alloc: Global) -> Result<Vec<u8>, FromHexError> {
+    bytes_of(alloc, &[HELLO, CREATE, SEAL, GET])
+}
+
+fn worked_answers(alloc: Global) -> Result<Vec<u8>, FromHexError> {
+    bytes_of(alloc, &[OK, PLACED, OK, GOT])
+}
+
+#[test]
+fn sessions_may_end_anywhere(rt: HostRuntime) -> Result<(), Fail> {
+    let alloc = rt.alloc();
+    let input = worked_session(alloc)?;
+    let whole = worked_answers(alloc)?;
+    for come in 0..=input.len() {
+        let session = served(&rt, alloc, &input[..come], PLAIN, &whole);
+        let ended = if is_border(come) {
+            Ended::Clean
+        } else {
+            Ended::MidFrame
+        };
+        assert_eq!(rt; session.outcome, Ok(ended), "ended at {come}");
+        assert_eq!(rt; session.written.len(), due(come), "ended at {come}");
+    }
+    Ok(())
+}
+
+#[test]
+fn each_read_fails_in_turn(rt: HostRuntime) -> Result<(), Fail> {
+    let alloc = rt.alloc();
+    let input = worked_session(alloc)?;
+    let whole = worked_answers(alloc)?;
+    // one byte comes at a time, and the read behind the last one tells the end
+    for come in 0..=input.len() {
+        let way = Way {
+            at_once: 1,
+            failing_read: come as u64 + 1,
+            ..PLAIN
+        };
+        let session = served(&rt, alloc, &input, way, &whole);
+        assert_eq!(rt; session.outcome, Err(SessionFault::Read), "after {come}");
+        assert_eq!(rt; session.written.len(), due(come), "after {come}");
+    }
+    let way = Way {
+        at_once: 1,
+        failing_read: input.len() as u64 + 2,
+        ..PLAIN
+    };
+    let session = served(&rt, alloc, &input, way, &whole);
+    assert_eq!(rt; session.outcome, Ok(Ended::Clean));
+    Ok(())
+}
+
+#[test]
+fn each_write_fails_in_turn(rt: HostRuntime) -> Result<(), Fail> {
+    let alloc = rt.alloc();
+    let input = worked_session(alloc)?;
+    let whole = worked_answers(alloc)?;
+    // each answer is one write
+    for (turn, written) in [(1, 0), (2, 5), (3, 18), (4, 23)] {
+        let way = Way {
+            failing_write: turn,
+            ..PLAIN
+        };
+        let session = served(&rt, alloc, &input, way, &whole);
+        assert_eq!(rt; session.outcome, Err(SessionFault::Write), "write {turn}");
+        assert_eq!(rt; session.written.len(), written, "write {turn}");
+        assert_eq!(rt; session.desk.leaves, 1, "write {turn}");
+    }
+    let way = Way {
+        failing_write: 5,
+        ..PLAIN
+    };
+    let session = served(&rt, alloc, &input, way, &whole);
+    assert_eq!(rt; session.outcome, Ok(Ended::Clean));
+    Ok(())
+}
+
+#[test]
+fn a_session_leaves_once_more_than_its_client(rt: HostRuntime) -> Result<(), Fail> {
+    let alloc = rt.alloc();
+    for (input, whole, leaves) in LEAVES {
+        let input = bytes_of(alloc, input)?;
+        let whole = bytes_of(alloc, whole)?;
+        let session = served(&rt, alloc, &input, PLAIN, &whole);
+        assert_eq!(rt; session.written, whole);
+        assert_eq!(rt; session.desk.leaves, leaves);
+    }
+    Ok(())
+}
+
+#[test]
+fn faults_are_told_in_words(rt: HostRuntime) -> Result<(), Fail> {
+    let alloc = rt.alloc();
+    let texts = [
+        (SessionFault::Read, "the session's input failed"),
+        (SessionFault::Write, "the session's output failed"),
+        (SessionFault::Memory, "no memory for the session"),
+    ];
+    for (fault, text) in texts {
+        let told = match format!(in alloc; "{fault}") {
+            Ok(told) => told,
+            Err(_) => format!(in alloc; "{fault}")?,
+        };
+        assert_eq!(rt; told.as_str(), text);
+    }
+    Ok(())
 }
