@@ -1,4 +1,7 @@
 //! A gate of one job and one object.
+ghost use Rattle.std.specs.Prelude.{IsTrue};
+ghost use Rattle.wire_frames.specs.Writing.{has_reply_frame};
+
 use bytes::Bytes;
 use obj_id::{Command, JobKey, JobNo, Refusal, Reply};
 use private_store::Awaited;
@@ -44,12 +47,28 @@ impl Desk {
         }
     }
 
-    fn make(&mut self, length: u32) -> Reply<Bytes> {
+    fn make(&mut self, length: u32) -> Reply<Bytes>
+        ensures { IsTrue (has_reply_frame result) }
+    {
         self.length = length;
         Reply::Placed(0, length.saturating_add(15) / 16 * 16)
     }
 
-    fn leave(&mut self) -> Reply<Bytes> {
+    fn answer(&mut self, command: &Command<Bytes>) -> Reply<Bytes>
+        ensures { IsTrue (has_reply_frame result) }
+    {
+        match command {
+            Command::Create(_, _, length) => self.make(*length),
+            Command::Seal(_) => Reply::Ok,
+            Command::Get(_) => Reply::Got(self.length),
+            Command::Leave => self.leave(),
+            _ => Reply::Refused(Refusal::Absent),
+        }
+    }
+
+    fn leave(&mut self) -> Reply<Bytes>
+        ensures { IsTrue (has_reply_frame result) }
+    {
         self.leaves = self.leaves.saturating_add(1);
         self.is_left = true;
         Reply::Ok
@@ -71,13 +90,7 @@ impl Gate for Desk {
 
     fn call(&mut self, job: JobNo, session: u32, command: Command<Bytes>) -> Reply<Bytes> {
         self.look_at(job, session);
-        match command {
-            Command::Create(_, _, length) => self.make(length),
-            Command::Seal(_) => Reply::Ok,
-            Command::Get(_) => Reply::Got(self.length),
-            Command::Leave => self.leave(),
-            _ => Reply::Refused(Refusal::Absent),
-        }
+        self.answer(&command)
     }
 
     fn call_wait(&mut self, job: JobNo, session: u32, awaited: Awaited) -> Reply<Bytes> {
