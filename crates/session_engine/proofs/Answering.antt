@@ -10,7 +10,7 @@ use Rattle.session_engine.specs.declared.session.Seat.{Seat}
 use Rattle.session_engine.specs.declared.ending.SessionFault.{SessionFault}
 use Rattle.session_engine.specs.declared.ending.SessionFault.TheVariants.{Read, Write, Memory}
 use Rattle.session_engine.specs.Calls.{Asked, Answered}
-use Rattle.session_engine.specs.Sessions.{AnswersItem, Run}
+use Rattle.session_engine.specs.Sessions.{Standing, standing, AnswersItem, Run}
 use Rattle.session_engine.specs.Serving.{IsSent, AnswersAll, StopsWithin}
 use Rattle.session_engine.specs.Hearing.{Sends, Flushes, StopsAnswering, Answering}
 use Rattle.session_engine.proofs.KnownBytes.{Appends-none, Appends-then, Appends-kept}
@@ -51,61 +51,63 @@ module _ {G : Type 0} (gives : G → Asked → Answered → G → Type 0) where
   Run-one : (x : Item) (r : Reply (List ℕ)) (g g1 : G) (s s1 : Option Seat) → AnswersItem gives g s x r g1 s1 → Run gives (x ∷ []) (r ∷ []) g s g1 s1
   Run-one x r g g1 s s1 h = record { gate = g1; seat_then = s1; first = h; others = (refl, refl) }
 
+  pub Run-same : (xs ys : List Item) (p : List (Reply (List ℕ))) (g g1 g2 : G) (s s1 s2 : Option Seat) → Run gives xs p g s g1 s1 → ys ≡ xs → g2 ≡ g1 → s2 ≡ s1 → Run gives ys p g s g2 s2
+  Run-same xs ys p g g1 g2 s s1 s2 h items gate seat =
+      subst (λ l. Run gives l p g s g2 s2) (sym items) (subst (λ at. Run gives xs p g s g2 at) (sym seat) (subst (λ at. Run gives xs p g s at s1) (sym gate) h))
+
   -- ---- answers that are written
 
-  pub answered_none : (g : G) (s : Option Seat) (w : Option (List ℕ)) → AnswersAll gives [] g s w g s w
-  answered_none g s w = record { replies = []; run = (refl, refl); written = Appends-none w }
+  pub answered_none : (a : Standing G) → AnswersAll gives [] a a
+  answered_none a = record { replies = []; run = (refl, refl); written = Appends-none a.written }
 
-  pub answered_then : (xs ys : List Item) (g g1 g2 : G) (s s1 s2 : Option Seat) (w w1 w2 : Option (List ℕ))
-      → AnswersAll gives xs g s w g1 s1 w1 → AnswersAll gives ys g1 s1 w1 g2 s2 w2 → AnswersAll gives (xs ++ ys) g s w g2 s2 w2
-  answered_then xs ys g g1 g2 s s1 s2 w w1 w2 h k =
+  pub answered_then : (xs ys : List Item) (a b c : Standing G) → AnswersAll gives xs a b → AnswersAll gives ys b c → AnswersAll gives (xs ++ ys) a c
+  answered_then xs ys a b c h k =
       record {
         replies = h.replies ++ k.replies;
-        run = Run-then xs h.replies ys k.replies g g1 g2 s s1 s2 h.run k.run;
-        written = Appends-replies w w1 w2 h.replies k.replies h.written k.written;
+        run = Run-then xs h.replies ys k.replies a.gate b.gate c.gate a.seat b.seat c.seat h.run k.run;
+        written = Appends-replies a.written b.written c.written h.replies k.replies h.written k.written;
       }
 
-  pub answered_kept : (xs : List Item) (g g1 : G) (s s1 : Option Seat) (w w1 w2 : Option (List ℕ))
-      → AnswersAll gives xs g s w g1 s1 w1 → Keeps w1 w2 → AnswersAll gives xs g s w g1 s1 w2
-  answered_kept xs g g1 s s1 w w1 w2 h k = record { replies = h.replies; run = h.run; written = Appends-kept w w1 w2 (replies_bytes h.replies) h.written k }
+  pub answered_kept : (xs : List Item) (a b : Standing G) (w : Option (List ℕ)) → AnswersAll gives xs a b → Keeps b.written w → AnswersAll gives xs a (standing b.gate b.seat w)
+  answered_kept xs a b w h k = record { replies = h.replies; run = h.run; written = Appends-kept a.written b.written w (replies_bytes h.replies) h.written k }
 
   -- ---- faults among answers
 
-  unsent_one : (fault : SessionFault) (x : Item) (r : Reply (List ℕ)) (g g1 : G) (s s1 : Option Seat) (w w1 : Option (List ℕ))
-      → AnswersItem gives g s x r g1 s1 → IsSent fault w w1 [] → StopsWithin gives fault (x ∷ []) g s w g1 s1 w1
-  unsent_one fault x r g g1 s s1 w w1 h k =
-      record { answered = x ∷ []; waiting = []; parted = refl; sent = []; unsent = r ∷ []; run = Run-one x r g g1 s s1 h; written = k }
+  -- the answer to an item isn't written
+  unsent_one : (fault : SessionFault) (x : Item) (r : Reply (List ℕ)) (a b : Standing G)
+      → AnswersItem gives a.gate a.seat x r b.gate b.seat → IsSent fault a.written b.written [] → StopsWithin gives fault (x ∷ []) a b
+  unsent_one fault x r a b h k =
+      record { answered = x ∷ []; waiting = []; parted = refl; sent = []; unsent = r ∷ []; run = Run-one x r a.gate b.gate a.seat b.seat h; written = k }
 
   -- one item, by what became of its answer
-  pub answering_one : (x : Item) (r : Reply (List ℕ)) (g g1 : G) (s s1 : Option Seat) (w w1 : Option (List ℕ)) (result : Result ⊤ SessionFault)
-      → AnswersItem gives g s x r g1 s1 → Sends r w w1 result → Answering gives (x ∷ []) g s w g1 s1 w1 result
-  answering_one x r g g1 s s1 w w1 (Ok u) h k = record { replies = r ∷ []; run = Run-one x r g g1 s s1 h; written = Appends-reply w w1 r k }
-  answering_one x r g g1 s s1 w w1 (Err Read) h k = k
-  answering_one x r g g1 s s1 w w1 (Err Write) h k = unsent_one Write x r g g1 s s1 w w1 h tt
-  answering_one x r g g1 s s1 w w1 (Err Memory) h k = unsent_one Memory x r g g1 s s1 w w1 h (Appends-kept w w w1 [] (Appends-none w) k)
+  pub answering_one : (x : Item) (r : Reply (List ℕ)) (a b : Standing G) (result : Result ⊤ SessionFault)
+      → AnswersItem gives a.gate a.seat x r b.gate b.seat → Sends r a.written b.written result → Answering gives (x ∷ []) a b result
+  answering_one x r a b (Ok u) h k = record { replies = r ∷ []; run = Run-one x r a.gate b.gate a.seat b.seat h; written = Appends-reply a.written b.written r k }
+  answering_one x r a b (Err Read) h k = k
+  answering_one x r a b (Err Write) h k = unsent_one Write x r a b h tt
+  answering_one x r a b (Err Memory) h k = unsent_one Memory x r a b h (Appends-kept a.written a.written b.written [] (Appends-none a.written) k)
 
-  within_then : (fault : SessionFault) (xs ys : List Item) (g g1 g2 : G) (s s1 s2 : Option Seat) (w w1 w2 : Option (List ℕ))
-      → AnswersAll gives xs g s w g1 s1 w1 → StopsWithin gives fault ys g1 s1 w1 g2 s2 w2 → StopsWithin gives fault (xs ++ ys) g s w g2 s2 w2
-  within_then fault xs ys g g1 g2 s s1 s2 w w1 w2 h k =
+  within_then : (fault : SessionFault) (xs ys : List Item) (a b c : Standing G) → AnswersAll gives xs a b → StopsWithin gives fault ys b c → StopsWithin gives fault (xs ++ ys) a c
+  within_then fault xs ys a b c h k =
       record {
         answered = xs ++ k.answered;
         waiting = k.waiting;
         parted = ap (λ l. xs ++ l) k.parted ∙ sym (append_assoc xs k.answered k.waiting);
         sent = h.replies ++ k.sent;
         unsent = k.unsent;
-        run = subst (λ l. Run gives (xs ++ k.answered) l g s g2 s2) (sym (append_assoc h.replies k.sent k.unsent)) (Run-then xs h.replies k.answered (k.sent ++ k.unsent) g g1 g2 s s1 s2 h.run k.run);
-        written = IsSent-then fault w w1 w2 h.replies k.sent h.written k.written;
+        run =
+            subst (λ l. Run gives (xs ++ k.answered) l a.gate a.seat c.gate c.seat) (sym (append_assoc h.replies k.sent k.unsent))
+            (Run-then xs h.replies k.answered (k.sent ++ k.unsent) a.gate b.gate c.gate a.seat b.seat c.seat h.run k.run);
+        written = IsSent-then fault a.written b.written c.written h.replies k.sent h.written k.written;
       }
 
-  pub stopped_then : (fault : SessionFault) (xs ys : List Item) (g g1 g2 : G) (s s1 s2 : Option Seat) (w w1 w2 : Option (List ℕ))
-      → AnswersAll gives xs g s w g1 s1 w1 → StopsAnswering gives fault ys g1 s1 w1 g2 s2 w2 → StopsAnswering gives fault (xs ++ ys) g s w g2 s2 w2
-  stopped_then Read xs ys g g1 g2 s s1 s2 w w1 w2 h k = k
-  stopped_then Write xs ys g g1 g2 s s1 s2 w w1 w2 h k = within_then Write xs ys g g1 g2 s s1 s2 w w1 w2 h k
-  stopped_then Memory xs ys g g1 g2 s s1 s2 w w1 w2 h k = within_then Memory xs ys g g1 g2 s s1 s2 w w1 w2 h k
+  pub stopped_then : (fault : SessionFault) (xs ys : List Item) (a b c : Standing G) → AnswersAll gives xs a b → StopsAnswering gives fault ys b c → StopsAnswering gives fault (xs ++ ys) a c
+  stopped_then Read xs ys a b c h k = k
+  stopped_then Write xs ys a b c h k = within_then Write xs ys a b c h k
+  stopped_then Memory xs ys a b c h k = within_then Memory xs ys a b c h k
 
-  within_more : (fault : SessionFault) (xs ys : List Item) (g g1 : G) (s s1 : Option Seat) (w w1 : Option (List ℕ))
-      → StopsWithin gives fault xs g s w g1 s1 w1 → StopsWithin gives fault (xs ++ ys) g s w g1 s1 w1
-  within_more fault xs ys g g1 s s1 w w1 h =
+  within_more : (fault : SessionFault) (xs ys : List Item) (a b : Standing G) → StopsWithin gives fault xs a b → StopsWithin gives fault (xs ++ ys) a b
+  within_more fault xs ys a b h =
       record {
         answered = h.answered;
         waiting = h.waiting ++ ys;
@@ -116,61 +118,47 @@ module _ {G : Type 0} (gives : G → Asked → Answered → G → Type 0) where
         written = h.written;
       }
 
-  pub stopped_more : (fault : SessionFault) (xs ys : List Item) (g g1 : G) (s s1 : Option Seat) (w w1 : Option (List ℕ))
-      → StopsAnswering gives fault xs g s w g1 s1 w1 → StopsAnswering gives fault (xs ++ ys) g s w g1 s1 w1
-  stopped_more Read xs ys g g1 s s1 w w1 h = h
-  stopped_more Write xs ys g g1 s s1 w w1 h = within_more Write xs ys g g1 s s1 w w1 h
-  stopped_more Memory xs ys g g1 s s1 w w1 h = within_more Memory xs ys g g1 s s1 w w1 h
+  stopped_more : (fault : SessionFault) (xs ys : List Item) (a b : Standing G) → StopsAnswering gives fault xs a b → StopsAnswering gives fault (xs ++ ys) a b
+  stopped_more Read xs ys a b h = h
+  stopped_more Write xs ys a b h = within_more Write xs ys a b h
+  stopped_more Memory xs ys a b h = within_more Memory xs ys a b h
 
-  before_all : (fault : SessionFault) (xs : List Item) (g : G) (s : Option Seat) (w w1 : Option (List ℕ)) → IsSent fault w w1 [] → StopsWithin gives fault xs g s w g s w1
-  before_all fault xs g s w w1 h = record { answered = []; waiting = xs; parted = refl; sent = []; unsent = []; run = (refl, refl); written = h }
+  before_all : (fault : SessionFault) (xs : List Item) (a : Standing G) (w : Option (List ℕ)) → IsSent fault a.written w [] → StopsWithin gives fault xs a (standing a.gate a.seat w)
+  before_all fault xs a w h = record { answered = []; waiting = xs; parted = refl; sent = []; unsent = []; run = (refl, refl); written = h }
 
   -- no item is answered, since the fault came to something else
-  pub stopped_before : (fault : SessionFault) (xs : List Item) (r : Reply (List ℕ)) (g : G) (s : Option Seat) (w w1 : Option (List ℕ))
-      → Sends r w w1 (Err fault) → StopsAnswering gives fault xs g s w g s w1
-  stopped_before Read xs r g s w w1 h = h
-  stopped_before Write xs r g s w w1 h = before_all Write xs g s w w1 tt
-  stopped_before Memory xs r g s w w1 h = before_all Memory xs g s w w1 (Appends-kept w w w1 [] (Appends-none w) h)
+  pub stopped_before : (fault : SessionFault) (xs : List Item) (r : Reply (List ℕ)) (a : Standing G) (w : Option (List ℕ)) → Sends r a.written w (Err fault) → StopsAnswering gives fault xs a (standing a.gate a.seat w)
+  stopped_before Read xs r a w h = h
+  stopped_before Write xs r a w h = before_all Write xs a w tt
+  stopped_before Memory xs r a w h = before_all Memory xs a w (Appends-kept a.written a.written w [] (Appends-none a.written) h)
 
-  pub no_memory_before : (xs : List Item) (g : G) (s : Option Seat) (w : Option (List ℕ)) → StopsAnswering gives Memory xs g s w g s w
-  no_memory_before xs g s w = before_all Memory xs g s w w (Appends-none w)
+  pub no_memory_before : (xs : List Item) (a : Standing G) → StopsWithin gives Memory xs a a
+  no_memory_before xs a = before_all Memory xs a a.written (Appends-none a.written)
 
   -- all items are answered, and the answers may be kept back
-  pub stopped_after : (fault : SessionFault) (xs : List Item) (g g1 : G) (s s1 : Option Seat) (w w1 w2 : Option (List ℕ))
-      → AnswersAll gives xs g s w g1 s1 w1 → Flushes w1 w2 (Err fault) → StopsAnswering gives fault xs g s w g1 s1 w2
-  stopped_after Read xs g g1 s s1 w w1 w2 h k = k
-  stopped_after Write xs g g1 s s1 w w1 w2 h k =
-      record { answered = xs; waiting = []; parted = sym (append-nil xs); sent = []; unsent = h.replies; run = h.run; written = tt }
-  stopped_after Memory xs g g1 s s1 w w1 w2 h k = absurd k
+  pub stopped_after : (fault : SessionFault) (xs : List Item) (a b : Standing G) (w : Option (List ℕ)) → AnswersAll gives xs a b → Flushes b.written w (Err fault) → StopsAnswering gives fault xs a (standing b.gate b.seat w)
+  stopped_after Read xs a b w h k = k
+  stopped_after Write xs a b w h k = record { answered = xs; waiting = []; parted = sym (append-nil xs); sent = []; unsent = h.replies; run = h.run; written = tt }
+  stopped_after Memory xs a b w h k = absurd k
 
   -- ---- the items so far
 
-  pub record SoFar (items left : List Item) (g : G) (s : Option Seat) (w : Option (List ℕ)) (g1 : G) (s1 : Option Seat) (w1 : Option (List ℕ)) : Type 0 where
+  pub record SoFar (items left : List Item) (a b : Standing G) : Type 0 where
     pub done : List Item
     pub parted : items ≡ done ++ left
-    pub answered : AnswersAll gives done g s w g1 s1 w1
+    pub answered : AnswersAll gives done a b
 
-  pub so_far_none : (items left : List Item) (g : G) (s : Option Seat) (w : Option (List ℕ)) → left ≡ items → SoFar items left g s w g s w
-  so_far_none items left g s w is = record { done = []; parted = sym is; answered = answered_none g s w }
+  pub so_far_none : (items left : List Item) (a : Standing G) → left ≡ items → SoFar items left a a
+  so_far_none items left a is = record { done = []; parted = sym is; answered = answered_none a }
 
-  module _ (items left : List Item) (g g1 g2 : G) (s s1 s2 : Option Seat) (w w1 w2 : Option (List ℕ)) (so_far : SoFar items left g s w g1 s1 w1) where
-    pub so_far_all : left ≡ [] → AnswersAll gives items g s w g1 s1 w1
-    so_far_all none = subst (λ l. AnswersAll gives l g s w g1 s1 w1) (sym (so_far.parted ∙ ap (λ l. so_far.done ++ l) none ∙ append-nil so_far.done)) so_far.answered
+  module _ (items left : List Item) (a b c : Standing G) (so_far : SoFar items left a b) (x : Item) (rest : List Item) (is : left ≡ x ∷ rest) where
+    parted_on : items ≡ (so_far.done ++ x ∷ []) ++ rest
+    parted_on = so_far.parted ∙ ap (λ l. so_far.done ++ l) is ∙ sym (append_assoc so_far.done (x ∷ []) rest)
 
-    module _ (x : Item) (rest : List Item) (is : left ≡ x ∷ rest) where
-      parted_on : items ≡ (so_far.done ++ x ∷ []) ++ rest
-      parted_on = so_far.parted ∙ ap (λ l. so_far.done ++ l) is ∙ sym (append_assoc so_far.done (x ∷ []) rest)
+    pub so_far_more : AnswersAll gives (x ∷ []) b c → SoFar items rest a c
+    so_far_more answers = record { done = so_far.done ++ x ∷ []; parted = parted_on; answered = answered_then so_far.done (x ∷ []) a b c so_far.answered answers }
 
-      pub so_far_more : AnswersAll gives (x ∷ []) g1 s1 w1 g2 s2 w2 → SoFar items rest g s w g2 s2 w2
-      so_far_more answers =
-          record {
-            done = so_far.done ++ x ∷ [];
-            parted = parted_on;
-            answered = answered_then so_far.done (x ∷ []) g g1 g2 s s1 s2 w w1 w2 so_far.answered answers;
-          }
-
-      pub so_far_stopped : (fault : SessionFault) → StopsAnswering gives fault (x ∷ []) g1 s1 w1 g2 s2 w2 → StopsAnswering gives fault items g s w g2 s2 w2
-      so_far_stopped fault stops =
-          subst (λ l. StopsAnswering gives fault l g s w g2 s2 w2) (sym parted_on)
-          (stopped_more fault (so_far.done ++ x ∷ []) rest g g2 s s2 w w2
-          (stopped_then fault so_far.done (x ∷ []) g g1 g2 s s1 s2 w w1 w2 so_far.answered stops))
+    pub so_far_stopped : (fault : SessionFault) → StopsAnswering gives fault (x ∷ []) b c → StopsAnswering gives fault items a c
+    so_far_stopped fault stops =
+        subst (λ l. StopsAnswering gives fault l a c) (sym parted_on)
+        (stopped_more fault (so_far.done ++ x ∷ []) rest a c (stopped_then fault so_far.done (x ∷ []) a b c so_far.answered stops))

@@ -4,11 +4,11 @@ use Rattle.std.specs.Io.KnownBytes.{Keeps}
 use Rattle.private_store.specs.declared.frames.Item.{Item}
 use Rattle.private_store.specs.Frames.{End, clean, mid_frame, malformed}
 use Rattle.wire_frames.specs.Reading.{Reading, continued, answer_at, fed, told}
-use Rattle.session_engine.specs.declared.session.Seat.{Seat}
 use Rattle.session_engine.specs.declared.ending.SessionFault.{SessionFault}
 use Rattle.session_engine.specs.declared.ending.SessionFault.TheVariants.{Read, Write, Memory}
 use Rattle.session_engine.specs.declared.serving.Heard.TheVariants.{Items}
 use Rattle.session_engine.specs.Calls.{Asked, Answered}
+use Rattle.session_engine.specs.Sessions.{Standing, standing}
 use Rattle.session_engine.specs.Serving.{AnswersAll, not_a_frame}
 use Rattle.session_engine.specs.Hearing.{Flushes, StopsAnswering, HearsPiece}
 use Rattle.session_engine.proofs.Answering.{answered_kept, stopped_before, stopped_after}
@@ -23,20 +23,20 @@ answer_at-ok malformed (x ∷ xs) ys h = cc
 pub told_items : (reading : Reading) (piece : List ℕ) (items : List Item) (new : Reading) → fed reading piece ≡ told (Ok items) new → (continued reading piece).items ≡ items
 told_items reading piece items new h = answer_at-ok (continued reading piece).end (continued reading piece).items items (ap (λ f. f.answer) h)
 
-module _ {G : Type 0} (gives : G → Asked → Answered → G → Type 0) (reading : Reading) (piece : List ℕ) (g : G) (s : Option Seat) (w : Option (List ℕ)) (new : Reading) (g1 : G) (s1 : Option Seat) (w1 : Option (List ℕ)) where
-  module _ (items : List Item) (is_fed : fed reading piece ≡ told (Ok items) new) where
-    pub hears_items : (w2 : Option (List ℕ)) → AnswersAll gives items g s w g1 s1 w1 → Keeps w1 w2 → HearsPiece gives reading piece g s w new g1 s1 w2 (Ok Items)
-    hears_items w2 h k = record { items = items; is_fed = is_fed; answered = answered_kept gives items g g1 s s1 w w1 w2 h k }
+module _ {G : Type 0} (gives : G → Asked → Answered → G → Type 0) where
+  module _ (reading : Reading) (piece : List ℕ) (new : Reading) (a b : Standing G) (items : List Item) (is_fed : fed reading piece ≡ told (Ok items) new) where
+    pub hears_items : (w : Option (List ℕ)) → AnswersAll gives items a b → Keeps b.written w → HearsPiece gives reading piece new a (standing b.gate b.seat w) (Ok Items)
+    hears_items w h k = record { items = items; is_fed = is_fed; answered = answered_kept gives items a b w h k }
 
-    pub stops_in_items : (fault : SessionFault) → StopsAnswering gives fault items g s w g1 s1 w1 → HearsPiece gives reading piece g s w new g1 s1 w1 (Err fault)
-    stops_in_items fault h = subst (λ l. StopsAnswering gives fault l g s w g1 s1 w1) (sym (told_items reading piece items new is_fed)) h
+    pub stops_in_items : (fault : SessionFault) → StopsAnswering gives fault items a b → HearsPiece gives reading piece new a b (Err fault)
+    stops_in_items fault h = subst (λ l. StopsAnswering gives fault l a b) (sym (told_items reading piece items new is_fed)) h
 
-    pub stops_behind_items : (w2 : Option (List ℕ)) (fault : SessionFault) → AnswersAll gives items g s w g1 s1 w1 → Flushes w1 w2 (Err fault) → HearsPiece gives reading piece g s w new g1 s1 w2 (Err fault)
-    stops_behind_items w2 fault h k = subst (λ l. StopsAnswering gives fault l g s w g1 s1 w2) (sym (told_items reading piece items new is_fed)) (stopped_after gives fault items g g1 s s1 w w1 w2 h k)
+    pub stops_behind_items : (w : Option (List ℕ)) (fault : SessionFault) → AnswersAll gives items a b → Flushes b.written w (Err fault) → HearsPiece gives reading piece new a (standing b.gate b.seat w) (Err fault)
+    stops_behind_items w fault h k =
+        subst (λ l. StopsAnswering gives fault l a (standing b.gate b.seat w)) (sym (told_items reading piece items new is_fed)) (stopped_after gives fault items a b w h k)
 
--- the refusal of the stream may be kept back
-pub stops_behind_refusal : {G : Type 0} (gives : G → Asked → Answered → G → Type 0) (items : List Item) (g : G) (s : Option Seat) (w w1 w2 : Option (List ℕ)) (fault : SessionFault)
-    → Flushes w1 w2 (Err fault) → StopsAnswering gives fault items g s w g s w2
-stops_behind_refusal gives items g s w w1 w2 Read h = h
-stops_behind_refusal gives items g s w w1 w2 Write h = stopped_before gives Write items not_a_frame g s w w2 tt
-stops_behind_refusal gives items g s w w1 w2 Memory h = absurd h
+  -- the refusal of the stream may be kept back
+  pub stops_behind_refusal : (items : List Item) (a : Standing G) (w w1 : Option (List ℕ)) (fault : SessionFault) → Flushes w w1 (Err fault) → StopsAnswering gives fault items a (standing a.gate a.seat w1)
+  stops_behind_refusal items a w w1 Read h = h
+  stops_behind_refusal items a w w1 Write h = stopped_before gives Write items not_a_frame a w1 tt
+  stops_behind_refusal items a w w1 Memory h = absurd h

@@ -1,5 +1,5 @@
 -- A session so far, and how it ends.
-use Rattle.std.proofs.Common.{◌≡◌, ◌≢◌, ℕ, Bool, true, false, List, [], ◌∷◌, ◌++◌, Option, None, IfSome, Ok, Err, refl, sym, ap, subst, ◌∙◌, append-nil}
+use Rattle.std.proofs.Common.{◌≡◌, ◌≢◌, ℕ, Bool, true, false, List, [], ◌∷◌, ◌++◌, Option, IfSome, Ok, Err, refl, sym, ap, subst, ◌∙◌, append-nil}
 use Rattle.std.specs.Prelude.{if◌then◌else◌}
 use Rattle.std.specs.Io.KnownBytes.{Keeps, Consumes, IsAtEnd}
 use Rattle.std.proofs.lemmas.List.{append_cancel_left}
@@ -8,7 +8,6 @@ use Rattle.private_store.specs.declared.frames.Item.{Item}
 use Rattle.private_store.specs.Frames.{End, clean, mid_frame, malformed, stream_of}
 use Rattle.wire_frames.specs.Reading.{Reading, unfinished, continued, answer_at, fed, told, is_in_mid_frame, reading_at, reading_after}
 use Rattle.wire_frames.proofs.Pieces.{onward_at, stream_of-append}
-use Rattle.session_engine.specs.declared.session.Seat.{Seat}
 use Rattle.session_engine.specs.declared.ending.Ended.{Ended}
 use Rattle.session_engine.specs.declared.ending.Ended.TheVariants.{Clean, MidFrame, Malformed}
 use Rattle.session_engine.specs.declared.ending.SessionFault.{SessionFault}
@@ -16,12 +15,11 @@ use Rattle.session_engine.specs.declared.ending.SessionFault.TheVariants.{Read, 
 use Rattle.session_engine.specs.declared.serving.Heard.{Heard}
 use Rattle.session_engine.specs.declared.serving.Heard.TheVariants.{Items, NoFrame}
 use Rattle.session_engine.specs.Calls.{Asked, Answered}
+use Rattle.session_engine.specs.Sessions.{Standing}
 use Rattle.session_engine.specs.Serving.{AnswersAll, Concludes, EndsIn, AnswersInput, not_a_frame}
 use Rattle.session_engine.specs.Hearing.{StopsAnswering, Hears, HearsNoFrame, HearsPiece}
-use Rattle.session_engine.specs.Sessions.{Run}
-use Rattle.obj_id.specs.declared.commands.Reply.{Reply}
 use Rattle.session_engine.proofs.KnownBytes.{Consumes-none, Consumes-then, Consumes-kept, Consumes-all}
-use Rattle.session_engine.proofs.Answering.{Appends-replies, Appends-reply, answered_none, answered_then, stopped_then, no_memory_before}
+use Rattle.session_engine.proofs.Answering.{Appends-replies, Appends-reply, Run-same, answered_none, answered_then, stopped_then, no_memory_before}
 use Rattle.session_engine.proofs.Ends.{Leaves, leaves_stream}
 use Rattle.session_engine.proofs.Hearing.{told_items}
 
@@ -97,114 +95,110 @@ ended_in mid_frame (x ∷ xs) input bytes e r no_fault leaves all = (e, subst (�
 ended_in malformed rest input bytes e r no_fault leaves all = absurd (no_fault refl)
 
 -- all is answered, and nothing is added where the stream has no fault
-concluded : {G : Type 0} (gives : G → Asked → Answered → G → Type 0) (xs : List Item) (g g1 : G) (s s1 : Option Seat) (w w1 : Option (List ℕ)) (in_mid_frame : Bool)
-    → AnswersAll gives xs g s w g1 s1 w1 → Concludes gives (if in_mid_frame then MidFrame else Clean) xs g s w g1 s1 w1
-concluded gives xs g g1 s s1 w w1 true h = record { replies = h.replies; run = h.run; written = h.written }
-concluded gives xs g g1 s s1 w w1 false h = record { replies = h.replies; run = h.run; written = h.written }
-
-same_run : {G : Type 0} (gives : G → Asked → Answered → G → Type 0) (xs ys : List Item) (p : List (Reply (List ℕ))) (g g1 g2 : G) (s s1 s2 : Option Seat)
-    → Run gives xs p g s g1 s1 → ys ≡ xs → g2 ≡ g1 → s2 ≡ s1 → Run gives ys p g s g2 s2
-same_run gives xs ys p g g1 g2 s s1 s2 h items gate seat =
-    subst (λ l. Run gives l p g s g2 s2) (sym items) (subst (λ at. Run gives xs p g s g2 at) (sym seat) (subst (λ at. Run gives xs p g s at s1) (sym gate) h))
+concluded : {G : Type 0} (gives : G → Asked → Answered → G → Type 0) (xs : List Item) (a b : Standing G) (in_mid_frame : Bool) → AnswersAll gives xs a b → Concludes gives (if in_mid_frame then MidFrame else Clean) xs a b
+concluded gives xs a b true h = record { replies = h.replies; run = h.run; written = h.written }
+concluded gives xs a b false h = record { replies = h.replies; run = h.run; written = h.written }
 
 -- ---- a session so far
 
-module _ {G : Type 0} (gives : G → Asked → Answered → G → Type 0) (a w : Option (List ℕ)) (g : G) where
-  pub record Progress (frames : Reading) (a1 w1 : Option (List ℕ)) (g1 : G) (s1 : Option Seat) : Type 0 where
+module _ {G : Type 0} (gives : G → Asked → Answered → G → Type 0) (r : Option (List ℕ)) (a : Standing G) where
+  pub record Progress (frames : Reading) (r1 : Option (List ℕ)) (b : Standing G) : Type 0 where
     pub bytes : List ℕ
-    pub consumed : Consumes a a1 bytes
+    pub consumed : Consumes r r1 bytes
     pub reading : reading_after (stream_of bytes) ≡ frames
-    pub answered : AnswersAll gives (stream_of bytes).items g None w g1 s1 w1
+    pub answered : AnswersAll gives (stream_of bytes).items a b
 
-  pub begun : (s : Option Seat) → s ≡ None → Progress (unfinished []) a w g s
-  begun s none = subst (λ at. Progress (unfinished []) a w g at) (sym none) (record { bytes = []; consumed = Consumes-none a; reading = refl; answered = answered_none gives g None w })
+  pub begun : Progress (unfinished []) r a
+  begun = record { bytes = []; consumed = Consumes-none r; reading = refl; answered = answered_none gives a }
 
-  pub no_buffer : (s : Option Seat) → s ≡ None → AnswersInput gives g g s a a w w (Err Memory)
-  no_buffer s none =
-      subst (λ at. AnswersInput gives g g at a a w w (Err Memory)) (sym none)
-      (record { bytes = []; consumed = Consumes-none a; outcome = no_memory_before gives [] g None w })
+  pub no_buffer : AnswersInput gives a a r r (Err Memory)
+  no_buffer = record { bytes = []; consumed = Consumes-none r; outcome = no_memory_before gives [] a }
 
-  module _ (frames : Reading) (a1 w1 : Option (List ℕ)) (g1 : G) (s1 : Option Seat) (so_far : Progress frames a1 w1 g1 s1) where
-    pub reading_failed : (a2 : Option (List ℕ)) → Keeps a1 a2 → AnswersInput gives g g1 s1 a a2 w w1 (Err Read)
-    reading_failed a2 kept = record { bytes = so_far.bytes; consumed = Consumes-kept a a1 a2 so_far.bytes so_far.consumed kept; outcome = so_far.answered }
+  module _ (frames : Reading) (r1 : Option (List ℕ)) (b : Standing G) (so_far : Progress frames r1 b) where
+    pub reading_failed : (r2 : Option (List ℕ)) → Keeps r1 r2 → AnswersInput gives a b r r2 (Err Read)
+    reading_failed r2 kept = record { bytes = so_far.bytes; consumed = Consumes-kept r r1 r2 so_far.bytes so_far.consumed kept; outcome = so_far.answered }
 
-    module _ (a2 w2 : Option (List ℕ)) (g2 : G) (s2 : Option Seat) (frames2 : Reading) (piece : List ℕ) (read : Consumes a1 a2 piece) where
-      consumed_on : Consumes a a2 (so_far.bytes ++ piece)
-      consumed_on = Consumes-then a a1 a2 so_far.bytes piece so_far.consumed read
+    module _ (r2 : Option (List ℕ)) (c : Standing G) (frames2 : Reading) (piece : List ℕ) (read : Consumes r1 r2 piece) where
+      consumed_on : Consumes r r2 (so_far.bytes ++ piece)
+      consumed_on = Consumes-then r r1 r2 so_far.bytes piece so_far.consumed read
 
       items_on : (items : List Item) → (continued frames piece).items ≡ items → (stream_of (so_far.bytes ++ piece)).items ≡ (stream_of so_far.bytes).items ++ items
-      items_on items h = (goes_on so_far.bytes piece).items ∙ ap (λ l. (stream_of so_far.bytes).items ++ l) (ap (λ r. (continued r piece).items) so_far.reading ∙ h)
+      items_on items h = (goes_on so_far.bytes piece).items ∙ ap (λ l. (stream_of so_far.bytes).items ++ l) (ap (λ at. (continued at piece).items) so_far.reading ∙ h)
 
-      heard_items : Hears gives frames piece g1 s1 w1 frames2 g2 s2 w2 → Progress frames2 a2 w2 g2 s2
+      heard_items : Hears gives frames piece frames2 b c → Progress frames2 r2 c
       heard_items hears =
           record {
             bytes = so_far.bytes ++ piece;
             consumed = consumed_on;
-            reading = (goes_on so_far.bytes piece).reading ∙ ap (λ r. reading_after (continued r piece)) so_far.reading ∙ ap (λ f. f.reader) hears.is_fed;
+            reading = (goes_on so_far.bytes piece).reading ∙ ap (λ at. reading_after (continued at piece)) so_far.reading ∙ ap (λ f. f.reader) hears.is_fed;
             answered =
-                subst (λ l. AnswersAll gives l g None w g2 s2 w2) (sym (items_on hears.items (told_items frames piece hears.items frames2 hears.is_fed)))
-                (answered_then gives (stream_of so_far.bytes).items hears.items g g1 g2 None s1 s2 w w1 w2 so_far.answered hears.answered);
+                subst (λ l. AnswersAll gives l a c) (sym (items_on hears.items (told_items frames piece hears.items frames2 hears.is_fed)))
+                (answered_then gives (stream_of so_far.bytes).items hears.items a b c so_far.answered hears.answered);
           }
 
-      pub heard : (what : Heard) → what ≡ Items → HearsPiece gives frames piece g1 s1 w1 frames2 g2 s2 w2 (Ok what) → Progress frames2 a2 w2 g2 s2
+      pub heard : (what : Heard) → what ≡ Items → HearsPiece gives frames piece frames2 b c (Ok what) → Progress frames2 r2 c
       heard Items is hears = heard_items hears
       heard NoFrame is hears = absurd (let f : ⊥ = cc in f)
 
-      stopped : (fault : SessionFault) → StopsAnswering gives fault (continued frames piece).items g1 s1 w1 g2 s2 w2 → StopsAnswering gives fault (stream_of (so_far.bytes ++ piece)).items g None w g2 s2 w2
+      stopped : (fault : SessionFault) → StopsAnswering gives fault (continued frames piece).items b c → StopsAnswering gives fault (stream_of (so_far.bytes ++ piece)).items a c
       stopped fault stops =
-          subst (λ l. StopsAnswering gives fault l g None w g2 s2 w2) (sym (items_on (continued frames piece).items refl))
-          (stopped_then gives fault (stream_of so_far.bytes).items (continued frames piece).items g g1 g2 None s1 s2 w w1 w2 so_far.answered stops)
+          subst (λ l. StopsAnswering gives fault l a c) (sym (items_on (continued frames piece).items refl))
+          (stopped_then gives fault (stream_of so_far.bytes).items (continued frames piece).items a b c so_far.answered stops)
 
-      pub hearing_stopped : (fault : SessionFault) → StopsAnswering gives fault (continued frames piece).items g1 s1 w1 g2 s2 w2 → AnswersInput gives g g2 s2 a a2 w w2 (Err fault)
+      pub hearing_stopped : (fault : SessionFault) → StopsAnswering gives fault (continued frames piece).items b c → AnswersInput gives a c r r2 (Err fault)
       hearing_stopped Read stops = absurd stops
       hearing_stopped Write stops = record { bytes = so_far.bytes ++ piece; consumed = consumed_on; outcome = stopped Write stops }
       hearing_stopped Memory stops = record { bytes = so_far.bytes ++ piece; consumed = consumed_on; outcome = stopped Memory stops }
 
-      no_frame_told : HearsNoFrame gives frames piece g1 s1 w1 frames2 g2 s2 w2 → AnswersInput gives g g2 s2 a a2 w w2 (Ok Malformed)
+      no_frame_told : HearsNoFrame gives frames piece frames2 b c → AnswersInput gives a c r r2 (Ok Malformed)
       no_frame_told hears =
           let now = continued frames piece in
+          let before = (stream_of so_far.bytes).items in
+          let replies = so_far.answered.replies in
           let none : now.items ≡ [] = fault_items now.end now.items (ap (λ f. f.answer) hears.is_fed) in
           record {
             bytes = so_far.bytes ++ piece;
             consumed = consumed_on;
             outcome = (
-              (goes_on so_far.bytes piece).end ∙ ap (λ r. (continued r piece).end) so_far.reading ∙ fault_end now.end now.items (ap (λ f. f.answer) hears.is_fed),
+              (goes_on so_far.bytes piece).end ∙ ap (λ at. (continued at piece).end) so_far.reading ∙ fault_end now.end now.items (ap (λ f. f.answer) hears.is_fed),
               record {
-                replies = so_far.answered.replies;
-                run = same_run gives (stream_of so_far.bytes).items (stream_of (so_far.bytes ++ piece)).items so_far.answered.replies g g1 g2 None s1 s2 so_far.answered.run (items_on [] none ∙ append-nil (stream_of so_far.bytes).items) hears.gate hears.seat;
-                written = Appends-replies w w1 w2 so_far.answered.replies (not_a_frame ∷ []) so_far.answered.written (Appends-reply w1 w2 not_a_frame hears.written);
-              }
+                replies = replies;
+                run =
+                    Run-same gives before (stream_of (so_far.bytes ++ piece)).items replies a.gate b.gate c.gate a.seat b.seat c.seat
+                    so_far.answered.run (items_on [] none ∙ append-nil before) hears.gate hears.seat;
+                written = Appends-replies a.written b.written c.written replies (not_a_frame ∷ []) so_far.answered.written (Appends-reply b.written c.written not_a_frame hears.written);
+              },
             );
           }
 
-      pub no_frame_heard : (what : Heard) → what ≡ NoFrame → HearsPiece gives frames piece g1 s1 w1 frames2 g2 s2 w2 (Ok what) → AnswersInput gives g g2 s2 a a2 w w2 (Ok Malformed)
+      pub no_frame_heard : (what : Heard) → what ≡ NoFrame → HearsPiece gives frames piece frames2 b c (Ok what) → AnswersInput gives a c r r2 (Ok Malformed)
       no_frame_heard Items is hears = absurd (let f : ⊥ = cc in f)
       no_frame_heard NoFrame is hears = no_frame_told hears
 
-    module _ (w2 : Option (List ℕ)) (g2 : G) (s2 : Option Seat) (frames2 : Reading) (hears : Hears gives frames [] g1 s1 w1 frames2 g2 s2 w2) (end : IsAtEnd a1) where
-      last : Progress frames2 a1 w2 g2 s2
-      last = heard_items a1 w2 g2 s2 frames2 [] (Consumes-none a1) hears
+    module _ (c : Standing G) (frames2 : Reading) (hears : Hears gives frames [] frames2 b c) (end : IsAtEnd r1) where
+      last : Progress frames2 r1 c
+      last = heard_items r1 c frames2 [] (Consumes-none r1) hears
 
       told_at_last : fed (reading_after (stream_of so_far.bytes)) [] ≡ told (Ok hears.items) frames2
-      told_at_last = ap (λ r. fed r []) so_far.reading ∙ hears.is_fed
+      told_at_last = ap (λ at. fed at []) so_far.reading ∙ hears.is_fed
 
-      last_ended : (ended : Ended) → ended ≡ (if is_in_mid_frame frames2 then MidFrame else Clean) → AnswersInput gives g g2 s2 a a1 w w2 (Ok ended)
+      last_ended : (ended : Ended) → ended ≡ (if is_in_mid_frame frames2 then MidFrame else Clean) → AnswersInput gives a c r r1 (Ok ended)
       unfolding last heard_items
       last_ended ended is =
           let all = so_far.bytes ++ [] in
           let stream = stream_of all in
-          subst (λ e. AnswersInput gives g g2 s2 a a1 w w2 (Ok e)) (sym (is ∙ ap (λ r. if is_in_mid_frame r then MidFrame else Clean) (sym last.reading)))
+          subst (λ e. AnswersInput gives a c r r1 (Ok e)) (sym (is ∙ ap (λ at. if is_in_mid_frame at then MidFrame else Clean) (sym last.reading)))
           (record {
             bytes = all;
             consumed = last.consumed;
             outcome = (
-              ended_in stream.end stream.rest a all refl refl (no_fault so_far.bytes hears.items frames2 told_at_last) (leaves_stream all) (Consumes-all a a1 all last.consumed end),
-              concluded gives stream.items g g2 None s2 w w2 (is_in_mid_frame (reading_at stream.end stream.rest)) last.answered
+              ended_in stream.end stream.rest r all refl refl (no_fault so_far.bytes hears.items frames2 told_at_last) (leaves_stream all) (Consumes-all r r1 all last.consumed end),
+              concluded gives stream.items a c (is_in_mid_frame (reading_at stream.end stream.rest)) last.answered,
             );
           })
 
     -- nothing is left to read, and nothing waits to be told
-    pub input_ended : (w2 : Option (List ℕ)) (g2 : G) (s2 : Option Seat) (frames2 : Reading) (what : Heard) → what ≡ Items → HearsPiece gives frames [] g1 s1 w1 frames2 g2 s2 w2 (Ok what) → IsAtEnd a1
-        → (ended : Ended) → ended ≡ (if is_in_mid_frame frames2 then MidFrame else Clean) → AnswersInput gives g g2 s2 a a1 w w2 (Ok ended)
-    input_ended w2 g2 s2 frames2 Items is hears end ended ends = last_ended w2 g2 s2 frames2 hears end ended ends
-    input_ended w2 g2 s2 frames2 NoFrame is hears end ended ends = absurd (let f : ⊥ = cc in f)
+    pub input_ended : (c : Standing G) (frames2 : Reading) (what : Heard) → what ≡ Items → HearsPiece gives frames [] frames2 b c (Ok what) → IsAtEnd r1
+        → (ended : Ended) → ended ≡ (if is_in_mid_frame frames2 then MidFrame else Clean) → AnswersInput gives a c r r1 (Ok ended)
+    input_ended c frames2 Items is hears end ended ends = last_ended c frames2 hears end ended ends
+    input_ended c frames2 NoFrame is hears end ended ends = absurd (let f : ⊥ = cc in f)

@@ -12,7 +12,7 @@ use Rattle.session_engine.specs.declared.ending.Ended.TheVariants.{Clean, MidFra
 use Rattle.session_engine.specs.declared.ending.SessionFault.{SessionFault}
 use Rattle.session_engine.specs.declared.ending.SessionFault.TheVariants.{Read, Write, Memory}
 use Rattle.session_engine.specs.Calls.{Asked, Answered}
-use Rattle.session_engine.specs.Sessions.{Run, Leaves}
+use Rattle.session_engine.specs.Sessions.{Standing, standing, Run, Leaves}
 
 -- the refusal of what isn't a frame
 abbrev pub not_a_frame : Reply (List ℕ)
@@ -38,44 +38,44 @@ IsSent Memory written_old written_new sent = Appends written_old written_new (re
 
 module _ {G : Type 0} (gives : G → Asked → Answered → G → Type 0) where
   -- all items are answered, and the session ends so
-  pub record Concludes (ended : Ended) (items : List Item) (gate_old : G) (seat_old : Option Seat) (written_old : Option (List ℕ)) (gate_new : G) (seat_new : Option Seat) (written_new : Option (List ℕ)) : Type 0 where
+  pub record Concludes (ended : Ended) (items : List Item) (old new : Standing G) : Type 0 where
     pub replies : List (Reply (List ℕ))
-    pub run : Run gives items replies gate_old seat_old gate_new seat_new
-    pub written : Appends written_old written_new (replies_bytes (replies_at ended replies))
+    pub run : Run gives items replies old.gate old.seat new.gate new.seat
+    pub written : Appends old.written new.written (replies_bytes (replies_at ended replies))
 
   -- all items are answered, and nothing else is written
-  pub record AnswersAll (items : List Item) (gate_old : G) (seat_old : Option Seat) (written_old : Option (List ℕ)) (gate_new : G) (seat_new : Option Seat) (written_new : Option (List ℕ)) : Type 0 where
+  pub record AnswersAll (items : List Item) (old new : Standing G) : Type 0 where
     pub replies : List (Reply (List ℕ))
-    pub run : Run gives items replies gate_old seat_old gate_new seat_new
-    pub written : Appends written_old written_new (replies_bytes replies)
+    pub run : Run gives items replies old.gate old.seat new.gate new.seat
+    pub written : Appends old.written new.written (replies_bytes replies)
 
   -- a fault came: a beginning of the items is answered, and a beginning of the answers written
-  pub record StopsWithin (fault : SessionFault) (items : List Item) (gate_old : G) (seat_old : Option Seat) (written_old : Option (List ℕ)) (gate_new : G) (seat_new : Option Seat) (written_new : Option (List ℕ)) : Type 0 where
+  pub record StopsWithin (fault : SessionFault) (items : List Item) (old new : Standing G) : Type 0 where
     pub answered : List Item
     pub waiting : List Item
     pub parted : items ≡ answered ++ waiting
     pub sent : List (Reply (List ℕ))
     pub unsent : List (Reply (List ℕ))
-    pub run : Run gives answered (sent ++ unsent) gate_old seat_old gate_new seat_new
-    pub written : IsSent fault written_old written_new sent
+    pub run : Run gives answered (sent ++ unsent) old.gate old.seat new.gate new.seat
+    pub written : IsSent fault old.written new.written sent
 
   -- how a session ended or stopped that had read these bytes of its input
-  abbrev pub IsOutcome : List ℕ → Option (List ℕ) → G → Option (List ℕ) → G → Option Seat → Option (List ℕ) → Result Ended SessionFault → Type 0
-  IsOutcome bytes input gate_old written_old gate_new seat_new written_new (Ok ended) = EndsIn ended bytes input × Concludes ended (stream_of bytes).items gate_old None written_old gate_new seat_new written_new
-  IsOutcome bytes input gate_old written_old gate_new seat_new written_new (Err Read) = AnswersAll (stream_of bytes).items gate_old None written_old gate_new seat_new written_new
-  IsOutcome bytes input gate_old written_old gate_new seat_new written_new (Err Write) = StopsWithin Write (stream_of bytes).items gate_old None written_old gate_new seat_new written_new
-  IsOutcome bytes input gate_old written_old gate_new seat_new written_new (Err Memory) = StopsWithin Memory (stream_of bytes).items gate_old None written_old gate_new seat_new written_new
+  abbrev pub IsOutcome : List ℕ → Option (List ℕ) → Standing G → Standing G → Result Ended SessionFault → Type 0
+  IsOutcome bytes input old new (Ok ended) = EndsIn ended bytes input × Concludes ended (stream_of bytes).items old new
+  IsOutcome bytes input old new (Err Read) = AnswersAll (stream_of bytes).items old new
+  IsOutcome bytes input old new (Err Write) = StopsWithin Write (stream_of bytes).items old new
+  IsOutcome bytes input old new (Err Memory) = StopsWithin Memory (stream_of bytes).items old new
 
-  -- a session but for its Leave
-  pub record AnswersInput (gate_old gate_new : G) (seat_new : Option Seat) (read_old read_new written_old written_new : Option (List ℕ)) (result : Result Ended SessionFault) : Type 0 where
+  -- the input is answered
+  pub record AnswersInput (old new : Standing G) (read_old read_new : Option (List ℕ)) (result : Result Ended SessionFault) : Type 0 where
     -- what was read
     pub bytes : List ℕ
     pub consumed : Consumes read_old read_new bytes
-    pub outcome : IsOutcome bytes read_old gate_old written_old gate_new seat_new written_new result
+    pub outcome : IsOutcome bytes read_old old new result
 
-  -- a session to its end: the last that its gate is asked is the Leave
+  -- a session from its beginning, where it has no seat, to its end: the last that its gate is asked is the Leave
   pub record Served (gate_old gate_new : G) (read_old read_new written_old written_new : Option (List ℕ)) (result : Result Ended SessionFault) : Type 0 where
     pub gate_then : G
     pub seat_then : Option Seat
-    pub answered : AnswersInput gate_old gate_then seat_then read_old read_new written_old written_new result
+    pub answered : AnswersInput (standing gate_old None written_old) (standing gate_then seat_then written_new) read_old read_new result
     pub left : Leaves gives seat_then gate_then gate_new

@@ -23,6 +23,15 @@ abbrev pub seat_of : JobNo → Answered → Option Seat
 seat_of job (entered number) = Some (record { job = job; number = number })
 seat_of job (replied refused) = None
 
+-- where a session stands: its gate, its seat, and what its writer holds, where that is known
+pub record Standing (G : Type 0) : Type 0 where
+  pub gate : G
+  pub seat : Option Seat
+  pub written : Option (List ℕ)
+
+abbrev pub standing : {G : Type 0} → G → Option Seat → Option (List ℕ) → Standing G
+standing gate seat written = record { gate = gate; seat = seat; written = written }
+
 module _ {G : Type 0} (gives : G → Asked → Answered → G → Type 0) where
   -- the session answers by itself; neither its seat nor the gate changes
   pub record RefusesAlone (refusal : Refusal) (before : G) (seat : Option Seat) (answer : Reply (List ℕ)) (after : G) (seat_after : Option Seat) : Type 0 where

@@ -1,9 +1,10 @@
 //! A session from its first byte to its last.
-ghost use Rattle.std.specs.Prelude.{◌≡◌, ◌<◌, None, [], ◌∷◌, length, IsTrue, if◌then◌else◌};
+ghost use Rattle.std.specs.Prelude.{◌≡◌, ◌<◌, [], ◌∷◌, length, IsTrue, if◌then◌else◌};
 ghost use Rattle.wire_frames.specs.Reading.{is_in_mid_frame};
 ghost use Rattle.wire_frames.specs.Writing.{has_reply_frame};
 ghost use Rattle.session_engine.specs.Hearing.{Sends, Flushes, Answering, HearsPiece};
 ghost use Rattle.session_engine.specs.Serving.{AnswersInput, Served};
+ghost use Rattle.session_engine.specs.Sessions.{standing};
 
 use crate::session::{Seat, answer, leave};
 use crate::{Ended, Gate, SessionFault};
@@ -33,7 +34,8 @@ pub fn serve<R: Read, W: Write, G: Gate>(
     writer: &mut W,
     gate: &mut G,
 ) -> Result<Ended, SessionFault>
-    ensures { Served G.gives gate.old gate.new (R.remaining reader.old) (R.remaining reader.new) (W.contents writer.old) (W.contents writer.new) result }
+    ensures { Served G.gives gate.old gate.new (R.remaining reader.old) (R.remaining reader.new)
+        (W.contents writer.old) (W.contents writer.new) result }
 {
     let mut seat = None;
     let ended = answer_input(alloc, reader, writer, gate, &mut seat);
@@ -49,8 +51,9 @@ fn answer_input<R: Read, W: Write, G: Gate>(
     gate: &mut G,
     seat: &mut Option<Seat>,
 ) -> Result<Ended, SessionFault>
-    requires { seat.old ≡ None }
-    ensures { AnswersInput G.gives gate.old gate.new seat.new (R.remaining reader.old) (R.remaining reader.new) (W.contents writer.old) (W.contents writer.new) result }
+    ensures { AnswersInput G.gives (standing gate.old seat.old (W.contents writer.old))
+        (standing gate.new seat.new (W.contents writer.new))
+        (R.remaining reader.old) (R.remaining reader.new) result }
 {
     let Ok(mut buffer) = vec![in alloc; 0u8; PIECE_SIZE] else {
         return Err(SessionFault::Memory)
@@ -67,9 +70,10 @@ fn answer_pieces<R: Read, W: Write, G: Gate>(
     seat: &mut Option<Seat>,
     buffer: &mut [u8],
 ) -> Result<Ended, SessionFault>
-    requires seat { seat.old ≡ None }
-    requires buffer { 0 < length buffer.old }
-    ensures { AnswersInput G.gives gate.old gate.new seat.new (R.remaining reader.old) (R.remaining reader.new) (W.contents writer.old) (W.contents writer.new) result }
+    requires { 0 < length buffer.old }
+    ensures { AnswersInput G.gives (standing gate.old seat.old (W.contents writer.old))
+        (standing gate.new seat.new (W.contents writer.new))
+        (R.remaining reader.old) (R.remaining reader.new) result }
 {
     let mut frames = Reader::new(alloc);
     for _ in 0..u64::MAX {
@@ -115,7 +119,9 @@ fn hear<W: Write, G: Gate>(
     seat: &mut Option<Seat>,
     piece: &[u8],
 ) -> Result<Heard, SessionFault>
-    ensures { HearsPiece G.gives frames.old piece.now gate.old seat.old (W.contents writer.old) frames.new gate.new seat.new (W.contents writer.new) result }
+    ensures { HearsPiece G.gives frames.old piece.now frames.new
+        (standing gate.old seat.old (W.contents writer.old))
+        (standing gate.new seat.new (W.contents writer.new)) result }
 {
     match frames.feed(alloc, piece) {
         Ok(items) => {
@@ -140,7 +146,8 @@ fn answer_all<W: Write, G: Gate>(
     seat: &mut Option<Seat>,
     items: Vec<Item>,
 ) -> Result<(), SessionFault>
-    ensures { Answering G.gives items.items gate.old seat.old (W.contents writer.old) gate.new seat.new (W.contents writer.new) result }
+    ensures { Answering G.gives items.items (standing gate.old seat.old (W.contents writer.old))
+        (standing gate.new seat.new (W.contents writer.new)) result }
 {
     for item in items {
         answer_one(alloc, writer, gate, seat, item)?;
@@ -156,18 +163,15 @@ fn answer_one<W: Write, G: Gate>(
     seat: &mut Option<Seat>,
     item: Item,
 ) -> Result<(), SessionFault>
-    ensures { Answering G.gives (item ∷ []) gate.old seat.old (W.contents writer.old) gate.new seat.new (W.contents writer.new) result }
+    ensures { Answering G.gives (item ∷ []) (standing gate.old seat.old (W.contents writer.old))
+        (standing gate.new seat.new (W.contents writer.new)) result }
 {
     let reply = answer(gate, seat, item);
     send(alloc, writer, &reply)
 }
 
 /// Writes the reply's frame.
-fn send<W: Write>(
-    alloc: Global,
-    writer: &mut W,
-    reply: &Reply<Bytes>,
-) -> Result<(), SessionFault>
+fn send<W: Write>(alloc: Global, writer: &mut W, reply: &Reply<Bytes>) -> Result<(), SessionFault>
     requires { IsTrue (has_reply_frame reply.now) }
     ensures { Sends reply.now (W.contents writer.old) (W.contents writer.new) result }
 {

@@ -16,11 +16,7 @@ pub struct Seat {
 }
 
 /// The answer to an item: the gate's, or the session's own.
-pub(crate) fn answer<G: Gate>(
-    gate: &mut G,
-    seat: &mut Option<Seat>,
-    item: Item,
-) -> Reply<Bytes>
+pub(crate) fn answer<G: Gate>(gate: &mut G, seat: &mut Option<Seat>, item: Item) -> Reply<Bytes>
     ensures answer { AnswersItem G.gives gate.old seat.old item result gate.new seat.new }
     ensures frame { IsTrue (has_reply_frame result) }
 {
@@ -31,11 +27,7 @@ pub(crate) fn answer<G: Gate>(
 }
 
 /// The answer to an item before an accepted Hello.
-fn answer_outside<G: Gate>(
-    gate: &mut G,
-    seat: &mut Option<Seat>,
-    item: Item,
-) -> Reply<Bytes>
+fn answer_outside<G: Gate>(gate: &mut G, seat: &mut Option<Seat>, item: Item) -> Reply<Bytes>
     requires { seat.old ≡ None }
     ensures answer { AnswersItem G.gives gate.old None item result gate.new seat.new }
     ensures frame { IsTrue (has_reply_frame result) }
@@ -49,12 +41,7 @@ fn answer_outside<G: Gate>(
 }
 
 /// The answer to a Hello that may be accepted.
-fn enter<G: Gate>(
-    gate: &mut G,
-    seat: &mut Option<Seat>,
-    job: JobNo,
-    key: JobKey,
-) -> Reply<Bytes>
+fn enter<G: Gate>(gate: &mut G, seat: &mut Option<Seat>, job: JobNo, key: JobKey) -> Reply<Bytes>
     requires { seat.old ≡ None }
     ensures answer { AnswersItem G.gives gate.old None (Item.Hello job key) result gate.new seat.new }
     ensures frame { IsTrue (has_reply_frame result) }

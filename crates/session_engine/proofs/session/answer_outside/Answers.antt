@@ -8,4 +8,4 @@ returns-clause-answer g c = elim c.match-item.branch [
   | in-Command w ↦ rw w.in-Command.is (record { answered = w.result-is; gate = w.gate-is; same = w.seat-is ∙ c.requires })
   | in-Wait w ↦ rw w.in-Wait.is (record { answered = w.result-is; gate = w.gate-is; same = w.seat-is ∙ c.requires })
   | in-BadId w ↦ rw w.in-BadId.is (record { answered = w.result-is; gate = w.gate-is; same = w.seat-is ∙ c.requires })
-  ]
+]
