@@ -19,7 +19,7 @@ use wire_frames::{Reader, encode_reply};
 const PIECE_SIZE: usize = 65_536;
 
 /// What was heard in a piece of the input.
-#[derive(Clone, Copy, Debug, PartialEq, Eq)]
+#[derive(Clone, Copy, Debug)]
 pub enum Heard {
     /// Items, or none.
     Items,
@@ -27,7 +27,17 @@ pub enum Heard {
     NoFrame,
 }
 
-/// Serves a session to its end.
+/// Serves a session to its end: answers what the reader gives, item by item, and then asks the gate for
+/// the Leave of a session that has entered.
+///
+/// Before an accepted Hello a command is answered `NotAdmitted`, after it a Hello `Exists`; an id that
+/// can't be is answered `BadId` always, and all else by the gate. What isn't a frame is answered
+/// `Malformed`, once and last.
+///
+/// `Read` comes where a read fails, or is past the 18,446,744,073,709,551,615th: all that was read is
+/// answered then. `Write` comes where a write or a flush fails, and nothing is said of how much went out.
+/// `Memory` comes where the process has none for what is read or for an answer's frame: what was written
+/// then is the frames of the first replies.
 pub fn serve<R: Read, W: Write, G: Gate>(
     alloc: Global,
     reader: &mut R,

@@ -9,7 +9,7 @@ use obj_id::{Command, JobKey, JobNo, Refusal, Reply};
 use private_store::Item;
 
 /// Where a session sits that has entered: its job, and its number there.
-#[derive(Clone, Copy, Debug, PartialEq, Eq)]
+#[derive(Clone, Copy, Debug)]
 pub struct Seat {
     job: JobNo,
     number: u32,
