@@ -4,7 +4,7 @@ use Rattle.std.proofs.lemmas.List.{drop-append-le}
 use Rattle.private_store.specs.declared.frames.Item.{Item}
 use Rattle.private_store.specs.Frames.{End, clean, mid_frame, malformed, Stream, stopped, after_item, stream_of}
 use Rattle.wire_frames.specs.Heads.{after_items, cut_end}
-use Rattle.wire_frames.specs.Laws.{Feeding, feeding, given_by, items_in}
+use Rattle.wire_frames.specs.Laws.{Feeding, IsLessThanAFrame, feeding, given_by, items_in}
 use Rattle.wire_frames.specs.Reading.{Reading, unfinished, failed, answer_at, answer_of, continued, fed, reading_after}
 use Rattle.wire_frames.proofs.Streams.{HeadOf, cut, fault, whole, head_of}
 
@@ -28,19 +28,19 @@ onward-cut [] more = refl
 onward-cut (b ∷ bs) more = refl
 
 -- what is said of all that begins so is said of these bytes alone
-alone : (S : List ℕ → Stream) (bytes : List ℕ) → ((more : List ℕ) → stream_of (bytes ++ more) ≡ S (bytes ++ more)) → stream_of bytes ≡ S bytes
+pub alone : (S : List ℕ → Stream) (bytes : List ℕ) → ((more : List ℕ) → stream_of (bytes ++ more) ≡ S (bytes ++ more)) → stream_of bytes ≡ S bytes
 alone S bytes is = subst (λ b. stream_of b ≡ S b) (append-nil bytes) (is [])
 
 at_head : (n : ℕ) (bytes more : List ℕ) → length bytes < suc n → HeadOf bytes
     → ((others : List ℕ) → length others < n → stream_of (others ++ more) ≡ onward (stream_of others) more)
     → stream_of (bytes ++ more) ≡ onward (stream_of bytes) more
-at_head n bytes more h (cut is) later = sym (ap (λ s. onward s more) is ∙ onward-cut bytes more)
+at_head n bytes more h (cut short is) later = sym (ap (λ s. onward s more) is ∙ onward-cut bytes more)
 at_head n bytes more h (fault is) later = is more ∙ sym (ap (λ s. onward s more) (alone (λ b. stopped b malformed) bytes is))
-at_head n bytes more h (whole size x long is) later =
+at_head n bytes more h (whole size x at is) later =
     let rest = drop (4 + size) bytes in
-    let shorter : length rest < n = omega (arith, length-drop (4 + size) bytes) in
+    let shorter : length rest < n = omega (arith, at.whole, length-drop (4 + size) bytes) in
     is more
-    ∙ ap (λ b. after_item x (stream_of b)) (drop-append-le (4 + size) bytes more long)
+    ∙ ap (λ b. after_item x (stream_of b)) (drop-append-le (4 + size) bytes more at.whole)
     ∙ ap (after_item x) (later rest shorter)
     ∙ sym (onward_at-cons (stream_of rest).end x (stream_of rest).items (stream_of rest).rest more)
     ∙ sym (ap (λ s. onward s more) (alone (λ b. after_item x (stream_of (drop (4 + size) b))) bytes is))
@@ -60,7 +60,7 @@ given_onto items f = record { items = items ++ f.items; reader = f.reader }
 
 given-onward : (end : End) (items : List Item) (rest piece : List ℕ)
     → let s : Stream = record { items = items; rest = rest; end = end } in
-      given_by (onward s piece) ≡ given_onto items (given_by (continued (reading_after s) piece))
+    given_by (onward s piece) ≡ given_onto items (given_by (continued (reading_after s) piece))
 given-onward clean items rest piece = refl
 given-onward mid_frame items rest piece = refl
 given-onward malformed items rest piece = λ i. record { items = sym (append-nil items) i; reader = failed }
@@ -97,3 +97,25 @@ fed_on (piece ∷ pieces) before =
 -- a new reader gives the items of the whole stream, and keeps what the whole stream leaves
 pub feeding-stream : (pieces : List (List ℕ)) → feeding (unfinished []) pieces ≡ given_by (stream_of (flat_map (λ piece. piece) pieces))
 feeding-stream pieces = fed_on pieces []
+
+-- ---- what is kept
+
+kept_of_cut : (bytes : List ℕ) → length bytes < 65604 → IsLessThanAFrame (reading_after (stopped bytes (cut_end bytes)))
+kept_of_cut [] short = short
+kept_of_cut (b ∷ bs) short = short
+
+kept_at : (n : ℕ) (bytes : List ℕ) → length bytes < suc n → HeadOf bytes
+    → ((others : List ℕ) → length others < n → IsLessThanAFrame (reading_after (stream_of others))) → IsLessThanAFrame (reading_after (stream_of bytes))
+kept_at n bytes less (cut short is) later = subst (λ s. IsLessThanAFrame (reading_after s)) (sym is) (kept_of_cut bytes short)
+kept_at n bytes less (fault is) later = subst (λ s. IsLessThanAFrame (reading_after s)) (sym (alone (λ b. stopped b malformed) bytes is)) tt
+kept_at n bytes less (whole size x at is) later =
+    subst (λ s. IsLessThanAFrame (reading_after s)) (sym (alone (λ b. after_item x (stream_of (drop (4 + size) b))) bytes is))
+      (later (drop (4 + size) bytes) (omega (arith, at.whole, length-drop (4 + size) bytes)))
+
+kept_below : (n : ℕ) (bytes : List ℕ) → length bytes < n → IsLessThanAFrame (reading_after (stream_of bytes))
+kept_below zero bytes less = absurd (omega arith)
+kept_below (suc n) bytes less = kept_at n bytes less (head_of bytes) (kept_below n)
+
+-- less than a frame is kept
+pub IsLessThanAFrame-reading_after : (bytes : List ℕ) → IsLessThanAFrame (reading_after (stream_of bytes))
+IsLessThanAFrame-reading_after bytes = kept_below (suc (length bytes)) bytes (omega arith)

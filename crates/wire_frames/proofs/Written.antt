@@ -1,6 +1,6 @@
 -- What is written is read again.
 use Rattle.std.proofs.Common.{◌≡◌, ℕ, ◌+◌, ◌-◌, ◌<◌, ◌≤◌, ◌^◌, Bool, true, false, ◌&&◌, List, [], ◌∷◌, ◌++◌, length, take, drop, Option, Some, None, zero, suc, refl, sym, ap, subst, ◌∙◌, arith, append_assoc, append-nil, length-append, length-drop}
-use Rattle.std.specs.Prelude.{◌==◌, not, nat_le, if◌then◌else◌, slice_index}
+use Rattle.std.specs.Prelude.{◌==◌, All, flat_map, not, nat_le, if◌then◌else◌, slice_index}
 use Rattle.std.proofs.lemmas.Bool.Decides.{nat_tests}
 use Rattle.std.specs.Int.{from_be_bytes, w32}
 use Rattle.std.proofs.Math.Seq.{drop-append_seam, take-append_seam, get_or-append_seam}
@@ -13,7 +13,19 @@ use Rattle.obj_id.specs.declared.commands.Kind.{Kind}
 use Rattle.obj_id.specs.declared.commands.Kind.TheVariants.{Primary, Secondary}
 use Rattle.private_store.specs.declared.frames.Item.{Item}
 use Rattle.private_store.specs.declared.frames.Item.TheVariants as item
-use Rattle.private_store.specs.Frames.{be4, create_body, id_at, is_id, kind_byte, kind_of, number_at, range_body, task_at, with_id}
+use Rattle.private_store.specs.Frames.{be4, command_body, create_body, id_at, is_create, is_id, item_of, kind_byte, kind_of, number_at, range_body, stream_of, task_at, with_id, after_item, awaited_body, is_command_length, item_frame, frame as frame_of_body}
+use Rattle.obj_id.specs.declared.commands.Command.{Command}
+use Rattle.obj_id.specs.declared.commands.Command.TheVariants as command
+use Rattle.wire_frames.specs.Items.{HasFrame, IsAwaited, IsCommand}
+use Rattle.wire_frames.specs.Heads.{after_items}
+use Rattle.wire_frames.specs.declared.kinds.FrameKind.TheVariants as frame
+use Rattle.wire_frames.specs.declared.kinds.ObjectKind.TheVariants as object
+use Rattle.wire_frames.proofs.KindTables.{item_of-byte_of}
+use Rattle.std.proofs.lemmas.Bool.{and_parts, le-leb, leb-true}
+use Rattle.wire_frames.proofs.Streams.{IsHead, stream_of-head}
+use Rattle.obj_id.specs.declared.works.JobKey.{JobKey}
+use Rattle.private_store.specs.declared.frames.Awaited.{Awaited}
+use Rattle.private_store.specs.declared.frames.Awaited.TheVariants as awaited
 use Rattle.wire_frames.specs.Kinds.{fits, read_about, said}
 use Rattle.wire_frames.specs.declared.kinds.ObjectKind.{ObjectKind}
 
@@ -96,3 +108,179 @@ number_behind id n rest is small = number_back (id_bytes id) n rest 28 (length-i
 
 number_fits : (id : ObjectId) (n : ℕ) → IsId id → (length (id_bytes id ++ be4 n) == 32) ≡ true
 number_fits id n is = is_of_length (id_bytes id ++ be4 n) 32 (omega (arith, length-id_bytes id is, length-append (id_bytes id) (be4 n)))
+
+-- an id and two numbers
+abbrev pub two : ObjectId → ℕ → List ℕ → List ℕ
+two id offset rest = (id_bytes id ++ be4 offset) ++ rest
+
+two_parts : (id : ObjectId) (offset : ℕ) (rest : List ℕ) → id_bytes id ++ (be4 offset ++ rest) ≡ two id offset rest
+two_parts id offset rest = sym (append_assoc (id_bytes id) (be4 offset) rest)
+
+front_of_two : (id : ObjectId) (offset : ℕ) → IsId id → length (id_bytes id ++ be4 offset) ≡ 32
+front_of_two id offset is = omega (arith, length-id_bytes id is, length-append (id_bytes id) (be4 offset))
+
+first_of_two : (id : ObjectId) (offset : ℕ) (rest : List ℕ) → IsId id → offset < 2 ^ 32 → number_at (two id offset rest) 28 ≡ offset
+first_of_two id offset rest is small = subst (λ b. number_at b 28 ≡ offset) (two_parts id offset rest) (number_behind id offset rest is small)
+
+read_about-two : (kind : ObjectKind) (id : ObjectId) (offset : ℕ) (rest : List ℕ) → IsId id → fits kind (two id offset rest) ≡ true
+    → read_about kind (two id offset rest) ≡ Some (said kind id (two id offset rest))
+read_about-two kind id offset rest is fit =
+    let parts = two_parts id offset rest in
+    subst (λ b. read_about kind b ≡ Some (said kind id b)) parts (read_about-written kind id (be4 offset ++ rest) is (ap (fits kind) parts ∙ fit))
+
+range_fits : (id : ObjectId) (offset n : ℕ) → IsId id → (length (range_body id offset n) == 36) ≡ true
+range_fits id offset n is = is_of_length (range_body id offset n) 36 (omega (arith, front_of_two id offset is, length-append (id_bytes id ++ be4 offset) (be4 n)))
+
+second_of_two : (id : ObjectId) (offset n : ℕ) → IsId id → n < 2 ^ 32 → number_at (range_body id offset n) 32 ≡ n
+second_of_two id offset n is small = number_back (id_bytes id ++ be4 offset) n [] 32 (front_of_two id offset is) small
+
+bytes_behind : (id : ObjectId) (offset : ℕ) (bytes : List ℕ) → IsId id → drop 32 (two id offset bytes) ≡ bytes
+bytes_behind id offset bytes is = back (id_bytes id ++ be4 offset) bytes 32 (front_of_two id offset is)
+
+write_fits : (id : ObjectId) (offset : ℕ) (bytes : List ℕ) → IsId id → nat_le 32 (length (two id offset bytes)) ≡ true
+write_fits id offset bytes is = le-leb 32 (length (two id offset bytes)) (omega (arith, front_of_two id offset is, length-append (id_bytes id ++ be4 offset) bytes))
+
+-- a copy to be made
+kind_behind : (id : ObjectId) (kind : Kind) (n : ℕ) → IsId id → slice_index (create_body id kind n) 28 ≡ kind_byte kind
+kind_behind id kind n is = subst (λ k. slice_index (create_body id kind n) k ≡ kind_byte kind) (length-id_bytes id is) (get_or-append_seam (id_bytes id) (kind_byte kind) (be4 n) 0)
+
+kind_of-kind_byte : (kind : Kind) → kind_of (kind_byte kind) ≡ kind
+kind_of-kind_byte Primary = refl
+kind_of-kind_byte Secondary = refl
+
+is_kind_byte : (kind : Kind) → nat_le (kind_byte kind) 1 ≡ true
+is_kind_byte Primary = refl
+is_kind_byte Secondary = refl
+
+create_fits : (id : ObjectId) (kind : Kind) (n : ℕ) → IsId id → (is_create (create_body id kind n) && (length (create_body id kind n) == 33)) ≡ true
+create_fits id kind n is =
+    let there : is_create (create_body id kind n) ≡ true = ap (λ b. nat_le b 1) (kind_behind id kind n is) ∙ is_kind_byte kind in
+    let long : length (create_body id kind n) ≡ 33 = omega (arith, length-id_bytes id is, length-append (id_bytes id) (kind_byte kind ∷ be4 n)) in
+    rw (there, is_of_length (create_body id kind n) 33 long)
+
+length_behind : (id : ObjectId) (kind : Kind) (n : ℕ) → IsId id → n < 2 ^ 32 → number_at (create_body id kind n) 29 ≡ n
+length_behind id kind n is small =
+    let front = id_bytes id ++ kind_byte kind ∷ [] in
+    let long : length front ≡ 29 = omega (arith, length-id_bytes id is, length-append (id_bytes id) (kind_byte kind ∷ [])) in
+    ap (λ b. number_at b 29) (sym (append_assoc (id_bytes id) (kind_byte kind ∷ []) (be4 n))) ∙ number_back front n [] 29 long small
+
+kind_read : (id : ObjectId) (kind : Kind) (n : ℕ) → IsId id → kind_of (slice_index (create_body id kind n) 28) ≡ kind
+kind_read id kind n is = ap kind_of (kind_behind id kind n is) ∙ kind_of-kind_byte kind
+
+-- ---- what is written is read
+
+-- the body of a command is read as that command
+pub item_of-command_body : (c : Command (List ℕ)) → IsCommand c → item_of (slice_index (command_body c) 0) (drop 1 (command_body c)) ≡ Some (item.Command c)
+item_of-command_body (command.Create id kind n) is =
+    item_of-byte_of (frame.About object.Create) (create_body id kind n)
+    ∙ read_about-written object.Create id (kind_byte kind ∷ be4 n) is.0 (create_fits id kind n is.0)
+    ∙ (λ i. Some (item.Command (command.Create id (kind_read id kind n is.0 i) (length_behind id kind n is.0 is.1 i))))
+item_of-command_body (command.Write id offset bytes) is =
+    read_about-two object.Write id offset bytes is.0 (write_fits id offset bytes is.0)
+    ∙ (λ i. Some (item.Command (command.Write id (first_of_two id offset bytes is.0 is.1 i) (bytes_behind id offset bytes is.0 i))))
+item_of-command_body (command.Seal id) is = alone object.Seal id is (alone_fits id is)
+item_of-command_body (command.Get id) is = alone object.Get id is (alone_fits id is)
+item_of-command_body (command.Read id offset n) is =
+    read_about-two object.Read id offset (be4 n) is.0 (range_fits id offset n is.0)
+    ∙ (λ i. Some (item.Command (command.Read id (first_of_two id offset (be4 n) is.0 is.1 i) (second_of_two id offset n is.0 is.2 i))))
+item_of-command_body (command.Release id) is = alone object.Release id is (alone_fits id is)
+item_of-command_body (command.Unpin id task) is =
+    read_about-written object.Unpin id task.0 is.0 (task_fits id task is.0 is.1) ∙ ap (λ t. Some (item.Command (command.Unpin id t))) (task_behind id task is.0 is.1)
+item_of-command_body (command.Borrow id task) is =
+    read_about-written object.Borrow id task.0 is.0 (task_fits id task is.0 is.1) ∙ ap (λ t. Some (item.Command (command.Borrow id t))) (task_behind id task is.0 is.1)
+item_of-command_body (command.GiveUp id task) is =
+    read_about-written object.GiveUp id task.0 is.0 (task_fits id task is.0 is.1) ∙ ap (λ t. Some (item.Command (command.GiveUp id t))) (task_behind id task is.0 is.1)
+item_of-command_body (command.Delete id) is = alone object.Delete id is (alone_fits id is)
+item_of-command_body (command.EndTask task) is =
+    let body : task_at task.0 0 ≡ task = ap (λ b. task_at b 0) (sym (append-nil task.0)) ∙ task_back [] task [] 0 refl is in
+    ap (λ b. if b then Some (item.Command (command.EndTask (task_at task.0 0))) else None) (is_of_length task.0 20 is.task_length)
+    ∙ ap (λ t. Some (item.Command (command.EndTask t))) body
+item_of-command_body (command.Grant id target) is =
+    read_about-written object.Grant id (be4 target.0) is.0 (number_fits id target.0 is.0)
+    ∙ ap (λ n. Some (item.Command (command.Grant id (record { 0 = n })))) (number_behind id target.0 [] is.0 is.1)
+item_of-command_body (command.Withdraw id target) is =
+    read_about-written object.Withdraw id (be4 target.0) is.0 (number_fits id target.0 is.0)
+    ∙ ap (λ n. Some (item.Command (command.Withdraw id (record { 0 = n })))) (number_behind id target.0 [] is.0 is.1)
+item_of-command_body (command.Peek id offset n) is =
+    read_about-two object.Peek id offset (be4 n) is.0 (range_fits id offset n is.0)
+    ∙ (λ i. Some (item.Command (command.Peek id (first_of_two id offset (be4 n) is.0 is.1 i) (second_of_two id offset n is.0 is.2 i))))
+item_of-command_body command.List is = refl
+item_of-command_body command.Usage is = refl
+item_of-command_body command.Leave is = refl
+
+item_of-awaited_body : (c : Awaited) → IsAwaited c → item_of (slice_index (awaited_body c) 0) (drop 1 (awaited_body c)) ≡ Some (item.Wait c)
+item_of-awaited_body (awaited.Get id) is = alone object.GetWait id is (alone_fits id is)
+item_of-awaited_body (awaited.Create id kind n) is =
+    item_of-byte_of (frame.About object.CreateWait) (create_body id kind n)
+    ∙ read_about-written object.CreateWait id (kind_byte kind ∷ be4 n) is.0 (create_fits id kind n is.0)
+    ∙ (λ i. Some (item.Wait (awaited.Create id (kind_read id kind n is.0 i) (length_behind id kind n is.0 is.1 i))))
+
+item_of-hello : (job : JobNo) (key : JobKey) → job.0 < 2 ^ 32 → length key.0 ≡ 32 → item_of 0x01 (be4 job.0 ++ key.0) ≡ Some (item.Hello job key)
+item_of-hello job key small long =
+    let body = be4 job.0 ++ key.0 in
+    ap (λ b. if b then Some (item.Hello (record { 0 = number_at body 0 }) (record { 0 = drop 4 body })) else None)
+    (is_of_length body 36 (omega (arith, length-append (be4 job.0) key.0)))
+    ∙ ap (λ n. Some (item.Hello (record { 0 = n }) key)) (from_be_bytes-to_be_bytes_4 job.0 small)
+
+-- ---- frames
+
+-- a frame that is read so stands at the head of the stream
+framed : (kind : ℕ) (body : List ℕ) (x : Item) (rest : List ℕ) → is_command_length (suc (length body)) ≡ true → item_of kind body ≡ Some x
+    → stream_of (frame_of_body (kind ∷ body) ++ rest) ≡ after_item x (stream_of rest)
+framed kind body x rest in_range read =
+    let size = suc (length body) in
+    let small : size < 2 ^ 32 = omega (arith, leb-true size 65600 (and_parts (nat_le 1 size) (nat_le size 65600) in_range).1) in
+    let bytes = frame_of_body (kind ∷ body) ++ rest in
+    let one_less : size - 1 ≡ length body = omega arith in
+    let taken : take (size - 1) (body ++ rest) ≡ body = ap (λ k. take k (body ++ rest)) one_less ∙ take-append_seam body rest in
+    stream_of-head bytes size (Some x) (record {
+      number = from_be_bytes-to_be_bytes_4 size small;
+      in_range = in_range;
+      whole = omega (arith, length-append body rest);
+      reads = ap (item_of kind) taken ∙ read;
+    })
+    ∙ ap (λ b. after_item x (stream_of b)) (back (frame_of_body (kind ∷ body)) rest (4 + size) (omega arith))
+
+command_parts : (c : Command (List ℕ)) → command_body c ≡ slice_index (command_body c) 0 ∷ drop 1 (command_body c)
+command_parts (command.Create id kind n) = refl
+command_parts (command.Write id offset bytes) = refl
+command_parts (command.Seal id) = refl
+command_parts (command.Get id) = refl
+command_parts (command.Read id offset n) = refl
+command_parts (command.Release id) = refl
+command_parts (command.Unpin id task) = refl
+command_parts (command.Borrow id task) = refl
+command_parts (command.GiveUp id task) = refl
+command_parts (command.Delete id) = refl
+command_parts (command.EndTask task) = refl
+command_parts (command.Grant id target) = refl
+command_parts (command.Withdraw id target) = refl
+command_parts (command.Peek id offset n) = refl
+command_parts command.List = refl
+command_parts command.Usage = refl
+command_parts command.Leave = refl
+
+awaited_parts : (c : Awaited) → awaited_body c ≡ slice_index (awaited_body c) 0 ∷ drop 1 (awaited_body c)
+awaited_parts (awaited.Get id) = refl
+awaited_parts (awaited.Create id kind n) = refl
+
+in_parts : (body : List ℕ) (x : Item) (rest : List ℕ) → body ≡ slice_index body 0 ∷ drop 1 body → is_command_length (length body) ≡ true
+    → item_of (slice_index body 0) (drop 1 body) ≡ Some x → stream_of (frame_of_body body ++ rest) ≡ after_item x (stream_of rest)
+in_parts body x rest parts in_range read =
+    ap (λ b. stream_of (frame_of_body b ++ rest)) parts
+    ∙ framed (slice_index body 0) (drop 1 body) x rest (ap (λ b. is_command_length (length b)) (sym parts) ∙ in_range) read
+
+stream_of-item_frame : (x : Item) (rest : List ℕ) → HasFrame x → stream_of (item_frame x ++ rest) ≡ after_item x (stream_of rest)
+stream_of-item_frame (item.Hello job key) rest h = framed 1 (be4 job.0 ++ key.0) (item.Hello job key) rest h.fits (item_of-hello job key h.well.0 h.well.1)
+stream_of-item_frame (item.Command c) rest h = in_parts (command_body c) (item.Command c) rest (command_parts c) h.fits (item_of-command_body c h.well)
+stream_of-item_frame (item.Wait c) rest h = in_parts (awaited_body c) (item.Wait c) rest (awaited_parts c) h.fits (item_of-awaited_body c h.well)
+stream_of-item_frame item.BadId rest h = absurd h.well
+
+-- the frames of items are read as these items, whatever follows
+pub stream_of-item_frames : (items : List Item) (rest : List ℕ) → All HasFrame items
+    → stream_of (flat_map item_frame items ++ rest) ≡ after_items items (stream_of rest)
+stream_of-item_frames [] rest h = refl
+stream_of-item_frames (x ∷ xs) rest h =
+    ap stream_of (append_assoc (item_frame x) (flat_map item_frame xs) rest)
+    ∙ stream_of-item_frame x (flat_map item_frame xs ++ rest) (h 0 x (omega arith))
+    ∙ ap (after_item x) (stream_of-item_frames xs rest (λ k d less. h (suc k) d (omega arith)))

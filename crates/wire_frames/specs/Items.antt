@@ -1,5 +1,5 @@
--- What a program's items are, and their frames one after the other.
-use Rattle.std.specs.Prelude.{◌≡◌, ℕ, ◌<◌, ◌^◌, Bool, List, length, flat_map}
+-- What a program's items are, and which of them have a frame.
+use Rattle.std.specs.Prelude.{◌≡◌, ℕ, ◌<◌, ◌^◌, Bool, true, false, List, length, slice_index}
 use Rattle.obj_id.specs.Ids.{IsId, IsTask}
 use Rattle.obj_id.specs.declared.commands.Command.{Command}
 use Rattle.obj_id.specs.declared.commands.Command.TheVariants as command
@@ -7,7 +7,7 @@ use Rattle.private_store.specs.declared.frames.Awaited.{Awaited}
 use Rattle.private_store.specs.declared.frames.Awaited.TheVariants as awaited
 use Rattle.private_store.specs.declared.frames.Item.{Item}
 use Rattle.private_store.specs.declared.frames.Item.TheVariants as item
-use Rattle.private_store.specs.Frames.{item_frame}
+use Rattle.wire_frames.specs.Writing.{has_command_frame}
 
 -- ids with a job and an index of at least 1, tasks of 20 bytes, numbers of 32 bits
 abbrev pub IsCommand : Command (List ℕ) → Type 0
@@ -39,3 +39,16 @@ IsItem (item.Hello job key) = (job.0 < 2 ^ 32) × (length key.0 ≡ 32)
 IsItem (item.Command c) = IsCommand c
 IsItem (item.Wait c) = IsAwaited c
 IsItem item.BadId = ⊥
+
+-- what has a frame
+pub record HasFrame (x : Item) : Type 0 where
+  pub well : IsItem x
+  pub fits : has_command_frame x ≡ true
+
+abbrev pub AreBytes : List ℕ → Type 0
+AreBytes bytes = (i : ℕ) → slice_index bytes i < 256
+
+-- of an item that is BadId nothing is known but that
+abbrev pub is_bad_id : Item → Bool
+is_bad_id item.BadId = true
+is_bad_id _ = false

@@ -1,9 +1,9 @@
 -- Streams in pieces.
-use Rattle.std.specs.Prelude.{ℕ, List, [], ◌∷◌, ◌++◌, Result, Ok, Err}
+use Rattle.std.specs.Prelude.{ℕ, ◌<◌, length, List, [], ◌∷◌, ◌++◌, Result, Ok, Err}
 use Rattle.obj_id.specs.declared.refusals.Refusal.{Refusal}
 use Rattle.private_store.specs.declared.frames.Item.{Item}
 use Rattle.private_store.specs.Frames.{Stream}
-use Rattle.wire_frames.specs.Reading.{Reading, fed, reading_after}
+use Rattle.wire_frames.specs.Reading.{Reading, unfinished, failed, fed, reading_after}
 
 -- pieces fed one after the other: all items that were answered, and what the reader keeps
 pub record Feeding : Type 0 where
@@ -23,3 +23,8 @@ feeding reader (piece ∷ pieces) =
 -- what a stream gives, and what a reader keeps behind it
 abbrev pub given_by : Stream → Feeding
 given_by stream = record { items = stream.items; reader = reading_after stream }
+
+-- a frame has 65,604 bytes at most, with its length
+abbrev pub IsLessThanAFrame : Reading → Type 0
+IsLessThanAFrame (unfinished bytes) = length bytes < 65604
+IsLessThanAFrame failed = Unit {0}

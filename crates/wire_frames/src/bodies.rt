@@ -99,22 +99,31 @@ fn about_object(
     ensures { IfOk result (λ item. item ≡ said kind id body.now) }
 {
     match kind {
-        ObjectKind::Create => Ok(Item::Command(Command::Create(id, kind_at(body), number_at(body, 29)))),
+        ObjectKind::Create => {
+            let kind = kind_at(body);
+            Ok(Item::Command(Command::Create(id, kind, number_at(body, 29))))
+        }
         ObjectKind::Write => {
             let bytes = Bytes::copy_from_slice(alloc, &body[32..])?;
             Ok(Item::Command(Command::Write(id, number_at(body, 28), bytes)))
         }
         ObjectKind::Seal => Ok(Item::Command(Command::Seal(id))),
         ObjectKind::Get => Ok(Item::Command(Command::Get(id))),
-        ObjectKind::Read => Ok(Item::Command(Command::Read(id, number_at(body, 28), number_at(body, 32)))),
+        ObjectKind::Read => {
+            let offset = number_at(body, 28);
+            Ok(Item::Command(Command::Read(id, offset, number_at(body, 32))))
+        }
         ObjectKind::Release => Ok(Item::Command(Command::Release(id))),
         ObjectKind::Unpin => Ok(Item::Command(Command::Unpin(id, task_at(body, 28)))),
         ObjectKind::Borrow => Ok(Item::Command(Command::Borrow(id, task_at(body, 28)))),
         ObjectKind::GiveUp => Ok(Item::Command(Command::GiveUp(id, task_at(body, 28)))),
         ObjectKind::Delete => Ok(Item::Command(Command::Delete(id))),
-        ObjectKind::Grant => Ok(Item::Command(Command::Grant(id, JobNo(number_at(body, 28))))),
-        ObjectKind::Withdraw => Ok(Item::Command(Command::Withdraw(id, JobNo(number_at(body, 28))))),
-        ObjectKind::Peek => Ok(Item::Command(Command::Peek(id, number_at(body, 28), number_at(body, 32)))),
+        ObjectKind::Grant => Ok(Item::Command(Command::Grant(id, target_at(body)))),
+        ObjectKind::Withdraw => Ok(Item::Command(Command::Withdraw(id, target_at(body)))),
+        ObjectKind::Peek => {
+            let offset = number_at(body, 28);
+            Ok(Item::Command(Command::Peek(id, offset, number_at(body, 32))))
+        }
         ObjectKind::GetWait => Ok(Item::Wait(Awaited::Get(id))),
         ObjectKind::CreateWait => {
             let kind = kind_at(body);
@@ -150,6 +159,14 @@ pub(crate) fn number_at(body: &[u8], at: usize) -> u32
     let mut number = [0; 4];
     number.copy_from_slice(&body[at..at + 4]);
     u32::from_be_bytes(number)
+}
+
+/// The job behind the id.
+fn target_at(body: &[u8]) -> JobNo
+    requires { 32 ≤ length body.now }
+    ensures { result.0 ≡ number_at_lem body.now 28 }
+{
+    JobNo(number_at(body, 28))
 }
 
 /// The copy kind of a body that creates.

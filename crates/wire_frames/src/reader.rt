@@ -1,16 +1,19 @@
 //! A reader of a stream that comes in pieces.
-ghost use Rattle.std.specs.Prelude.{◌≡◌, ◌⊎◌, [], Ok, Err, IfOk, IfErr};
+ghost use Rattle.std.specs.Prelude.{◌≡◌, ◌⊎◌, ◌++◌, [], Ok, Err, IfOk, IfErr, OnErr};
 ghost use Rattle.obj_id.specs.declared.refusals.Refusal.TheVariants.{Malformed, NoMemory};
+ghost use Rattle.private_store.specs.Frames.{stream_of};
+ghost use Rattle.wire_frames.specs.Heads.{stream_read};
 ghost use Rattle.wire_frames.specs.Reading.{failed, unfinished, fed, told, is_in_mid_frame};
 
-use crate::frames::read_frames;
+use crate::frames::{Frames, read_frames};
 use bytes::BytesMut;
 use obj_id::Refusal;
 use private_store::Item;
-use std::alloc::Global;
+use std::alloc::{AllocError, Global};
 use std::marker::Model;
 
-/// Reads the frames of a stream, whatever the pieces in which it comes. It keeps the bytes of one frame at most.
+/// Reads the frames of a stream, whatever the pieces in which it comes. Between two pieces it keeps the bytes of a
+/// frame that isn't whole, and no more.
 #[derive(Drop)]
 pub struct Reader {
     // the bytes of a frame that isn't whole yet
@@ -54,19 +57,9 @@ impl Reader {
         if self.failed {
             return Err(Refusal::Malformed);
         }
-        let kept = self.rest.len();
-        self.rest.extend_from_slice(piece)?;
-        let Ok(frames) = read_frames(alloc, self.rest.as_slice()) else {
-            self.rest.truncate(kept);
-            return Err(Refusal::NoMemory);
-        };
-        if !frames.faulty {
-            self.rest.advance(frames.used);
-            return Ok(frames.items);
-        }
-        self.failed = true;
-        self.rest.clear();
-        if frames.items.is_empty() {
+        let frames = read_on(alloc, &mut self.rest, piece)?;
+        self.failed = frames.faulty;
+        if frames.faulty && frames.items.is_empty() {
             return Err(Refusal::Malformed);
         }
         Ok(frames.items)
@@ -77,5 +70,30 @@ impl Reader {
         ensures { result ≡ is_in_mid_frame self.now }
     {
         self.failed || !self.rest.is_empty()
+    }
+}
+
+/// Reads the whole frames of what was kept and of the piece behind it, and keeps what is left. Where nothing was
+/// kept they are read from the piece itself. Want of memory leaves what was kept.
+fn read_on(alloc: Global, kept: &mut BytesMut, piece: &[u8]) -> Result<Frames, AllocError>
+    ensures stream { IfOk result (λ f. stream_of (kept.old.items ++ piece.now) ≡ stream_read f.items.items f.faulty kept.new.items) }
+    ensures err { OnErr result (kept.new.items ≡ kept.old.items) }
+{
+    if kept.is_empty() {
+        let frames = read_frames(alloc, piece)?;
+        kept.extend_from_slice(&piece[frames.used..])?;
+        return Ok(frames);
+    }
+    let length = kept.len();
+    kept.extend_from_slice(piece)?;
+    match read_frames(alloc, kept.as_slice()) {
+        Ok(frames) => {
+            kept.advance(frames.used);
+            Ok(frames)
+        }
+        Err(error) => {
+            kept.truncate(length);
+            Err(error)
+        }
     }
 }

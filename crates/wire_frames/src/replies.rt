@@ -17,7 +17,11 @@ pub fn encode_reply(alloc: Global, reply: &Reply<Bytes>) -> Result<Vec<u8>, Allo
 {
     match reply {
         Reply::Ok => frame_of(alloc, 0x80, &[]),
-        Reply::Placed(offset, extent) => frame_of(alloc, 0x81, &[&offset.to_be_bytes(), &extent.to_be_bytes()]),
+        Reply::Placed(offset, extent) => frame_of(
+            alloc,
+            0x81,
+            &[&offset.to_be_bytes(), &extent.to_be_bytes()],
+        ),
         Reply::Got(length) => frame_of(alloc, 0x82, &[&length.to_be_bytes()]),
         Reply::Bytes(bytes) => frame_of(alloc, 0x83, &[bytes.as_slice()]),
         Reply::List(own, granted) => list_frame(alloc, own.as_slice(), granted.as_slice()),
@@ -36,7 +40,8 @@ fn list_frame(
     requires own_fits { length (flat_map own_bytes_lem own.now) < 2 ^ 20 }
     requires granted_fits { length (flat_map granted_bytes_lem granted.now) < 2 ^ 20 }
     requires depths { IsTrue (list_all (λ i. nat_lt i.depth 256) granted.now) }
-    ensures { IfOk result (λ f. f.items ≡ frame (0x84 ∷ be4 (length own.now) ++ flat_map own_bytes_lem own.now ++ be4 (length granted.now) ++ flat_map granted_bytes_lem granted.now)) }
+    ensures { IfOk result (λ f. f.items ≡ frame (0x84 ∷ be4 (length own.now) ++ flat_map own_bytes_lem own.now
+        ++ be4 (length granted.now) ++ flat_map granted_bytes_lem granted.now)) }
 {
     let own_count = own.len() as u32;
     let granted_count = granted.len() as u32;
@@ -45,7 +50,12 @@ fn list_frame(
     frame_of(
         alloc,
         0x84,
-        &[&own_count.to_be_bytes(), &own, &granted_count.to_be_bytes(), &granted],
+        &[
+            &own_count.to_be_bytes(),
+            &own,
+            &granted_count.to_be_bytes(),
+            &granted,
+        ],
     )
 }
 

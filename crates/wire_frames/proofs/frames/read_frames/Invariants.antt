@@ -6,7 +6,7 @@ use Rattle.wire_frames.proofs.frames.read_frames.Given as goal
 abbrev pub invariant-loop-items : goal.invariant-loop-items
 invariant-loop-items l = record {
   stream : stream_of l.bytes ≡ after_items l.items.items (stream_of (drop l.used l.bytes));
-  used : l.used ≤ length l.bytes
+  used : l.used ≤ length l.bytes;
 }
 
 abbrev pub decreases-loop-items : goal.decreases-loop-items

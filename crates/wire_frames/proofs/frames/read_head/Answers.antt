@@ -16,5 +16,5 @@ returns-in-Some-clause-stream c =
       number = sym c.number_at-size.ensures;
       in_range = sym c.is_command_length.ensures ∙ c.if-not-is_command_length.false;
       whole = c.if-bytes-end.false;
-      reads = body_taken (slice_index bytes 4) size (drop 5 bytes) c.in_ok-item_of.field-0 c.in_ok-item_of.ensures ∙ c.in-Some.is
+      reads = body_taken (slice_index bytes 4) size (drop 5 bytes) c.in_ok-item_of.field-0 c.in_ok-item_of.ensures ∙ c.in-Some.is;
     })
