@@ -2,7 +2,7 @@
 use crate::desk::Desk;
 use hex::FromHexError;
 use session_engine::{Ended, FaultyStream, SessionFault, serve};
-use std::alloc::Global;
+use std::alloc::{AllocError, Global};
 use std::io::{self, Read};
 use std::process::Abort;
 use std::test::Fail;
@@ -16,8 +16,7 @@ const HELLO_WITH_ANOTHER_KEY: &str =
     "0000002501000000010000000000000000000000000000000000000000000000000000000000000001";
 
 /// A primary of 20 bytes.
-const CREATE: &str =
-    "0000002202000000000000000000000000000000000000000100000001000000010000000014";
+const CREATE: &str = "0000002202000000000000000000000000000000000000000100000001000000010000000014";
 
 /// Of no kind that there is.
 const CREATE_OF_NO_KIND: &str =
@@ -85,6 +84,9 @@ impl<R: Read> Read for Drip<R> {
     }
 }
 
+/// More bytes than any session here is answered.
+const ROOM: usize = 64;
+
 /// How a session's input comes, and which of its calls fail: 0 is none.
 #[derive(Clone, Copy)]
 struct Way {
@@ -111,7 +113,15 @@ struct Session {
     desk: Desk,
 }
 
-fn session_once(alloc: Global, input: &[u8], way: Way) -> Session {
+/// A writer that needs no more memory.
+fn writer(alloc: Global) -> Result<Vec<u8>, AllocError> {
+    match Vec::with_capacity(alloc, ROOM) {
+        Ok(writer) => Ok(writer),
+        Err(_) => Vec::with_capacity(alloc, ROOM),
+    }
+}
+
+fn session_once(alloc: Global, input: &[u8], way: Way) -> Result<Session, AllocError> {
     let cut = way.cut.min(input.len());
     let pieces = Read::chain(&input[..cut], &input[cut..]);
     let drip = Drip {
@@ -119,27 +129,32 @@ fn session_once(alloc: Global, input: &[u8], way: Way) -> Session {
         at_once: way.at_once,
     };
     let mut reader = FaultyStream::new(drip, way.failing_read);
-    let mut writer = FaultyStream::new(Vec::new(alloc), way.failing_write);
+    let mut writer = FaultyStream::new(writer(alloc)?, way.failing_write);
     let mut desk = Desk::new();
     let outcome = serve(alloc, &mut reader, &mut writer, &mut desk);
-    Session {
+    Ok(Session {
         outcome,
         written: writer.inner,
         desk,
-    }
+    })
 }
 
 /// A session, once more where memory was wanting: what was written then is a beginning.
-fn served(rt: &impl Abort, alloc: Global, input: &[u8], way: Way, whole: &[u8]) -> Session {
-    let session = session_once(alloc, input, way);
+fn served(
+    rt: &impl Abort,
+    alloc: Global,
+    input: &[u8],
+    way: Way,
+    whole: &[u8],
+) -> Result<Session, AllocError> {
+    let session = session_once(alloc, input, way)?;
+    look_at(rt, &session, whole);
     if session.outcome != Err(SessionFault::Memory) {
-        look_at(rt, &session, whole);
-        return session;
+        return Ok(session);
     }
+    let session = session_once(alloc, input, way)?;
     look_at(rt, &session, whole);
-    let session = session_once(alloc, input, way);
-    look_at(rt, &session, whole);
-    session
+    Ok(session)
 }
 
 /// Who came in left last, and nobody else called; what was written is a beginning of the whole answer.
@@ -155,16 +170,44 @@ const ROWS: [(&[&str], &[&str], Ended); 12] = [
     (&["ffffffff"], &[MALFORMED], Ended::Malformed),
     (&["000000"], &[], Ended::MidFrame),
     (&[], &[], Ended::Clean),
-    (&[HELLO, CREATE, SEAL, GET], &[OK, PLACED, OK, GOT], Ended::Clean),
+    (
+        &[HELLO, CREATE, SEAL, GET],
+        &[OK, PLACED, OK, GOT],
+        Ended::Clean,
+    ),
     (&[HELLO, NO_KIND], &[OK, MALFORMED], Ended::Malformed),
-    (&[HELLO, CREATE_OF_NO_KIND], &[OK, MALFORMED], Ended::Malformed),
+    (
+        &[HELLO, CREATE_OF_NO_KIND],
+        &[OK, MALFORMED],
+        Ended::Malformed,
+    ),
     (&[HELLO, GET_OF_NO_ID], &[OK, BAD_ID], Ended::Clean),
     // nothing is answered behind what isn't a frame
-    (&[HELLO, NO_KIND, CREATE], &[OK, MALFORMED], Ended::Malformed),
+    (
+        &[HELLO, NO_KIND, CREATE],
+        &[OK, MALFORMED],
+        Ended::Malformed,
+    ),
     // before a Hello that is accepted, which may be tried again
     (
-        &[CREATE, GET_WAIT, GET_OF_NO_ID, HELLO_WITH_ANOTHER_KEY, SEAL, HELLO, CREATE],
-        &[NOT_ADMITTED, NOT_ADMITTED, BAD_ID, NOT_ADMITTED, NOT_ADMITTED, OK, PLACED],
+        &[
+            CREATE,
+            GET_WAIT,
+            GET_OF_NO_ID,
+            HELLO_WITH_ANOTHER_KEY,
+            SEAL,
+            HELLO,
+            CREATE,
+        ],
+        &[
+            NOT_ADMITTED,
+            NOT_ADMITTED,
+            BAD_ID,
+            NOT_ADMITTED,
+            NOT_ADMITTED,
+            OK,
+            PLACED,
+        ],
         Ended::Clean,
     ),
     // after it
@@ -173,7 +216,11 @@ const ROWS: [(&[&str], &[&str], Ended); 12] = [
         &[OK, EXISTS, EXISTS, PLACED, GOT],
         Ended::Clean,
     ),
-    (&[HELLO, CREATE, "0000001d04"], &[OK, PLACED], Ended::MidFrame),
+    (
+        &[HELLO, CREATE, "0000001d04"],
+        &[OK, PLACED],
+        Ended::MidFrame,
+    ),
 ];
 
 #[test]
@@ -184,7 +231,7 @@ fn sessions_are_answered_wherever_they_are_cut(rt: HostRuntime) -> Result<(), Fa
         let whole = bytes_of(alloc, whole)?;
         for cut in 0..=input.len() {
             let way = Way { cut, ..PLAIN };
-            let session = served(&rt, alloc, &input, way, &whole);
+            let session = served(&rt, alloc, &input, way, &whole)?;
             assert_eq!(rt; session.outcome, Ok(ended), "cut at {cut}");
             assert_eq!(rt; session.written, whole, "cut at {cut}");
         }
@@ -197,7 +244,11 @@ const LEAVES: [(&[&str], &[&str], u32); 4] = [
     (&[LEAVE], &[NOT_ADMITTED], 0),
     (&[HELLO_WITH_ANOTHER_KEY], &[NOT_ADMITTED], 0),
     (&[HELLO, NO_KIND], &[OK, MALFORMED], 1),
-    (&[HELLO, LEAVE, GET, LEAVE], &[OK, OK, "000000058200000000", OK], 3),
+    (
+        &[HELLO, LEAVE, GET, LEAVE],
+        &[OK, OK, "000000058200000000", OK],
+        3,
+    ),
 ];
 
 /// How many bytes of answers are due to the worked session when so much of it has come.
@@ -231,7 +282,7 @@ fn sessions_may_end_anywhere(rt: HostRuntime) -> Result<(), Fail> {
     let input = worked_session(alloc)?;
     let whole = worked_answers(alloc)?;
     for come in 0..=input.len() {
-        let session = served(&rt, alloc, &input[..come], PLAIN, &whole);
+        let session = served(&rt, alloc, &input[..come], PLAIN, &whole)?;
         let ended = if is_border(come) {
             Ended::Clean
         } else {
@@ -255,7 +306,7 @@ fn each_read_fails_in_turn(rt: HostRuntime) -> Result<(), Fail> {
             failing_read: come as u64 + 1,
             ..PLAIN
         };
-        let session = served(&rt, alloc, &input, way, &whole);
+        let session = served(&rt, alloc, &input, way, &whole)?;
         assert_eq!(rt; session.outcome, Err(SessionFault::Read), "after {come}");
         assert_eq!(rt; session.written.len(), due(come), "after {come}");
     }
@@ -264,7 +315,7 @@ fn each_read_fails_in_turn(rt: HostRuntime) -> Result<(), Fail> {
         failing_read: input.len() as u64 + 2,
         ..PLAIN
     };
-    let session = served(&rt, alloc, &input, way, &whole);
+    let session = served(&rt, alloc, &input, way, &whole)?;
     assert_eq!(rt; session.outcome, Ok(Ended::Clean));
     Ok(())
 }
@@ -280,7 +331,7 @@ fn each_write_fails_in_turn(rt: HostRuntime) -> Result<(), Fail> {
             failing_write: turn,
             ..PLAIN
         };
-        let session = served(&rt, alloc, &input, way, &whole);
+        let session = served(&rt, alloc, &input, way, &whole)?;
         assert_eq!(rt; session.outcome, Err(SessionFault::Write), "write {turn}");
         assert_eq!(rt; session.written.len(), written, "write {turn}");
         assert_eq!(rt; session.desk.leaves, 1, "write {turn}");
@@ -289,7 +340,7 @@ fn each_write_fails_in_turn(rt: HostRuntime) -> Result<(), Fail> {
         failing_write: 5,
         ..PLAIN
     };
-    let session = served(&rt, alloc, &input, way, &whole);
+    let session = served(&rt, alloc, &input, way, &whole)?;
     assert_eq!(rt; session.outcome, Ok(Ended::Clean));
     Ok(())
 }
@@ -300,7 +351,7 @@ fn a_session_leaves_once_more_than_its_client(rt: HostRuntime) -> Result<(), Fai
     for (input, whole, leaves) in LEAVES {
         let input = bytes_of(alloc, input)?;
         let whole = bytes_of(alloc, whole)?;
-        let session = served(&rt, alloc, &input, PLAIN, &whole);
+        let session = served(&rt, alloc, &input, PLAIN, &whole)?;
         assert_eq!(rt; session.written, whole);
         assert_eq!(rt; session.desk.leaves, leaves);
     }
