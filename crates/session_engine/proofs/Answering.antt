@@ -1,7 +1,7 @@
 -- Runs one after another, and what is written of them.
 use Rattle.std.proofs.Common.{◌≡◌, ℕ, List, [], ◌∷◌, ◌++◌, Option, Result, Ok, Err, refl, sym, ap, subst, ◌∙◌, append_assoc, append-nil}
 use Rattle.std.specs.Prelude.{⊤, IsErrAnd}
-use Rattle.std.specs.Io.KnownBytes.{Appends, Keeps}
+use Rattle.std.specs.Io.KnownBytes.{Appends}
 use Rattle.std.proofs.lemmas.Grind.{flat_map-append}
 use Rattle.obj_id.specs.declared.commands.Reply.{Reply}
 use Rattle.private_store.specs.declared.frames.Item.{Item}
@@ -67,9 +67,6 @@ module _ {G : Type 0} (gives : G → Asked → Answered → G → Type 0) where
         run = Run-then xs h.replies ys k.replies a.gate b.gate c.gate a.seat b.seat c.seat h.run k.run;
         written = Appends-replies a.written b.written c.written h.replies k.replies h.written k.written;
       }
-
-  pub answered_kept : (xs : List Item) (a b : Standing G) (w : Option (List ℕ)) → AnswersAll gives xs a b → Keeps b.written w → AnswersAll gives xs a (standing b.gate b.seat w)
-  answered_kept xs a b w h k = record { replies = h.replies; run = h.run; written = Appends-kept a.written b.written w (replies_bytes h.replies) h.written k }
 
   -- ---- faults among answers
 

@@ -1,17 +1,15 @@
 -- What a piece of the stream says, and what becomes of it.
 use Rattle.std.proofs.Common.{◌≡◌, ℕ, List, [], ◌∷◌, Option, Ok, Err, sym, ap, subst}
-use Rattle.std.specs.Io.KnownBytes.{Keeps}
 use Rattle.private_store.specs.declared.frames.Item.{Item}
 use Rattle.private_store.specs.Frames.{End, clean, mid_frame, malformed}
 use Rattle.wire_frames.specs.Reading.{Reading, continued, answer_at, fed, told}
 use Rattle.session_engine.specs.declared.ending.SessionFault.{SessionFault}
 use Rattle.session_engine.specs.declared.ending.SessionFault.TheVariants.{Read, Write, Memory}
-use Rattle.session_engine.specs.declared.serving.Heard.TheVariants.{Items}
 use Rattle.session_engine.specs.Calls.{Asked, Answered}
 use Rattle.session_engine.specs.Sessions.{Standing, standing}
 use Rattle.session_engine.specs.Serving.{AnswersAll, not_a_frame}
 use Rattle.session_engine.specs.Hearing.{Flushes, StopsAnswering, HearsPiece}
-use Rattle.session_engine.proofs.Answering.{answered_kept, stopped_before, stopped_after}
+use Rattle.session_engine.proofs.Answering.{stopped_before, stopped_after}
 
 answer_at-ok : (end : End) (xs ys : List Item) → answer_at end xs ≡ Ok ys → xs ≡ ys
 answer_at-ok clean xs ys h = cc
@@ -25,9 +23,6 @@ told_items reading piece items new h = answer_at-ok (continued reading piece).en
 
 module _ {G : Type 0} (gives : G → Asked → Answered → G → Type 0) where
   module _ (reading : Reading) (piece : List ℕ) (new : Reading) (a b : Standing G) (items : List Item) (is_fed : fed reading piece ≡ told (Ok items) new) where
-    pub hears_items : (w : Option (List ℕ)) → AnswersAll gives items a b → Keeps b.written w → HearsPiece gives reading piece new a (standing b.gate b.seat w) (Ok Items)
-    hears_items w h k = record { items = items; is_fed = is_fed; answered = answered_kept gives items a b w h k }
-
     pub stops_in_items : (fault : SessionFault) → StopsAnswering gives fault items a b → HearsPiece gives reading piece new a b (Err fault)
     stops_in_items fault h = subst (λ l. StopsAnswering gives fault l a b) (sym (told_items reading piece items new is_fed)) h
 

@@ -33,9 +33,3 @@ pub Consumes-all : (a b : Option (List ℕ)) (bs : List ℕ) → Consumes a b bs
 Consumes-all None b bs p e = tt
 Consumes-all (Some x) None bs p e = absurd p
 Consumes-all (Some x) (Some y) bs p e = p ∙ ap (λ l. bs ++ l) e ∙ append-nil bs
-
-pub Consumes-kept : (a b c : Option (List ℕ)) (bs : List ℕ) → Consumes a b bs → Keeps b c → Consumes a c bs
-Consumes-kept None b c bs p q = tt
-Consumes-kept (Some x) None c bs p q = absurd p
-Consumes-kept (Some x) (Some y) None bs p q = absurd q
-Consumes-kept (Some x) (Some y) (Some z) bs p q = p ∙ ap (λ l. bs ++ l) (sym q)

@@ -1,7 +1,7 @@
 -- A session so far, and how it ends.
 use Rattle.std.proofs.Common.{◌≡◌, ◌≢◌, ℕ, Bool, true, false, List, [], ◌∷◌, ◌++◌, Option, IfSome, Ok, Err, refl, sym, ap, subst, ◌∙◌, append-nil}
 use Rattle.std.specs.Prelude.{if◌then◌else◌}
-use Rattle.std.specs.Io.KnownBytes.{Keeps, Consumes, IsAtEnd}
+use Rattle.std.specs.Io.KnownBytes.{Consumes, IsAtEnd}
 use Rattle.std.proofs.lemmas.List.{append_cancel_left}
 use Rattle.obj_id.specs.declared.refusals.Refusal.TheVariants.{Malformed as NotAFrame}
 use Rattle.private_store.specs.declared.frames.Item.{Item}
@@ -18,9 +18,9 @@ use Rattle.session_engine.specs.Calls.{Asked, Answered}
 use Rattle.session_engine.specs.Sessions.{Standing}
 use Rattle.session_engine.specs.Serving.{AnswersAll, Concludes, EndsIn, AnswersInput, not_a_frame}
 use Rattle.session_engine.specs.Hearing.{StopsAnswering, Hears, HearsNoFrame, HearsPiece}
-use Rattle.session_engine.proofs.KnownBytes.{Consumes-none, Consumes-then, Consumes-kept, Consumes-all}
+use Rattle.session_engine.proofs.KnownBytes.{Consumes-none, Consumes-then, Consumes-all}
 use Rattle.session_engine.proofs.Answering.{Appends-replies, Appends-reply, Run-same, answered_none, answered_then, stopped_then, no_memory_before}
-use Rattle.session_engine.proofs.Ends.{Leaves, leaves_stream}
+use Rattle.session_engine.proofs.Ends.{IsRest, rest_of_stream}
 use Rattle.session_engine.proofs.Hearing.{told_items}
 
 -- what a stream says that goes on
@@ -86,13 +86,13 @@ fault_end mid_frame xs h = absurd (let f : ⊥ = cc in f)
 fault_end malformed xs h = refl
 
 -- the end by what the reader keeps
-ended_in : (end : End) (rest : List ℕ) (input : Option (List ℕ)) (bytes : List ℕ) → (stream_of bytes).end ≡ end → (stream_of bytes).rest ≡ rest → end ≢ malformed → Leaves end rest → IfSome input (λ all. all ≡ bytes)
+ended_in : (end : End) (rest : List ℕ) (input : Option (List ℕ)) (bytes : List ℕ) → (stream_of bytes).end ≡ end → (stream_of bytes).rest ≡ rest → end ≢ malformed → IsRest end rest → IfSome input (λ all. all ≡ bytes)
     → EndsIn (if is_in_mid_frame (reading_at end rest) then MidFrame else Clean) bytes input
-ended_in clean [] input bytes e r no_fault leaves all = (e, all)
-ended_in clean (x ∷ xs) input bytes e r no_fault leaves all = absurd (let f : ⊥ = cc in f)
-ended_in mid_frame [] input bytes e r no_fault leaves all = absurd (leaves refl)
-ended_in mid_frame (x ∷ xs) input bytes e r no_fault leaves all = (e, subst (λ l. l ≢ []) (sym r) leaves, all)
-ended_in malformed rest input bytes e r no_fault leaves all = absurd (no_fault refl)
+ended_in clean [] input bytes e r no_fault fits all = (e, all)
+ended_in clean (x ∷ xs) input bytes e r no_fault fits all = absurd (let f : ⊥ = cc in f)
+ended_in mid_frame [] input bytes e r no_fault fits all = absurd (fits refl)
+ended_in mid_frame (x ∷ xs) input bytes e r no_fault fits all = (e, subst (λ l. l ≢ []) (sym r) fits, all)
+ended_in malformed rest input bytes e r no_fault fits all = absurd (no_fault refl)
 
 -- all is answered, and nothing is added where the stream has no fault
 concluded : {G : Type 0} (gives : G → Asked → Answered → G → Type 0) (xs : List Item) (a b : Standing G) (in_mid_frame : Bool) → AnswersAll gives xs a b → Concludes gives (if in_mid_frame then MidFrame else Clean) xs a b
@@ -115,9 +115,6 @@ module _ {G : Type 0} (gives : G → Asked → Answered → G → Type 0) (r : O
   no_buffer = record { bytes = []; consumed = Consumes-none r; outcome = no_memory_before gives [] a }
 
   module _ (frames : Reading) (r1 : Option (List ℕ)) (b : Standing G) (so_far : Progress frames r1 b) where
-    pub reading_failed : (r2 : Option (List ℕ)) → Keeps r1 r2 → AnswersInput gives a b r r2 (Err Read)
-    reading_failed r2 kept = record { bytes = so_far.bytes; consumed = Consumes-kept r r1 r2 so_far.bytes so_far.consumed kept; outcome = so_far.answered }
-
     module _ (r2 : Option (List ℕ)) (c : Standing G) (frames2 : Reading) (piece : List ℕ) (read : Consumes r1 r2 piece) where
       consumed_on : Consumes r r2 (so_far.bytes ++ piece)
       consumed_on = Consumes-then r r1 r2 so_far.bytes piece so_far.consumed read
@@ -192,7 +189,7 @@ module _ {G : Type 0} (gives : G → Asked → Answered → G → Type 0) (r : O
             bytes = all;
             consumed = last.consumed;
             outcome = (
-              ended_in stream.end stream.rest r all refl refl (no_fault so_far.bytes hears.items frames2 told_at_last) (leaves_stream all) (Consumes-all r r1 all last.consumed end),
+              ended_in stream.end stream.rest r all refl refl (no_fault so_far.bytes hears.items frames2 told_at_last) (rest_of_stream all) (Consumes-all r r1 all last.consumed end),
               concluded gives stream.items a c (is_in_mid_frame (reading_at stream.end stream.rest)) last.answered,
             );
           })
