@@ -133,7 +133,7 @@ module _ {G : Type 0} (gives : G → Asked → Answered → G → Type 0) (r : O
                 (answered_then gives (stream_of so_far.bytes).items hears.items a b c so_far.answered hears.answered);
           }
 
-      pub heard : (what : Heard) → what ≡ Items → HearsPiece gives frames piece frames2 b c (Ok what) → Progress frames2 r2 c
+      heard : (what : Heard) → what ≡ Items → HearsPiece gives frames piece frames2 b c (Ok what) → Progress frames2 r2 c
       heard Items is hears = heard_items hears
       heard NoFrame is hears = absurd (let f : ⊥ = cc in f)
 
@@ -195,7 +195,27 @@ module _ {G : Type 0} (gives : G → Asked → Answered → G → Type 0) (r : O
           })
 
     -- nothing is left to read, and nothing waits to be told
-    pub input_ended : (c : Standing G) (frames2 : Reading) (what : Heard) → what ≡ Items → HearsPiece gives frames [] frames2 b c (Ok what) → IsAtEnd r1
+    input_ended : (c : Standing G) (frames2 : Reading) (what : Heard) → what ≡ Items → HearsPiece gives frames [] frames2 b c (Ok what) → IsAtEnd r1
         → (ended : Ended) → ended ≡ (if is_in_mid_frame frames2 then MidFrame else Clean) → AnswersInput gives a c r r1 (Ok ended)
     input_ended c frames2 Items is hears end ended ends = last_ended c frames2 hears end ended ends
     input_ended c frames2 NoFrame is hears end ended ends = absurd (let f : ⊥ = cc in f)
+
+  -- the piece is heard, and then what waits behind its items
+  module _ (frames : Reading) (r1 : Option (List ℕ)) (b : Standing G) (so_far : Progress frames r1 b) (r2 : Option (List ℕ)) (c : Standing G) (frames2 : Reading) (piece : List ℕ) (read : Consumes r1 r2 piece)
+      (what : Heard) (is : what ≡ Items) (hears : HearsPiece gives frames piece frames2 b c (Ok what)) (d : Standing G) (frames3 : Reading) where
+    once : Progress frames2 r2 c
+    once = heard frames r1 b so_far r2 c frames2 piece read what is hears
+
+    pub then_stopped : (fault : SessionFault) → StopsAnswering gives fault (continued frames2 []).items c d → AnswersInput gives a d r r2 (Err fault)
+    then_stopped fault stops = hearing_stopped frames2 r2 c once r2 d frames3 [] (Consumes-none r2) fault stops
+
+    module _ (next : Heard) where
+      pub then_no_frame : next ≡ NoFrame → HearsPiece gives frames2 [] frames3 c d (Ok next) → AnswersInput gives a d r r2 (Ok Malformed)
+      then_no_frame none again = no_frame_heard frames2 r2 c once r2 d frames3 [] (Consumes-none r2) next none again
+
+      pub then_heard : next ≡ Items → HearsPiece gives frames2 [] frames3 c d (Ok next) → Progress frames3 r2 d
+      then_heard some again = heard frames2 r2 c once r2 d frames3 [] (Consumes-none r2) next some again
+
+      pub then_ended : next ≡ Items → HearsPiece gives frames2 [] frames3 c d (Ok next) → IsAtEnd r2
+          → (ended : Ended) → ended ≡ (if is_in_mid_frame frames3 then MidFrame else Clean) → AnswersInput gives a d r r2 (Ok ended)
+      then_ended some again end ended ends = input_ended frames2 r2 c once d frames3 next some again end ended ends

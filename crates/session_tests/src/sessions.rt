@@ -3,7 +3,7 @@ use crate::desk::Desk;
 use hex::FromHexError;
 use session_engine::{Ended, FaultyStream, SessionFault, serve};
 use std::alloc::{AllocError, Global};
-use std::io::{self, Read};
+use std::io::{self, Read, Write};
 use std::process::Abort;
 use std::test::Fail;
 
@@ -109,15 +109,38 @@ const PLAIN: Way = Way {
 #[derive(Drop)]
 struct Session {
     outcome: Result<Ended, SessionFault>,
-    written: Vec<u8>,
+    outbox: Outbox,
     desk: Desk,
 }
 
-/// A writer that needs no more memory.
-fn writer(alloc: Global) -> Result<Vec<u8>, AllocError> {
-    match Vec::with_capacity(alloc, ROOM) {
-        Ok(writer) => Ok(writer),
-        Err(_) => Vec::with_capacity(alloc, ROOM),
+/// A writer that needs no more memory, and hands over what it has at a flush alone.
+#[derive(Drop)]
+struct Outbox {
+    written: Vec<u8>,
+    handed_over: usize,
+}
+
+impl Outbox {
+    fn new(alloc: Global) -> Result<Outbox, AllocError> {
+        let written = match Vec::with_capacity(alloc, ROOM) {
+            Ok(written) => written,
+            Err(_) => Vec::with_capacity(alloc, ROOM)?,
+        };
+        Ok(Outbox {
+            written,
+            handed_over: 0,
+        })
+    }
+}
+
+impl Write for Outbox {
+    fn write(&mut self, buf: &[u8]) -> io::Result<usize> {
+        self.written.write(buf)
+    }
+
+    fn flush(&mut self) -> io::Result<()> {
+        self.handed_over = self.written.len();
+        Ok(())
     }
 }
 
@@ -129,12 +152,12 @@ fn session_once(alloc: Global, input: &[u8], way: Way) -> Result<Session, AllocE
         at_once: way.at_once,
     };
     let mut reader = FaultyStream::new(drip, way.failing_read);
-    let mut writer = FaultyStream::new(writer(alloc)?, way.failing_write);
+    let mut writer = FaultyStream::new(Outbox::new(alloc)?, way.failing_write);
     let mut desk = Desk::new();
     let outcome = serve(alloc, &mut reader, &mut writer, &mut desk);
     Ok(Session {
         outcome,
-        written: writer.inner,
+        outbox: writer.inner,
         desk,
     })
 }
@@ -157,9 +180,13 @@ fn served(
     Ok(session)
 }
 
-/// Who came in left last, and nobody else called; what was written is a beginning of the whole answer.
+/// Who came in left last, and nobody else called; what was written is a beginning of the whole answer,
+/// and is handed over where the session ended.
 fn look_at(rt: &impl Abort, session: &Session, whole: &[u8]) {
-    assert!(rt; whole.starts_with(session.written.as_slice()));
+    assert!(rt; whole.starts_with(session.outbox.written.as_slice()));
+    if session.outcome.is_ok() {
+        assert_eq!(rt; session.outbox.handed_over, session.outbox.written.len());
+    }
     assert_eq!(rt; session.desk.strays, 0);
     assert_eq!(rt; session.desk.is_left, session.desk.entries == 1);
 }
@@ -233,7 +260,7 @@ fn sessions_are_answered_wherever_they_are_cut(rt: HostRuntime) -> Result<(), Fa
             let way = Way { cut, ..PLAIN };
             let session = served(&rt, alloc, &input, way, &whole)?;
             assert_eq!(rt; session.outcome, Ok(ended), "cut at {cut}");
-            assert_eq!(rt; session.written, whole, "cut at {cut}");
+            assert_eq!(rt; session.outbox.written, whole, "cut at {cut}");
         }
     }
     Ok(())
@@ -289,7 +316,7 @@ fn sessions_may_end_anywhere(rt: HostRuntime) -> Result<(), Fail> {
             Ended::MidFrame
         };
         assert_eq!(rt; session.outcome, Ok(ended), "ended at {come}");
-        assert_eq!(rt; session.written.len(), due(come), "ended at {come}");
+        assert_eq!(rt; session.outbox.written.len(), due(come), "ended at {come}");
     }
     Ok(())
 }
@@ -308,7 +335,7 @@ fn each_read_fails_in_turn(rt: HostRuntime) -> Result<(), Fail> {
         };
         let session = served(&rt, alloc, &input, way, &whole)?;
         assert_eq!(rt; session.outcome, Err(SessionFault::Read), "after {come}");
-        assert_eq!(rt; session.written.len(), due(come), "after {come}");
+        assert_eq!(rt; session.outbox.written.len(), due(come), "after {come}");
     }
     let way = Way {
         at_once: 1,
@@ -333,7 +360,7 @@ fn each_write_fails_in_turn(rt: HostRuntime) -> Result<(), Fail> {
         };
         let session = served(&rt, alloc, &input, way, &whole)?;
         assert_eq!(rt; session.outcome, Err(SessionFault::Write), "write {turn}");
-        assert_eq!(rt; session.written.len(), written, "write {turn}");
+        assert_eq!(rt; session.outbox.written.len(), written, "write {turn}");
         assert_eq!(rt; session.desk.leaves, 1, "write {turn}");
     }
     let way = Way {
@@ -352,7 +379,7 @@ fn a_session_leaves_once_more_than_its_client(rt: HostRuntime) -> Result<(), Fai
         let input = bytes_of(alloc, input)?;
         let whole = bytes_of(alloc, whole)?;
         let session = served(&rt, alloc, &input, PLAIN, &whole)?;
-        assert_eq!(rt; session.written, whole);
+        assert_eq!(rt; session.outbox.written, whole);
         assert_eq!(rt; session.desk.leaves, leaves);
     }
     Ok(())

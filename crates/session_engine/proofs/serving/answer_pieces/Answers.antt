@@ -1,6 +1,5 @@
 use Rattle.std.proofs.Common.{arith}
-use Rattle.session_engine.proofs.Progress.{begun, heard, hearing_stopped, no_frame_heard, input_ended}
-use Rattle.session_engine.proofs.KnownBytes.{Consumes-none}
+use Rattle.session_engine.proofs.Progress.{begun, hearing_stopped, no_frame_heard, then_stopped, then_no_frame, then_heard, then_ended}
 use Rattle.session_engine.proofs.serving.answer_pieces.Goals as goal
 
 pub loop-init : goal.loop-init
@@ -15,21 +14,21 @@ returns-in-Ok-NoFrame g c =
 
 pub returns-in-Err-hear : goal.returns-in-Err-hear
 returns-in-Err-hear g c =
-    let piece = heard g.G.Gate.gives _ _ _ _ _ c.loop.invariant _ _ c.hear.new.frames _ c.in-Ok.ensures.bytes.0 c.in-Ok-Items.field-0 c.in-Ok-Items.field-0-is c.in-Ok-Items.ensures in
-    hearing_stopped g.G.Gate.gives _ _ _ _ _ piece _ _ c.hear-in-loop.new.frames _ (Consumes-none _) c.in-Err-hear.fault c.in-Err-hear.ensures
+    then_stopped g.G.Gate.gives _ _ _ _ _ c.loop.invariant _ _ c.hear.new.frames _ c.in-Ok.ensures.bytes.0 c.in-Ok-Items.field-0 c.in-Ok-Items.field-0-is c.in-Ok-Items.ensures _ c.hear-in-loop.new.frames
+    c.in-Err-hear.fault c.in-Err-hear.ensures
 
 pub returns-in-Ok-NoFrame-hear : goal.returns-in-Ok-NoFrame-hear
 returns-in-Ok-NoFrame-hear g c =
-    let piece = heard g.G.Gate.gives _ _ _ _ _ c.loop.invariant _ _ c.hear.new.frames _ c.in-Ok.ensures.bytes.0 c.in-Ok-Items.field-0 c.in-Ok-Items.field-0-is c.in-Ok-Items.ensures in
-    no_frame_heard g.G.Gate.gives _ _ _ _ _ piece _ _ c.hear-in-loop.new.frames _ (Consumes-none _) c.in-Ok-NoFrame-hear.field-0 c.in-Ok-NoFrame-hear.field-0-is c.in-Ok-NoFrame-hear.ensures
+    then_no_frame g.G.Gate.gives _ _ _ _ _ c.loop.invariant _ _ c.hear.new.frames _ c.in-Ok.ensures.bytes.0 c.in-Ok-Items.field-0 c.in-Ok-Items.field-0-is c.in-Ok-Items.ensures _ c.hear-in-loop.new.frames
+    c.in-Ok-NoFrame-hear.field-0 c.in-Ok-NoFrame-hear.field-0-is c.in-Ok-NoFrame-hear.ensures
 
 pub returns-then-count-eq0 : goal.returns-then-count-eq0
 returns-then-count-eq0 g c =
-    let piece = heard g.G.Gate.gives _ _ _ _ _ c.loop.invariant _ _ c.hear.new.frames _ c.in-Ok.ensures.bytes.0 c.in-Ok-Items.field-0 c.in-Ok-Items.field-0-is c.in-Ok-Items.ensures in
-    input_ended g.G.Gate.gives _ _ _ _ _ piece _ c.hear-in-loop.new.frames c.in-Ok-Items-hear.field-0 c.in-Ok-Items-hear.field-0-is c.in-Ok-Items-hear.ensures
+    then_ended g.G.Gate.gives _ _ _ _ _ c.loop.invariant _ _ c.hear.new.frames _ c.in-Ok.ensures.bytes.0 c.in-Ok-Items.field-0 c.in-Ok-Items.field-0-is c.in-Ok-Items.ensures _ c.hear-in-loop.new.frames
+    c.in-Ok-Items-hear.field-0 c.in-Ok-Items-hear.field-0-is c.in-Ok-Items-hear.ensures
     (c.in-Ok.ensures.bytes.1 c.if-count-eq0.true (omega arith)) c.end_of.result c.end_of.ensures
 
 pub loop-preserved : goal.loop-preserved
 loop-preserved g c =
-    let piece = heard g.G.Gate.gives _ _ _ _ _ c.loop.invariant _ _ c.hear.new.frames _ c.in-Ok.ensures.bytes.0 c.in-Ok-Items.field-0 c.in-Ok-Items.field-0-is c.in-Ok-Items.ensures in
-    heard g.G.Gate.gives _ _ _ _ _ piece _ _ c.hear-in-loop.new.frames _ (Consumes-none _) c.in-Ok-Items-hear.field-0 c.in-Ok-Items-hear.field-0-is c.in-Ok-Items-hear.ensures
+    then_heard g.G.Gate.gives _ _ _ _ _ c.loop.invariant _ _ c.hear.new.frames _ c.in-Ok.ensures.bytes.0 c.in-Ok-Items.field-0 c.in-Ok-Items.field-0-is c.in-Ok-Items.ensures _ c.hear-in-loop.new.frames
+    c.in-Ok-Items-hear.field-0 c.in-Ok-Items-hear.field-0-is c.in-Ok-Items-hear.ensures
