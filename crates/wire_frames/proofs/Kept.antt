@@ -1,11 +1,10 @@
 -- A stream is the frames of its items, and what is left.
-use Rattle.std.proofs.Common.{◌≡◌, ℕ, ◌+◌, ◌-◌, ◌<◌, ◌≤◌, Bool, true, false, List, [], ◌∷◌, ◌++◌, length, take, drop, flat_map, Option, Some, zero, suc, refl, sym, ap, subst, ◌∙◌, arith, append_assoc, length-drop}
+use Rattle.std.proofs.Common.{◌≡◌, ℕ, ◌+◌, ◌-◌, ◌<◌, false, List, [], ◌∷◌, ◌++◌, length, take, drop, flat_map, Some, zero, suc, refl, sym, ap, subst, ◌∙◌, arith, append_assoc, length-drop}
 use Rattle.std.specs.Prelude.{All, option_map, slice_index, unwrap_or}
 use Rattle.std.proofs.Math.Seq.{drop-cons}
 use Rattle.std.proofs.lemmas.List.{length-take-le, take-append-drop}
 use Rattle.private_store.specs.declared.frames.Item.{Item}
-use Rattle.private_store.specs.Frames.{Stream, after_item, be4, frame, is_command_length, item_body, item_frame, malformed, stopped, stream_of}
-use Rattle.wire_frames.specs.Heads.{cut_end}
+use Rattle.private_store.specs.Frames.{Stream, after_item, be4, frame, is_command_length, item_frame, malformed, stopped, stream_of}
 use Rattle.wire_frames.specs.Items.{AreBytes, HasFrame, is_bad_id}
 use Rattle.wire_frames.specs.Writing.{is_some_of_length}
 use Rattle.wire_frames.proofs.Pieces.{alone}
@@ -35,7 +34,7 @@ head_spelled bytes size x h at ok =
     let four : be4 size ≡ take 4 bytes = ap be4 (sym at.number) ∙ number_spelled bytes 0 h (omega (arith, at.whole)) in
     let one_more : suc (size - 1) ≡ size = omega arith in
     let others : kind ∷ body ≡ take size (drop 4 bytes) =
-      ap (take (suc (size - 1))) (sym (drop-cons bytes 4 0 (omega (arith, at.whole)))) ∙ ap (λ n. take n (drop 4 bytes)) one_more in
+    ap (take (suc (size - 1))) (sym (drop-cons bytes 4 0 (omega (arith, at.whole)))) ∙ ap (λ n. take n (drop 4 bytes)) one_more in
     ap (λ o. unwrap_or (option_map frame o) []) (body_spelled bytes size x h at ok).spelled
     ∙ ap (λ n. be4 n ++ (kind ∷ body)) (whole_length bytes size x at)
     ∙ (λ i. four i ++ others i)

@@ -1,6 +1,7 @@
 pub mod Counts
-pub mod KindTables
 pub mod Kept
+pub mod KindTables
+pub mod OneReply
 pub mod Pieces
 pub mod Spelled
 pub mod Streams

@@ -1,11 +1,11 @@
 -- A stream in pieces.
-use Rattle.std.proofs.Common.{◌≡◌, ℕ, ◌+◌, ◌-◌, ◌<◌, ◌≤◌, List, [], ◌∷◌, ◌++◌, length, drop, flat_map, zero, suc, refl, sym, ap, subst, ◌∙◌, arith, append_assoc, append-nil, length-drop}
+use Rattle.std.proofs.Common.{◌≡◌, ℕ, ◌+◌, ◌<◌, List, [], ◌∷◌, ◌++◌, length, drop, flat_map, zero, suc, refl, sym, ap, subst, ◌∙◌, arith, append_assoc, append-nil, length-drop}
 use Rattle.std.proofs.lemmas.List.{drop-append-le}
 use Rattle.private_store.specs.declared.frames.Item.{Item}
 use Rattle.private_store.specs.Frames.{End, clean, mid_frame, malformed, Stream, stopped, after_item, stream_of}
 use Rattle.wire_frames.specs.Heads.{after_items, cut_end}
 use Rattle.wire_frames.specs.Laws.{Feeding, IsLessThanAFrame, feeding, given_by, items_in}
-use Rattle.wire_frames.specs.Reading.{Reading, unfinished, failed, answer_at, answer_of, continued, fed, reading_after}
+use Rattle.wire_frames.specs.Reading.{Reading, unfinished, failed, answer_at, answer_of, continued, reading_after}
 use Rattle.wire_frames.proofs.Streams.{HeadOf, cut, fault, whole, head_of}
 
 -- a stream that goes on
@@ -65,7 +65,7 @@ given-onward clean items rest piece = refl
 given-onward mid_frame items rest piece = refl
 given-onward malformed items rest piece = λ i. record { items = sym (append-nil items) i; reader = failed }
 
-given-append : (before piece : List ℕ)
+pub given-append : (before piece : List ℕ)
     → given_by (stream_of (before ++ piece)) ≡ given_onto (stream_of before).items (given_by (continued (reading_after (stream_of before)) piece))
 given-append before piece =
     let s = stream_of before in
@@ -110,7 +110,7 @@ kept_at n bytes less (cut short is) later = subst (λ s. IsLessThanAFrame (readi
 kept_at n bytes less (fault is) later = subst (λ s. IsLessThanAFrame (reading_after s)) (sym (alone (λ b. stopped b malformed) bytes is)) tt
 kept_at n bytes less (whole size x at is) later =
     subst (λ s. IsLessThanAFrame (reading_after s)) (sym (alone (λ b. after_item x (stream_of (drop (4 + size) b))) bytes is))
-      (later (drop (4 + size) bytes) (omega (arith, at.whole, length-drop (4 + size) bytes)))
+    (later (drop (4 + size) bytes) (omega (arith, at.whole, length-drop (4 + size) bytes)))
 
 kept_below : (n : ℕ) (bytes : List ℕ) → length bytes < n → IsLessThanAFrame (reading_after (stream_of bytes))
 kept_below zero bytes less = absurd (omega arith)

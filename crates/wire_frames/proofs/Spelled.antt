@@ -1,15 +1,13 @@
 -- What is read has no other spelling.
-use Rattle.std.proofs.Common.{◌≡◌, ℕ, ◌+◌, ◌-◌, ◌<◌, ◌≤◌, ◌^◌, Bool, true, false, ◌&&◌, List, [], ◌∷◌, ◌++◌, length, take, drop, Option, Some, None, zero, suc, refl, sym, ap, subst, ◌∙◌, arith, append_assoc, length-append, length-drop, get_or}
-use Rattle.std.specs.Prelude.{◌==◌, not, ◌⊎◌, IfSome, nat_le, nat_lt, option_and_then, if◌then◌else◌, slice_index, slice_get}
-use Rattle.std.specs.Int.{from_be_bytes, w32}
-use Rattle.std.proofs.Math.Seq.{drop-cons, take-add, take-length, drop-length}
+use Rattle.std.proofs.Common.{◌≡◌, ℕ, ◌+◌, ◌<◌, ◌≤◌, ◌^◌, Bool, true, false, ◌&&◌, List, [], ◌∷◌, ◌++◌, length, take, drop, Option, Some, None, zero, suc, refl, sym, ap, subst, ◌∙◌, arith, length-drop, get_or}
+use Rattle.std.specs.Prelude.{◌==◌, not, IfSome, nat_le, nat_lt, option_and_then, if◌then◌else◌, slice_index}
+use Rattle.std.proofs.Math.Seq.{drop-cons, take-add, take-length}
 use Rattle.std.proofs.lemmas.List.{get_or-drop, length-take-le, take-append-drop}
 use Rattle.std.proofs.lemmas.Bool.{and_parts, eqb-true, leb-true, ltb-false, ltb-true, true≢false}
 use Rattle.std.proofs.lemmas.Bool.Decides.{nat_tests}
 use Rattle.std.proofs.lemmas.Nat.{be_bytes_4}
 use Rattle.std.proofs.lemmas.Option.{slice_get-get_or}
 use Rattle.obj_id.specs.Ids.{IsId, IsTask, id_bytes}
-use Rattle.obj_id.specs.declared.ids.ObjectId.{ObjectId}
 use Rattle.obj_id.specs.declared.commands.Command.{Command}
 use Rattle.obj_id.specs.declared.commands.Command.TheVariants as command
 use Rattle.private_store.specs.declared.frames.Item.{Item}
@@ -109,9 +107,9 @@ number_small body k h =
 
 task_well : (body : List ℕ) (k : ℕ) → AreBytes body → k + 20 ≤ length body → IsTask (task_at body k)
 task_well body k h long = record {
-      task_length = length-take-le 20 (drop k body) (omega (arith, length-drop k body));
-      task_bytes = bytes_take 20 (drop k body) (bytes_drop k body h);
-    }
+  task_length = length-take-le 20 (drop k body) (omega (arith, length-drop k body));
+  task_bytes = bytes_take 20 (drop k body) (bytes_drop k body h);
+}
 
 positive : (n : ℕ) → not (n == 0) ≡ true → 1 ≤ n
 positive n h = grind (arith, nat_tests)

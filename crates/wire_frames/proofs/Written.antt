@@ -1,5 +1,5 @@
 -- What is written is read again.
-use Rattle.std.proofs.Common.{◌≡◌, ℕ, ◌+◌, ◌-◌, ◌<◌, ◌≤◌, ◌^◌, Bool, true, false, ◌&&◌, List, [], ◌∷◌, ◌++◌, length, take, drop, Option, Some, None, zero, suc, refl, sym, ap, subst, ◌∙◌, arith, append_assoc, append-nil, length-append, length-drop}
+use Rattle.std.proofs.Common.{◌≡◌, ℕ, ◌+◌, ◌-◌, ◌<◌, ◌≤◌, ◌^◌, true, ◌&&◌, List, [], ◌∷◌, ◌++◌, length, take, drop, Some, None, suc, refl, sym, ap, subst, ◌∙◌, arith, append_assoc, append-nil, length-append}
 use Rattle.std.specs.Prelude.{◌==◌, All, flat_map, not, nat_le, if◌then◌else◌, slice_index}
 use Rattle.std.proofs.lemmas.Bool.Decides.{nat_tests}
 use Rattle.std.specs.Int.{from_be_bytes, w32}
@@ -22,7 +22,7 @@ use Rattle.wire_frames.specs.declared.kinds.FrameKind.TheVariants as frame
 use Rattle.wire_frames.specs.declared.kinds.ObjectKind.TheVariants as object
 use Rattle.wire_frames.proofs.KindTables.{item_of-byte_of}
 use Rattle.std.proofs.lemmas.Bool.{and_parts, le-leb, leb-true}
-use Rattle.wire_frames.proofs.Streams.{IsHead, stream_of-head}
+use Rattle.wire_frames.proofs.Streams.{stream_of-head}
 use Rattle.obj_id.specs.declared.works.JobKey.{JobKey}
 use Rattle.private_store.specs.declared.frames.Awaited.{Awaited}
 use Rattle.private_store.specs.declared.frames.Awaited.TheVariants as awaited
@@ -31,10 +31,10 @@ use Rattle.wire_frames.specs.declared.kinds.ObjectKind.{ObjectKind}
 
 -- ---- parts of bytes
 
-back : (front rest : List ℕ) (k : ℕ) → length front ≡ k → drop k (front ++ rest) ≡ rest
+pub back : (front rest : List ℕ) (k : ℕ) → length front ≡ k → drop k (front ++ rest) ≡ rest
 back front rest k e = subst (λ n. drop n (front ++ rest) ≡ rest) e (drop-append_seam front rest)
 
-number_back : (front : List ℕ) (n : ℕ) (rest : List ℕ) (k : ℕ) → length front ≡ k → n < 2 ^ 32 → number_at (front ++ (be4 n ++ rest)) k ≡ n
+pub number_back : (front : List ℕ) (n : ℕ) (rest : List ℕ) (k : ℕ) → length front ≡ k → n < 2 ^ 32 → number_at (front ++ (be4 n ++ rest)) k ≡ n
 number_back front n rest k e small =
     ap (λ bytes. from_be_bytes w32 (take 4 bytes)) (back front (be4 n ++ rest) k e) ∙ from_be_bytes-to_be_bytes_4 n small
 
@@ -45,7 +45,7 @@ task_back front task rest k e is =
 
 -- ---- ids
 
-length-id_bytes : (id : ObjectId) → IsId id → length (id_bytes id) ≡ 28
+pub length-id_bytes : (id : ObjectId) → IsId id → length (id_bytes id) ≡ 28
 length-id_bytes id is = omega (arith, is.task_length, length-append id.task.0 (be4 id.job.0), length-append (id.task.0 ++ be4 id.job.0) (be4 id.index))
 
 is_task : (id : ObjectId) → IsId id → IsTask id.task
@@ -58,7 +58,7 @@ by_parts id rest = append_assoc (id.task.0 ++ be4 id.job.0) (be4 id.index) rest 
 by_index : (id : ObjectId) (rest : List ℕ) → id_bytes id ++ rest ≡ (id.task.0 ++ be4 id.job.0) ++ (be4 id.index ++ rest)
 by_index id rest = append_assoc (id.task.0 ++ be4 id.job.0) (be4 id.index) rest
 
-id_at-id_bytes : (id : ObjectId) (rest : List ℕ) → IsId id → id_at (id_bytes id ++ rest) ≡ id
+pub id_at-id_bytes : (id : ObjectId) (rest : List ℕ) → IsId id → id_at (id_bytes id ++ rest) ≡ id
 id_at-id_bytes id rest is =
     let task : task_at (id_bytes id ++ rest) 0 ≡ id.task = ap (λ b. task_at b 0) (by_parts id rest) ∙ task_back [] id.task (be4 id.job.0 ++ (be4 id.index ++ rest)) 0 refl (is_task id is) in
     let job : number_at (id_bytes id ++ rest) 20 ≡ id.job.0 = ap (λ b. number_at b 20) (by_parts id rest) ∙ number_back id.task.0 id.job.0 (be4 id.index ++ rest) 20 is.task_length is.job_fits in
@@ -144,7 +144,7 @@ write_fits id offset bytes is = le-leb 32 (length (two id offset bytes)) (omega 
 kind_behind : (id : ObjectId) (kind : Kind) (n : ℕ) → IsId id → slice_index (create_body id kind n) 28 ≡ kind_byte kind
 kind_behind id kind n is = subst (λ k. slice_index (create_body id kind n) k ≡ kind_byte kind) (length-id_bytes id is) (get_or-append_seam (id_bytes id) (kind_byte kind) (be4 n) 0)
 
-kind_of-kind_byte : (kind : Kind) → kind_of (kind_byte kind) ≡ kind
+pub kind_of-kind_byte : (kind : Kind) → kind_of (kind_byte kind) ≡ kind
 kind_of-kind_byte Primary = refl
 kind_of-kind_byte Secondary = refl
 

@@ -45,10 +45,11 @@ pub record HasFrame (x : Item) : Type 0 where
   pub well : IsItem x
   pub fits : has_command_frame x ≡ true
 
+-- numbers of 8 bits
 abbrev pub AreBytes : List ℕ → Type 0
 AreBytes bytes = (i : ℕ) → slice_index bytes i < 256
 
--- of an item that is BadId nothing is known but that
+-- whether the item doesn't say what its frame was
 abbrev pub is_bad_id : Item → Bool
 is_bad_id item.BadId = true
 is_bad_id _ = false

@@ -3,4 +3,5 @@ pub mod Items
 pub mod Kinds
 pub mod Laws
 pub mod Reading
+pub mod Replies
 pub mod Writing

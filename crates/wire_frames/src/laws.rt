@@ -1,10 +1,12 @@
 //! Theorems about what readers and encoders do: each function does nothing, and its contract is a law.
 ghost use Rattle.std.specs.Prelude.{◌≡◌, ◌++◌, ℕ, List, [], false, All, flat_map};
+ghost use Rattle.obj_id.specs.declared.commands.Reply.{Reply};
 ghost use Rattle.private_store.specs.declared.frames.Item.{Item};
-ghost use Rattle.private_store.specs.Frames.{item_frame, stream_of};
+ghost use Rattle.private_store.specs.Frames.{item_frame, reply_frame, stream_of};
 ghost use Rattle.wire_frames.specs.Heads.{after_items};
 ghost use Rattle.wire_frames.specs.Items.{AreBytes, HasFrame, is_bad_id};
 ghost use Rattle.wire_frames.specs.Laws.{IsLessThanAFrame, feeding, given_by};
+ghost use Rattle.wire_frames.specs.Replies.{IsReply};
 ghost use Rattle.wire_frames.specs.Reading.{reading_after, unfinished};
 
 /// However a stream is cut into pieces, a new reader that is fed them gives the items of the whole stream and no
@@ -29,4 +31,9 @@ pub fn what_is_read_is_written()
         → All HasFrame (stream_of bytes).items }
     ensures spelled { (bytes : List ℕ) → AreBytes bytes → All (λ x. is_bad_id x ≡ false) (stream_of bytes).items
         → flat_map item_frame (stream_of bytes).items ++ (stream_of bytes).rest ≡ bytes }
+{}
+
+/// Two replies that have a frame don't have the same: what a client was answered can be told from the bytes.
+pub fn a_reply_has_its_own_frame()
+    ensures { (a b : Reply (List ℕ)) → IsReply a → IsReply b → reply_frame a ≡ reply_frame b → a ≡ b }
 {}

@@ -13,7 +13,7 @@ use std::alloc::{AllocError, Global};
 use std::marker::Model;
 
 /// Reads the frames of a stream, whatever the pieces in which it comes. Between two pieces it keeps the bytes of a
-/// frame that isn't whole, and no more.
+/// frame that isn't whole, and no more; after a fault, none.
 #[derive(Drop)]
 pub struct Reader {
     // the bytes of a frame that isn't whole yet
@@ -58,8 +58,12 @@ impl Reader {
             return Err(Refusal::Malformed);
         }
         let frames = read_on(alloc, &mut self.rest, piece)?;
-        self.failed = frames.faulty;
-        if frames.faulty && frames.items.is_empty() {
+        if !frames.faulty {
+            return Ok(frames.items);
+        }
+        self.failed = true;
+        self.rest.clear();
+        if frames.items.is_empty() {
             return Err(Refusal::Malformed);
         }
         Ok(frames.items)

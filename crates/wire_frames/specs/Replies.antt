@@ -1,0 +1,44 @@
+-- What a program's replies are, of those that have a frame.
+use Rattle.std.specs.Prelude.{ℕ, ◌<◌, ◌^◌, All, List, length}
+use Rattle.obj_id.specs.Ids.{IsId}
+use Rattle.obj_id.specs.declared.commands.OwnItem.{OwnItem}
+use Rattle.obj_id.specs.declared.commands.GrantedItem.{GrantedItem}
+use Rattle.obj_id.specs.declared.commands.Usage.{Usage}
+use Rattle.obj_id.specs.declared.commands.Reply.{Reply}
+use Rattle.obj_id.specs.declared.commands.Reply.TheVariants as reply
+
+pub record IsOwnItem (i : OwnItem) : Type 0 where
+  pub id : IsId i.id
+  pub length_fits : i.length < 2 ^ 32
+
+-- the depth is one byte
+pub record IsGrantedItem (i : GrantedItem) : Type 0 where
+  pub id : IsId i.id
+  pub length_fits : i.length < 2 ^ 32
+  pub depth_fits : i.depth < 256
+
+pub record IsUsage (u : Usage) : Type 0 where
+  pub window : u.window < 2 ^ 64
+  pub window_used : u.window_used < 2 ^ 64
+  pub device : u.device < 2 ^ 64
+  pub device_used : u.device_used < 2 ^ 64
+  pub copies : u.copies < 2 ^ 64
+  pub works : u.works < 2 ^ 64
+
+pub record IsList (own : List OwnItem) (granted : List GrantedItem) : Type 0 where
+  pub own_count : length own < 2 ^ 32
+  pub granted_count : length granted < 2 ^ 32
+  pub own_items : All IsOwnItem own
+  pub granted_items : All IsGrantedItem granted
+
+-- numbers of 32 and of 64 bits; nothing that a device worker is answered
+abbrev pub IsReply : Reply (List ℕ) → Type 0
+IsReply reply.Ok = Unit {0}
+IsReply (reply.Placed offset n) = (offset < 2 ^ 32) × (n < 2 ^ 32)
+IsReply (reply.Got n) = n < 2 ^ 32
+IsReply (reply.Bytes bytes) = Unit {0}
+IsReply (reply.List own granted) = IsList own granted
+IsReply (reply.Usage u) = IsUsage u
+IsReply (reply.Work work) = ⊥
+IsReply reply.NoWork = ⊥
+IsReply (reply.Refused r) = Unit {0}
