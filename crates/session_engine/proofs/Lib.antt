@@ -1,0 +1,5 @@
+mod KnownBytes
+mod Answering
+mod Hearing
+mod Ends
+mod Progress

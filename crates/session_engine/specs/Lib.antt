@@ -1,0 +1,5 @@
+pub mod Calls
+pub mod Sessions
+pub mod Serving
+pub mod Hearing
+pub mod Turns

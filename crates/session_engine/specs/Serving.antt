@@ -1,0 +1,81 @@
+-- A session as a whole: what it reads and writes, and how it ends.
+use Rattle.std.specs.Prelude.{◌≡◌, ◌≢◌, ℕ, List, [], ◌∷◌, ◌++◌, Option, None, IfSome, Result, Ok, Err, ⊤}
+use Rattle.std.specs.Io.KnownBytes.{Appends, Consumes}
+use Rattle.obj_id.specs.declared.refusals.Refusal.TheVariants as refusal
+use Rattle.obj_id.specs.declared.commands.Reply.{Reply}
+use Rattle.obj_id.specs.declared.commands.Reply.TheVariants as reply
+use Rattle.private_store.specs.declared.frames.Item.{Item}
+use Rattle.private_store.specs.Frames.{clean, mid_frame, malformed, stream_of, replies_bytes}
+use Rattle.session_engine.specs.declared.session.Seat.{Seat}
+use Rattle.session_engine.specs.declared.ending.Ended.{Ended}
+use Rattle.session_engine.specs.declared.ending.Ended.TheVariants.{Clean, MidFrame, Malformed}
+use Rattle.session_engine.specs.declared.ending.SessionFault.{SessionFault}
+use Rattle.session_engine.specs.declared.ending.SessionFault.TheVariants.{Read, Write, Memory}
+use Rattle.session_engine.specs.Calls.{Asked, Answered}
+use Rattle.session_engine.specs.Sessions.{Standing, standing, Run, Leaves}
+
+-- the refusal of what isn't a frame
+abbrev pub not_a_frame : Reply (List ℕ)
+not_a_frame = reply.Refused refusal.Malformed
+
+-- the replies of an ended session: one more where the stream has a fault
+abbrev pub replies_at : Ended → List (Reply (List ℕ)) → List (Reply (List ℕ))
+replies_at Clean replies = replies
+replies_at MidFrame replies = replies
+replies_at Malformed replies = replies ++ not_a_frame ∷ []
+
+-- what was read is all, and is whole frames; is all, and a rest is left; has a fault
+abbrev pub EndsIn : Ended → List ℕ → Option (List ℕ) → Type 0
+EndsIn Clean bytes input = ((stream_of bytes).end ≡ clean) × IfSome input (λ all. all ≡ bytes)
+EndsIn MidFrame bytes input = ((stream_of bytes).end ≡ mid_frame) × ((stream_of bytes).rest ≢ []) × IfSome input (λ all. all ≡ bytes)
+EndsIn Malformed bytes input = (stream_of bytes).end ≡ malformed
+
+-- what went out before a fault; where writing failed, nobody knows
+abbrev pub IsSent : SessionFault → Option (List ℕ) → Option (List ℕ) → List (Reply (List ℕ)) → Type 0
+IsSent Read written_old written_new sent = Appends written_old written_new (replies_bytes sent)
+IsSent Write written_old written_new sent = ⊤
+IsSent Memory written_old written_new sent = Appends written_old written_new (replies_bytes sent)
+
+module _ {G : Type 0} (gives : G → Asked → Answered → G → Type 0) where
+  -- all items are answered, and the session ends so
+  pub record Concludes (ended : Ended) (items : List Item) (old new : Standing G) : Type 0 where
+    pub replies : List (Reply (List ℕ))
+    pub run : Run gives items replies old.gate old.seat new.gate new.seat
+    pub written : Appends old.written new.written (replies_bytes (replies_at ended replies))
+
+  -- all items are answered, and nothing else is written
+  pub record AnswersAll (items : List Item) (old new : Standing G) : Type 0 where
+    pub replies : List (Reply (List ℕ))
+    pub run : Run gives items replies old.gate old.seat new.gate new.seat
+    pub written : Appends old.written new.written (replies_bytes replies)
+
+  -- a fault came: a beginning of the items is answered, and a beginning of the answers written
+  pub record StopsWithin (fault : SessionFault) (items : List Item) (old new : Standing G) : Type 0 where
+    pub answered : List Item
+    pub waiting : List Item
+    pub parted : items ≡ answered ++ waiting
+    pub sent : List (Reply (List ℕ))
+    pub unsent : List (Reply (List ℕ))
+    pub run : Run gives answered (sent ++ unsent) old.gate old.seat new.gate new.seat
+    pub written : IsSent fault old.written new.written sent
+
+  -- how a session ended or stopped that had read these bytes of its input
+  abbrev pub IsOutcome : List ℕ → Option (List ℕ) → Standing G → Standing G → Result Ended SessionFault → Type 0
+  IsOutcome bytes input old new (Ok ended) = EndsIn ended bytes input × Concludes ended (stream_of bytes).items old new
+  IsOutcome bytes input old new (Err Read) = AnswersAll (stream_of bytes).items old new
+  IsOutcome bytes input old new (Err Write) = StopsWithin Write (stream_of bytes).items old new
+  IsOutcome bytes input old new (Err Memory) = StopsWithin Memory (stream_of bytes).items old new
+
+  -- the input is answered
+  pub record AnswersInput (old new : Standing G) (read_old read_new : Option (List ℕ)) (result : Result Ended SessionFault) : Type 0 where
+    -- what was read
+    pub bytes : List ℕ
+    pub consumed : Consumes read_old read_new bytes
+    pub outcome : IsOutcome bytes read_old old new result
+
+  -- a session from its beginning, where it has no seat, to its end: the last that its gate is asked is the Leave
+  pub record Served (gate_old gate_new : G) (read_old read_new written_old written_new : Option (List ℕ)) (result : Result Ended SessionFault) : Type 0 where
+    pub gate_then : G
+    pub seat_then : Option Seat
+    pub answered : AnswersInput (standing gate_old None written_old) (standing gate_then seat_then written_new) read_old read_new result
+    pub left : Leaves gives seat_then gate_then gate_new

@@ -1,0 +1,82 @@
+-- A session: the answer to each item, over a gate that is known by a relation of the gate before, what it is
+-- asked, what it answers, and the gate after.
+use Rattle.std.specs.Prelude.{◌≡◌, ℕ, List, [], ◌∷◌, Option, Some, None}
+use Rattle.obj_id.specs.declared.ids.JobNo.{JobNo}
+use Rattle.obj_id.specs.declared.works.JobKey.{JobKey}
+use Rattle.obj_id.specs.declared.refusals.Refusal.{Refusal}
+use Rattle.obj_id.specs.declared.refusals.Refusal.TheVariants.{NotAdmitted, BadId, Exists}
+use Rattle.obj_id.specs.declared.commands.Command.TheVariants as command
+use Rattle.obj_id.specs.declared.commands.Reply.{Reply}
+use Rattle.obj_id.specs.declared.commands.Reply.TheVariants as reply
+use Rattle.private_store.specs.declared.frames.Item.{Item}
+use Rattle.private_store.specs.declared.frames.Item.TheVariants as item
+use Rattle.session_engine.specs.declared.session.Seat.{Seat}
+use Rattle.session_engine.specs.Calls.{Asked, to_enter, to_call, to_wait, Answered, entered, replied}
+
+-- what is written to a Hello
+abbrev pub greeting : Answered → Reply (List ℕ)
+greeting (entered number) = reply.Ok
+greeting (replied refused) = refused
+
+-- the session's seat after a Hello: the Hello's job, and the number that the gate gave
+abbrev pub seat_of : JobNo → Answered → Option Seat
+seat_of job (entered number) = Some (record { job = job; number = number })
+seat_of job (replied refused) = None
+
+-- where a session stands: its gate, its seat, and what its writer holds, where that is known
+pub record Standing (G : Type 0) : Type 0 where
+  pub gate : G
+  pub seat : Option Seat
+  pub written : Option (List ℕ)
+
+abbrev pub standing : {G : Type 0} → G → Option Seat → Option (List ℕ) → Standing G
+standing gate seat written = record { gate = gate; seat = seat; written = written }
+
+module _ {G : Type 0} (gives : G → Asked → Answered → G → Type 0) where
+  -- the session answers by itself; neither its seat nor the gate changes
+  pub record RefusesAlone (refusal : Refusal) (before : G) (seat : Option Seat) (answer : Reply (List ℕ)) (after : G) (seat_after : Option Seat) : Type 0 where
+    pub answered : answer ≡ reply.Refused refusal
+    pub gate : after ≡ before
+    pub same : seat_after ≡ seat
+
+  -- the answer is the gate's
+  pub record Passes (asked : Asked) (before : G) (seat : Option Seat) (answer : Reply (List ℕ)) (after : G) (seat_after : Option Seat) : Type 0 where
+    pub answered : gives before asked (replied answer) after
+    pub same : seat_after ≡ seat
+
+  -- the session has entered where the gate gave it a number
+  pub record Greets (job : JobNo) (key : JobKey) (before : G) (answer : Reply (List ℕ)) (after : G) (seat_after : Option Seat) : Type 0 where
+    pub entry : Answered
+    pub asked : gives before (to_enter job key) entry after
+    pub answered : answer ≡ greeting entry
+    pub seated : seat_after ≡ seat_of job entry
+
+  -- the answer to an item, before an accepted Hello and after it
+  abbrev pub AnswersItem : G → Option Seat → Item → Reply (List ℕ) → G → Option Seat → Type 0
+  AnswersItem before None (item.Hello job key) = Greets job key before
+  AnswersItem before None (item.Command c) = RefusesAlone NotAdmitted before None
+  AnswersItem before None (item.Wait awaited) = RefusesAlone NotAdmitted before None
+  AnswersItem before None item.BadId = RefusesAlone BadId before None
+  AnswersItem before (Some at) (item.Hello job key) = RefusesAlone Exists before (Some at)
+  AnswersItem before (Some at) (item.Command c) = Passes (to_call at.job at.number c) before (Some at)
+  AnswersItem before (Some at) (item.Wait awaited) = Passes (to_wait at.job at.number awaited) before (Some at)
+  AnswersItem before (Some at) item.BadId = RefusesAlone BadId before (Some at)
+
+  -- one item's answer, and then others
+  pub record Then (before : G) (seat : Option Seat) (x : Item) (answer : Reply (List ℕ)) (rest : G → Option Seat → Type 0) : Type 0 where
+    pub gate : G
+    pub seat_then : Option Seat
+    pub first : AnswersItem before seat x answer gate seat_then
+    pub others : rest gate seat_then
+
+  -- the items are answered in order, each by the gate and in the seat that the one before it left
+  abbrev pub Run : List Item → List (Reply (List ℕ)) → G → Option Seat → G → Option Seat → Type 0
+  Run [] [] before seat after seat_after = (after ≡ before) × (seat_after ≡ seat)
+  Run [] (_ ∷ _) before seat after seat_after = ⊥
+  Run (_ ∷ _) [] before seat after seat_after = ⊥
+  Run (x ∷ items) (answer ∷ replies) before seat after seat_after = Then before seat x answer (λ gate seat_then. Run items replies gate seat_then after seat_after)
+
+  -- a session that entered asks for one Leave, whatever the answer
+  abbrev pub Leaves : Option Seat → G → G → Type 0
+  Leaves None before after = after ≡ before
+  Leaves (Some at) before after = (answer : Reply (List ℕ)) × gives before (to_call at.job at.number command.Leave) (replied answer) after

@@ -1,0 +1,14 @@
+//! One session over any reader and writer. A contract sees what was read and written as bytes, where
+//! the reader and the writer tell them, and the gate behind the session by a relation of its own.
+#![tactic(auto)]
+
+mod ending;
+mod faulty;
+mod gate;
+mod serving;
+mod session;
+
+pub use ending::{Ended, SessionFault};
+pub use faulty::FaultyStream;
+pub use gate::Gate;
+pub use serving::serve;

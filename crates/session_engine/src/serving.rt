@@ -1,0 +1,205 @@
+//! A session from its first byte to its last.
+ghost use Rattle.std.specs.Prelude.{◌≡◌, ◌<◌, [], ◌∷◌, length, IsTrue, if◌then◌else◌};
+ghost use Rattle.wire_frames.specs.Reading.{is_in_mid_frame};
+ghost use Rattle.wire_frames.specs.Writing.{has_reply_frame};
+ghost use Rattle.session_engine.specs.Hearing.{Sends, Flushes, Answering, HearsPiece};
+ghost use Rattle.session_engine.specs.Serving.{AnswersInput, Served};
+ghost use Rattle.session_engine.specs.Sessions.{standing};
+
+use crate::session::{Seat, answer, leave};
+use crate::{Ended, Gate, SessionFault};
+use bytes::Bytes;
+use obj_id::{Refusal, Reply};
+use private_store::Item;
+use std::alloc::Global;
+use std::io::{Read, Write};
+use wire_frames::{Reader, encode_reply};
+
+/// How many bytes are read at once, at most.
+const PIECE_SIZE: usize = 65_536;
+
+/// What was heard in a piece of the input.
+#[derive(Clone, Copy, Debug)]
+pub enum Heard {
+    /// Items, or none.
+    Items,
+    /// What isn't a frame.
+    NoFrame,
+}
+
+/// Serves a session to its end: answers what the reader gives, item by item, and then asks the gate for
+/// the Leave of a session that has entered.
+///
+/// Before an accepted Hello a command is answered `NotAdmitted`, after it a Hello `Exists`; an id that
+/// can't be is answered `BadId` always, and all else by the gate. What isn't a frame is answered
+/// `Malformed`, once and last.
+///
+/// `Read` comes where a read fails, or is past the 18,446,744,073,709,551,615th: all that was read is
+/// answered then. `Write` comes where a write or a flush fails, and nothing is said of how much went out.
+/// `Memory` comes where the process has none for what is read or for an answer's frame: what was written
+/// then is the frames of the first replies.
+pub fn serve<R: Read, W: Write, G: Gate>(
+    alloc: Global,
+    reader: &mut R,
+    writer: &mut W,
+    gate: &mut G,
+) -> Result<Ended, SessionFault>
+    ensures { Served G.gives gate.old gate.new (R.remaining reader.old) (R.remaining reader.new)
+        (W.contents writer.old) (W.contents writer.new) result }
+{
+    let mut seat = None;
+    let ended = answer_input(alloc, reader, writer, gate, &mut seat);
+    leave(gate, seat);
+    ended
+}
+
+/// Answers all that the reader gives.
+fn answer_input<R: Read, W: Write, G: Gate>(
+    alloc: Global,
+    reader: &mut R,
+    writer: &mut W,
+    gate: &mut G,
+    seat: &mut Option<Seat>,
+) -> Result<Ended, SessionFault>
+    ensures { AnswersInput G.gives (standing gate.old seat.old (W.contents writer.old))
+        (standing gate.new seat.new (W.contents writer.new))
+        (R.remaining reader.old) (R.remaining reader.new) result }
+{
+    let Ok(mut buffer) = vec![in alloc; 0u8; PIECE_SIZE] else {
+        return Err(SessionFault::Memory)
+    };
+    answer_pieces(alloc, reader, writer, gate, seat, buffer.as_mut_slice())
+}
+
+/// Answers all that the reader gives, piece by piece, as the buffer takes it.
+fn answer_pieces<R: Read, W: Write, G: Gate>(
+    alloc: Global,
+    reader: &mut R,
+    writer: &mut W,
+    gate: &mut G,
+    seat: &mut Option<Seat>,
+    buffer: &mut [u8],
+) -> Result<Ended, SessionFault>
+    requires { 0 < length buffer.old }
+    ensures { AnswersInput G.gives (standing gate.old seat.old (W.contents writer.old))
+        (standing gate.new seat.new (W.contents writer.new))
+        (R.remaining reader.old) (R.remaining reader.new) result }
+{
+    let mut frames = Reader::new(alloc);
+    for _ in 0..u64::MAX {
+        let Ok(count) = reader.read(buffer) else {
+            return Err(SessionFault::Read)
+        };
+        match hear(alloc, &mut frames, writer, gate, seat, &buffer[..count]) {
+            Err(fault) => return Err(fault),
+            Ok(Heard::NoFrame) => return Ok(Ended::Malformed),
+            Ok(Heard::Items) => {}
+        }
+        // a fault of the stream that waits behind those items
+        match hear(alloc, &mut frames, writer, gate, seat, &[]) {
+            Err(fault) => return Err(fault),
+            Ok(Heard::NoFrame) => return Ok(Ended::Malformed),
+            Ok(Heard::Items) => {}
+        }
+        if count == 0 {
+            return Ok(end_of(&frames));
+        }
+    }
+    // more reads than there are numbers
+    Err(SessionFault::Read)
+}
+
+/// How a session ends whose stream has no fault.
+fn end_of(frames: &Reader) -> Ended
+    ensures { result ≡ (if is_in_mid_frame frames.now then Ended.MidFrame else Ended.Clean) }
+{
+    if frames.in_mid_frame() {
+        Ended::MidFrame
+    } else {
+        Ended::Clean
+    }
+}
+
+/// Answers what the piece says, and hands all answers over.
+fn hear<W: Write, G: Gate>(
+    alloc: Global,
+    frames: &mut Reader,
+    writer: &mut W,
+    gate: &mut G,
+    seat: &mut Option<Seat>,
+    piece: &[u8],
+) -> Result<Heard, SessionFault>
+    ensures { HearsPiece G.gives frames.old piece.now frames.new
+        (standing gate.old seat.old (W.contents writer.old))
+        (standing gate.new seat.new (W.contents writer.new)) result }
+{
+    match frames.feed(alloc, piece) {
+        Ok(items) => {
+            answer_all(alloc, writer, gate, seat, items)?;
+            flush(writer)?;
+            Ok(Heard::Items)
+        }
+        Err(Refusal::Malformed) => {
+            send(alloc, writer, &Reply::Refused(Refusal::Malformed))?;
+            flush(writer)?;
+            Ok(Heard::NoFrame)
+        }
+        Err(_) => Err(SessionFault::Memory),
+    }
+}
+
+/// Answers the items, in order.
+fn answer_all<W: Write, G: Gate>(
+    alloc: Global,
+    writer: &mut W,
+    gate: &mut G,
+    seat: &mut Option<Seat>,
+    items: Vec<Item>,
+) -> Result<(), SessionFault>
+    ensures { Answering G.gives items.items (standing gate.old seat.old (W.contents writer.old))
+        (standing gate.new seat.new (W.contents writer.new)) result }
+{
+    for item in items {
+        answer_one(alloc, writer, gate, seat, item)?;
+    }
+    Ok(())
+}
+
+/// Answers the item, and writes the answer.
+fn answer_one<W: Write, G: Gate>(
+    alloc: Global,
+    writer: &mut W,
+    gate: &mut G,
+    seat: &mut Option<Seat>,
+    item: Item,
+) -> Result<(), SessionFault>
+    ensures { Answering G.gives (item ∷ []) (standing gate.old seat.old (W.contents writer.old))
+        (standing gate.new seat.new (W.contents writer.new)) result }
+{
+    let reply = answer(gate, seat, item);
+    send(alloc, writer, &reply)
+}
+
+/// Writes the reply's frame.
+fn send<W: Write>(alloc: Global, writer: &mut W, reply: &Reply<Bytes>) -> Result<(), SessionFault>
+    requires { IsTrue (has_reply_frame reply.now) }
+    ensures { Sends reply.now (W.contents writer.old) (W.contents writer.new) result }
+{
+    let Ok(frame) = encode_reply(alloc, reply) else {
+        return Err(SessionFault::Memory)
+    };
+    match writer.write_all(&frame) {
+        Ok(()) => Ok(()),
+        Err(_) => Err(SessionFault::Write),
+    }
+}
+
+/// Hands over what the writer kept back.
+fn flush<W: Write>(writer: &mut W) -> Result<(), SessionFault>
+    ensures { Flushes (W.contents writer.old) (W.contents writer.new) result }
+{
+    match writer.flush() {
+        Ok(()) => Ok(()),
+        Err(_) => Err(SessionFault::Write),
+    }
+}
