@@ -37,7 +37,8 @@ fn wanted_memory(printed: &[u8], ended: &Result<(), Fault>) -> bool {
         Ok(text) => text.contains("refused 19 NoMemory\n"),
         Err(_) => false,
     };
-    told || matches!(ended, Err(Fault::NoMemory))
+    // the output is memory as well
+    told || matches!(ended, Err(Fault::NoMemory | Fault::Output))
 }
 
 /// Checks what a run of the schedule prints and how it ends, in a second run where memory was wanting in

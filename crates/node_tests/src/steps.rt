@@ -146,7 +146,9 @@ fn told_to(alloc: Global, job: JobNo, trace: &Trace) -> Result<Option<String>, A
         if let Step::At(_, Event::Call(of, _, _)) = &entry.step {
             if *of == job {
                 let line = printed(alloc, &entry.step, &entry.answer)?;
-                all.push_str(line.as_str())?;
+                if all.push_str(line.as_str()).is_err() {
+                    all.push_str(line.as_str())?;
+                }
             }
         }
     }

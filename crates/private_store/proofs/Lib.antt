@@ -5,6 +5,7 @@ pub mod Sound
 pub mod Tests
 pub mod Rows
 pub mod ObjectMaps
+pub mod KnownBytes
 pub mod Clearing
 pub mod CalmSteps
 pub mod Turns

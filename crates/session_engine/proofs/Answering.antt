@@ -13,7 +13,7 @@ use Rattle.session_engine.specs.Calls.{Asked, Answered}
 use Rattle.session_engine.specs.Sessions.{Standing, standing, AnswersItem, Run}
 use Rattle.session_engine.specs.Serving.{IsSent, AnswersAll, StopsWithin}
 use Rattle.session_engine.specs.Hearing.{Sends, Flushes, StopsAnswering, Answering}
-use Rattle.session_engine.proofs.KnownBytes.{Appends-none, Appends-then, Appends-kept}
+use Rattle.private_store.proofs.KnownBytes.{Appends-none, Appends-then, Appends-kept}
 
 -- ---- what is sent
 

@@ -1,4 +1,3 @@
-mod KnownBytes
 mod Answering
 mod Hearing
 mod Ends

@@ -13,7 +13,7 @@ use Rattle.store_program.specs.declared.fault.Fault.{Fault}
 use Rattle.store_program.specs.declared.fault.Fault.TheVariants.{NotAStep, Input, Output, NoMemory}
 use Rattle.store_program.specs.Lines.{Spells, with_feed, history_of, input_of, output_of}
 use Rattle.store_program.specs.Runs.{RunsStep, RunsLine, StopsRun, IsReadingFault, Progress, IsWorldly, IsOutput, Ran}
-use Rattle.store_program.proofs.KnownBytes.{Appends-none, Appends-then, Appends-kept, Consumes-none, Consumes-then, Consumes-all}
+use Rattle.private_store.proofs.KnownBytes.{Appends-none, Appends-then, Appends-kept, Consumes-none, Consumes-then, Consumes-all}
 
 -- ---- one line
 
