@@ -4,3 +4,4 @@ mod Views
 mod Calling
 mod Admitting
 mod Ending
+mod Asking

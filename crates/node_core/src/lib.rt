@@ -1,12 +1,14 @@
 //! One node: the stores of many jobs, each as if it were alone.
 #![tactic(auto)]
 
-ghost use Rattle.std.specs.Prelude.{◌≡◌, ℕ, ◌≤◌, true, [], IfOk, OnErr, IsErrOf};
+ghost use Rattle.std.specs.Prelude.{◌≡◌, ℕ, ◌≤◌, true, [], IfOk, OnErr, IsErrOf, is_ok, is_some};
 ghost use Rattle.obj_id.specs.declared.refusals.Refusal.{Refusal};
-ghost use Rattle.obj_id.specs.declared.refusals.Refusal.TheVariants.{NoMemory};
+ghost use Rattle.obj_id.specs.declared.refusals.Refusal.TheVariants.{NoMemory, NotAdmitted};
 ghost use Rattle.private_store.specs.declared.schedules.Event.TheVariants as event;
+ghost use Rattle.private_store.specs.Contents.{View};
+ghost use Rattle.private_store.specs.Commands.{usage_of};
 ghost use Rattle.private_store.specs.Private.{view_of, no_store};
-ghost use Rattle.job_admission.specs.Admissions.{largest_memory};
+ghost use Rattle.job_admission.specs.Admissions.{largest_memory, live_at};
 ghost use Rattle.node_table.specs.Outcomes.{given_of};
 ghost use Rattle.node_core.specs.Hosted.{Shows};
 ghost use Rattle.node_core.specs.Steps.{is_built, is_built_command, Steps};
@@ -18,7 +20,7 @@ use indexmap::IndexMap;
 use job_admission::Admission;
 use node_table::JobRow;
 pub use node_table::{Erase, Outcome};
-use obj_id::{Command, DirectoryMessage, JobKey, JobNo, Message, Place, Quota, Refusal, Reply};
+use obj_id::{Command, DirectoryMessage, JobKey, JobNo, Message, Place, Quota, Refusal, Reply, Usage};
 use private_store::Event;
 use spill_work::Works;
 use std::alloc::Global;
@@ -74,6 +76,19 @@ impl Node {
             Event::JobEnd(job) => self.end_job(*job),
             Event::Call(job, session, command) => self.call(*job, *session, command),
             _ => Err(Refusal::NoMemory),
+        }
+    }
+
+    /// A job's quotas and what is used of them, in bytes and in numbers. `NotAdmitted` where the job isn't
+    /// live. No event: nothing changes. Takes no memory.
+    pub fn usage(&self, job: JobNo) -> Result<Usage, Refusal>
+        ensures told { IfOk result (λ told. (view : View) → Shows self.now job.0 view → told ≡ usage_of view.shape) }
+        ensures live { is_ok result ≡ is_some (live_at self.now.admissions job) }
+        ensures refused { (r : Refusal) → IsErrOf result r → r ≡ NotAdmitted }
+    {
+        match self.rows.get(&job) {
+            Some(row) => Ok(row.usage(&self.works)),
+            None => Err(Refusal::NotAdmitted),
         }
     }
 
