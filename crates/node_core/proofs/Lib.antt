@@ -5,3 +5,4 @@ mod Calling
 mod Admitting
 mod Ending
 mod Asking
+mod Entering

@@ -1,14 +1,16 @@
 //! One node: the stores of many jobs, each as if it were alone.
 #![tactic(auto)]
 
-ghost use Rattle.std.specs.Prelude.{◌≡◌, ℕ, ◌≤◌, true, [], IfOk, OnErr, IsErrOf, is_ok, is_some};
+ghost use Rattle.std.specs.Prelude.{◌≡◌, ◌↔◌, ℕ, ◌+◌, ◌≤◌, true, false, [], Some, None, IfOk, OnOk, OnErr, IsErrOf, IsOk, is_ok, is_some};
+ghost use Rattle.obj_id.specs.declared.ids.JobNo.{JobNo};
 ghost use Rattle.obj_id.specs.declared.refusals.Refusal.{Refusal};
 ghost use Rattle.obj_id.specs.declared.refusals.Refusal.TheVariants.{NoMemory, NotAdmitted};
 ghost use Rattle.private_store.specs.declared.schedules.Event.TheVariants as event;
+ghost use Rattle.private_store.specs.Jobs.{same_job};
 ghost use Rattle.private_store.specs.Contents.{View};
 ghost use Rattle.private_store.specs.Commands.{usage_of};
 ghost use Rattle.private_store.specs.Private.{view_of, no_store};
-ghost use Rattle.job_admission.specs.Admissions.{largest_memory, live_at};
+ghost use Rattle.job_admission.specs.Admissions.{largest_memory, live_at, sessions_entered, enter_check, entered};
 ghost use Rattle.node_table.specs.Outcomes.{given_of};
 ghost use Rattle.node_core.specs.Hosted.{Shows};
 ghost use Rattle.node_core.specs.Steps.{is_built, is_built_command, Steps};
@@ -77,6 +79,22 @@ impl Node {
             Event::Call(job, session, command) => self.call(*job, *session, command),
             _ => Err(Refusal::NoMemory),
         }
+    }
+
+    /// The number of the job's next session, from 1. `NotAdmitted` where the job isn't live or the key isn't
+    /// the whole of its own, which are told alike; `TooMany` where 4,294,967,295 numbers were given. A
+    /// refusal changes nothing and uses no number. No event: no job's view changes. Takes no memory.
+    pub fn enter(&mut self, job: JobNo, key: &JobKey) -> Result<u32, Refusal>
+        ensures number { IfOk result (λ number. number ≡ sessions_entered self.old.admissions job + 1) }
+        ensures count { IfOk result (λ number. sessions_entered self.new.admissions job ≡ number) }
+        ensures ok { OnOk result (self.new ≡ record self.old { admissions = entered self.old.admissions job }) }
+        ensures others { (other : JobNo) → same_job job other ≡ false → live_at self.new.admissions other ≡ live_at self.old.admissions other }
+        ensures views { (q : ℕ) (view : View) → Shows self.new q view ↔ Shows self.old q view }
+        ensures passed { IsOk result → enter_check self.old.admissions job key.now ≡ None }
+        ensures refused { (r : Refusal) → IsErrOf result r → enter_check self.old.admissions job key.now ≡ Some r }
+        ensures err { OnErr result (self.new ≡ self.old) }
+    {
+        self.admission.enter(job, key)
     }
 
     /// A job's quotas and what is used of them, in bytes and in numbers. `NotAdmitted` where the job isn't
