@@ -38,12 +38,8 @@ use Rattle.node_table.proofs.ByChecks.{unless_refused, called, own, write-by, re
 use Rattle.node_table.proofs.CopyTables.{at-copies_found}
 use Rattle.node_table.proofs.Passed.{IsWritten, write_passed, IsRead, read_passed, placed_at, place_found, created_resides, sealed_resides, at_most_rounded}
 use Rattle.node_table.proofs.Places.{bytes-written, bytes-other, long_at}
+use Rattle.node_table.proofs.Lending.{held_shown}
 use Rattle.node_table.proofs.Stepping.{Moves, moved, stays, same_bytes}
-
--- a session that has a hold is among the holds
-some_hold : (session : ℕ) (holds : List (ℕ × ℕ)) → (unwrap_or (find nat_cmp session holds) 0 == 0) ≡ false → are_held holds ≡ true
-some_hold session [] e = absurd cc
-some_hold session (hold ∷ holds) e = refl
 
 module _ (node : ℕ) (row : Row) (line : WorkLine) (contents : Contents) (session : ℕ) (id : ObjectId) (offset : ℕ) (mine : (id.job.0 == row.job) ≡ true) (h : IsShown row line contents) where
   abbrev s : Shape
@@ -158,12 +154,5 @@ module _ (node : ℕ) (row : Row) (line : WorkLine) (contents : Contents) (sessi
           (stays node row line contents h y (reply.Bytes n)
           (called row line session (command.Read id offset n) ∙ ap (erasing s) (own row line id _ mine ∙ read-by row line id session offset n ∙ ap (λ o. unless_refused s o (replied s (reply.Bytes n))) passed)) refl refl)
 
-      -- what is held is sealed
-      held_sealed : is_sealed got.copy.copy.state ≡ true
-      held_sealed = (h.kept.kept.shape.each id got.copy.copy (at-copies_found row.copies id got.copy got.found)).held (some_hold session got.copy.copy.holds got.held)
-
       pub read_found : (shown : List ℕ) → ((k : Kept) (e : Extent) → at row.copies id ≡ Some k → extent_of k.copy ≡ Some e → shown ≡ take k.copy.length (placed_bytes e row.window.placed)) → shown ≡ bytes_at contents.bytes id
-      read_found shown are =
-          let resident = (h.kept.kept.shape.each id got.copy.copy (at-copies_found row.copies id got.copy got.found)).resident ∙ sealed_resides got.copy.copy.state got.copy.copy.fetch held_sealed in
-          let p = placed_at got.copy.copy resident in
-          are got.copy p.0 got.found p.1 ∙ sym (h.bytes id got.copy p.0 got.found p.1)
+      read_found = held_shown row line contents h session id got.copy got.found got.held
