@@ -1,6 +1,6 @@
 -- What a session that enters leaves: one more number given, and the views that were.
-use Rattle.std.proofs.Common.{◌≡◌, ℕ, ◌+◌, List, Option, Some, None, Ok, Err, refl, sym, ap, subst, ◌∙◌}
-use Rattle.std.specs.Prelude.{◌↔◌, nat_le, OnOk, OnErr}
+use Rattle.std.proofs.Common.{◌≡◌, ◌+◌, List, Option, Some, None, Ok, Err, refl, sym, subst, ◌∙◌}
+use Rattle.std.specs.Prelude.{nat_le, OnOk, OnErr}
 use Rattle.std.specs.declared.result.Result.{Result}
 use Rattle.std.specs.List.{list_all}
 use Rattle.std.specs.Map.{keys_of, set_value}
@@ -8,11 +8,10 @@ use Rattle.std.specs.Option.{option_map_or}
 use Rattle.std.proofs.lemmas.Map.{keys-set_value}
 use Rattle.obj_id.specs.declared.ids.JobNo.{JobNo}
 use Rattle.private_store.specs.Jobs.{same_job}
-use Rattle.private_store.specs.Contents.{View}
 use Rattle.job_admission.specs.declared.Live.{Live}
 use Rattle.job_admission.specs.Admissions.{Admissions, live_at, entered}
 use Rattle.node_table.specs.Row.{Row}
-use Rattle.node_core.specs.Hosted.{Hosted, AreHosted, IsViewBy, Shows, row_at}
+use Rattle.node_core.specs.Hosted.{AreHosted}
 
 -- what holds of what was done, and of what was before, holds after a call that did it or changed nothing
 pub either_way : {X E S : Type 0} (P : S → Type 0) (r : Result X E) (before after done : S) → OnOk r (after ≡ done) → OnErr r (after ≡ before) → P before → P done → P after

@@ -1,7 +1,7 @@
 //! One node: the stores of many jobs, each as if it were alone.
 #![tactic(auto)]
 
-ghost use Rattle.std.specs.Prelude.{◌≡◌, ◌↔◌, ℕ, ◌+◌, ◌≤◌, true, false, [], Some, None, IfOk, OnOk, OnErr, IsErrOf, IsOk, is_ok, is_some};
+ghost use Rattle.std.specs.Prelude.{◌≡◌, ◌↔◌, ℕ, ◌+◌, ◌≤◌, true, false, [], Some, None, IfOk, IfErr, OnOk, OnErr, IsErrOf, IsOk, is_ok, is_some};
 ghost use Rattle.obj_id.specs.declared.ids.JobNo.{JobNo};
 ghost use Rattle.obj_id.specs.declared.refusals.Refusal.{Refusal};
 ghost use Rattle.obj_id.specs.declared.refusals.Refusal.TheVariants.{NoMemory, NotAdmitted};
@@ -13,6 +13,7 @@ ghost use Rattle.private_store.specs.Private.{view_of, no_store};
 ghost use Rattle.job_admission.specs.Admissions.{largest_memory, live_at, sessions_entered, enter_check, entered};
 ghost use Rattle.node_table.specs.Outcomes.{given_of};
 ghost use Rattle.node_core.specs.Hosted.{Shows};
+ghost use Rattle.node_core.specs.Borrowed.{borrowed_check, IsBorrowed};
 ghost use Rattle.node_core.specs.Steps.{is_built, is_built_command, Steps};
 
 mod calls;
@@ -22,7 +23,7 @@ use indexmap::IndexMap;
 use job_admission::Admission;
 use node_table::JobRow;
 pub use node_table::{Erase, Outcome};
-use obj_id::{Command, DirectoryMessage, JobKey, JobNo, Message, Place, Quota, Refusal, Reply, Usage};
+use obj_id::{Command, DirectoryMessage, JobKey, JobNo, Message, ObjectId, Place, Quota, Refusal, Reply, Usage};
 use private_store::Event;
 use spill_work::Works;
 use std::alloc::Global;
@@ -108,6 +109,24 @@ impl Node {
             Some(row) => Ok(row.usage(&self.works)),
             None => Err(Refusal::NotAdmitted),
         }
+    }
+
+    /// The bytes of an object that the session holds, all of them, lent without a copy.
+    ///
+    /// `NotAdmitted` where the job isn't live, `NotGranted` for another job's object, `Absent` where there
+    /// is no copy, `NotSealed` while it is being written or fetched, `NotHeld` where the session has no
+    /// hold. No event: nothing changes. Takes no memory.
+    pub fn read_borrowed(&self, job: JobNo, session: u32, id: &ObjectId) -> Result<&[u8], Refusal>
+        ensures ok { IfOk result (λ bytes. (view : View) → Shows self.now job.0 view → IsBorrowed view session id.now bytes.now) }
+        ensures refused { IfErr result (λ refusal. (view : View) → Shows self.now job.0 view → borrowed_check view.shape session id.now ≡ Some refusal) }
+    {
+        let Some(row) = self.rows.get(&job) else {
+            return Err(Refusal::NotAdmitted);
+        };
+        if id.job().0 != job.0 {
+            return Err(Refusal::NotGranted);
+        }
+        row.lend(session, id)
     }
 
     /// A session's command: its job's row carries it out. `NotAdmitted` where the job isn't live.
