@@ -1,5 +1,5 @@
 -- The bytes of a copy that a session holds.
-use Rattle.std.proofs.Common.{◌≡◌, ℕ, ◌==◌, Bool, true, false, cond, List, [], ◌∷◌, take, length, Option, Some, None, is_some, unwrap_or, option_map, refl, sym, ap, ◌∙◌}
+use Rattle.std.proofs.Common.{◌≡◌, ℕ, ◌==◌, true, false, List, [], ◌∷◌, take, length, Option, Some, None, is_some, unwrap_or, option_map, refl, sym, ap, ◌∙◌}
 use Rattle.std.specs.Ordering.{nat_cmp}
 use Rattle.std.specs.FinMap.{find}
 use Rattle.obj_id.specs.declared.ids.ObjectId.{ObjectId}
