@@ -16,8 +16,7 @@ const NEIGHBOURS_KEY: JobKey = JobKey([8; 32]);
 /// A length that no Read may carry.
 const LONG: u32 = 65_552;
 
-/// Checks that the node answers nothing but a refusal of memory's want, and then once more, and carries
-/// the event out.
+/// Gives the node an event that it doesn't refuse, and once more where memory was wanting.
 fn carry_out(rt: &impl Abort, node: &mut Node, event: &Event) -> Result<(), Refusal>
     requires { is_built event.now ≡ true }
 {
