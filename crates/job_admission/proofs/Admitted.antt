@@ -20,7 +20,7 @@ use Rattle.job_admission.proofs.AllKept.{window_is, all_raised, all_more, absent
 
 module _ (a : Admissions) (job : JobNo) (quota : Quota) (key : JobKey) (offset : ℕ) (kept : AreKept a) (passed : admit_check a job quota ≡ None) (found : place_for a quota.window ≡ Some offset) where
   abbrev x : Live
-  x = record { quota = quota; key = key; offset = offset }
+  x = record { quota = quota; key = key; offset = offset; entered = 0 }
 
   facts : (0 < job.0) × (is_quota quota ≡ true) × (a.greatest < job.0) × (length a.live < 64)
   facts = admit_passed a job quota passed
@@ -39,7 +39,7 @@ module _ (a : Admissions) (job : JobNo) (quota : Quota) (key : JobKey) (offset :
     pub admitted_is : ◌≡◌ {A = Admissions} (record { memory = a.memory; greatest = job.0; live = new }) (admitted a job quota key)
     admitted_is =
         ap (λ es. record { memory = a.memory; greatest = job.0; live = es }) entries
-        ∙ sym (ap (λ o. option_map_or (λ offset. record a { greatest = job.0; live = a.live ++ (job, record { quota = quota; key = key; offset = offset }) ∷ [] }) o a) found)
+        ∙ sym (ap (λ o. option_map_or (λ offset. record a { greatest = job.0; live = a.live ++ (job, record { quota = quota; key = key; offset = offset; entered = 0 }) ∷ [] }) o a) found)
 
     pub admitted_kept : IsDistinct same_job (keys_of new) → ((q : JobNo) → lookup (same_job q) new ≡ cond (same_job job q) (Some x) (lookup (same_job q) a.live)) → AreKept (record { memory = a.memory; greatest = job.0; live = new })
     admitted_kept distinct updated =

@@ -4,3 +4,4 @@ pub mod AllKept
 pub mod Keys
 pub mod Admitted
 pub mod Neighbours
+pub mod Entering

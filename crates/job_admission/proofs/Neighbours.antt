@@ -80,7 +80,7 @@ lives_of-append (e ∷ es) fs = ap (λ lives. shown e ∷ lives) (lives_of-appen
 pub lives_of-admitted : (a : Admissions) (job : JobNo) (quota : Quota) (key : JobKey) → lives_of (admitted a job quota key).live ≡ shared.admitted a.memory job.0 quota.window (lives_of a.live)
 lives_of-admitted a job quota key = by (place_for a quota.window)
   where
-    by : (o : Option ℕ) → lives_of (option_map_or (λ offset. record a { greatest = job.0; live = a.live ++ (job, record { quota = quota; key = key; offset = offset }) ∷ [] }) o a).live
+    by : (o : Option ℕ) → lives_of (option_map_or (λ offset. record a { greatest = job.0; live = a.live ++ (job, record { quota = quota; key = key; offset = offset; entered = 0 }) ∷ [] }) o a).live
         ≡ option_map_or (λ offset. lives_of a.live ++ record { job = job.0; window = record { offset = offset; length = quota.window } } ∷ []) o (lives_of a.live)
     by None = refl
-    by (Some offset) = lives_of-append a.live ((job, record { quota = quota; key = key; offset = offset }) ∷ [])
+    by (Some offset) = lives_of-append a.live ((job, record { quota = quota; key = key; offset = offset; entered = 0 }) ∷ [])

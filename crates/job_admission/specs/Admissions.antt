@@ -1,11 +1,12 @@
 -- The live jobs of a node, and their windows in its memory.
-use Rattle.std.specs.Prelude.{◌≡◌, ℕ, ◌≤◌, ◌==◌, nat_le, nat_lt, Bool, true, false, not, ◌||◌, ◌&&◌, List, [], ◌∷◌, ◌++◌, length, map, Option, Some, is_none}
+use Rattle.std.specs.Prelude.{◌≡◌, ℕ, ◌+◌, ◌≤◌, ◌==◌, nat_le, nat_lt, Bool, true, false, not, ◌||◌, ◌&&◌, List, [], ◌∷◌, ◌++◌, length, map, Option, Some, is_none}
 use Rattle.std.specs.Option.{option_map_or}
 use Rattle.std.specs.List.{list_all, list_any, IsDistinct}
+use Rattle.std.specs.Str.{bytes_eq}
 use Rattle.std.specs.Map.{keys_of, lookup, set_value, remove_entry}
 use Rattle.obj_id.specs.declared.ids.JobNo.{JobNo}
 use Rattle.obj_id.specs.declared.refusals.Refusal.{Refusal}
-use Rattle.obj_id.specs.declared.refusals.Refusal.TheVariants.{NotAdmitted, BadId, BadSize, Exists, NoRoom}
+use Rattle.obj_id.specs.declared.refusals.Refusal.TheVariants.{NotAdmitted, BadId, BadSize, Exists, NoRoom, TooMany}
 use Rattle.obj_id.specs.declared.works.Extent.{Extent}
 use Rattle.obj_id.specs.declared.works.JobKey.{JobKey}
 use Rattle.obj_id.specs.declared.works.Quota.{Quota}
@@ -61,7 +62,7 @@ admit_check a job quota =
 -- the job is live, where its window goes
 abbrev pub admitted : Admissions → JobNo → Quota → JobKey → Admissions
 admitted a job quota key =
-    option_map_or (λ offset. record a { greatest = job.0; live = a.live ++ (job, record { quota = quota; key = key; offset = offset }) ∷ [] })
+    option_map_or (λ offset. record a { greatest = job.0; live = a.live ++ (job, record { quota = quota; key = key; offset = offset; entered = 0 }) ∷ [] })
     (place_for a quota.window) a
 
 -- ---- a change of quota
@@ -79,6 +80,37 @@ resize_check a job quota =
 abbrev pub resized : Admissions → JobNo → Quota → Admissions
 resized a job quota =
     option_map_or (λ live. record a { live = set_value (same_job job) a.live (record live { quota = quota }) }) (live_at a job) a
+
+-- ---- sessions
+
+-- the numbers that a job's sessions may have at a node, in all
+abbrev pub most_sessions : ℕ
+most_sessions = 4294967295
+
+-- all bytes of a key count
+abbrev pub same_key : JobKey → JobKey → Bool
+same_key key shown = bytes_eq key.0 shown.0
+
+-- whether the job is live and this is its key
+abbrev pub has_key : Admissions → JobNo → JobKey → Bool
+has_key a job key = option_map_or (λ live. same_key live.key key) (live_at a job) false
+
+-- how many numbers were given for the job
+abbrev pub sessions_entered : Admissions → JobNo → ℕ
+sessions_entered a job = option_map_or (λ live. live.entered) (live_at a job) 0
+
+-- why no session enters the job with this key
+abbrev pub enter_check : Admissions → JobNo → JobKey → Option Refusal
+enter_check a job key =
+    first_refusal (
+    (not (has_key a job key), NotAdmitted)
+    ∷ (nat_le most_sessions (sessions_entered a job), TooMany)
+    ∷ [])
+
+-- one more number is given for the job
+abbrev pub entered : Admissions → JobNo → Admissions
+entered a job =
+    option_map_or (λ live. record a { live = set_value (same_job job) a.live (record live { entered = live.entered + 1 }) }) (live_at a job) a
 
 -- ---- the end of a job
 

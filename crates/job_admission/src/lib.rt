@@ -1,16 +1,17 @@
-//! The live jobs of a node: their quotas, their keys, and their windows in the node's memory. A contract
-//! sees them in the order of their admission, each with the offset of its window.
+//! The live jobs of a node: their quotas, their keys, their windows in the node's memory, and the numbers of
+//! their sessions. A contract sees them in the order of their admission, each with the offset of its window.
 #![tactic(auto)]
 
-ghost use Rattle.std.specs.Prelude.{◌≡◌, ◌≢◌, ◌↔◌, ◌^◌, ◌<◌, ◌≤◌, ◌&&◌, [], Some, None, true, false, not, nat_le, find, IfOk, IfErr, OnOk, OnErr, IsErrOf, IsOk, is_ok, IsTrue, IsSomeAnd, is_some, option_map, length, map, filter};
+ghost use Rattle.std.specs.Prelude.{◌≡◌, ◌≢◌, ◌↔◌, ◌+◌, ◌^◌, ◌<◌, ◌≤◌, ◌&&◌, [], Some, None, true, false, not, nat_le, find, IfOk, IfErr, OnOk, OnErr, IsErrOf, IsOk, is_ok, IsTrue, IsSomeAnd, is_some, option_map, length, map, filter};
 ghost use Rattle.std.specs.List.{list_all};
 ghost use Rattle.obj_id.specs.declared.ids.JobNo.{JobNo};
 ghost use Rattle.obj_id.specs.declared.refusals.Refusal.{Refusal};
 ghost use Rattle.obj_id.specs.declared.refusals.Refusal.TheVariants.{NotAdmitted, NoMemory};
+ghost use Rattle.private_store.specs.Jobs.{same_job};
 ghost use Rattle.private_store.specs.Limits.{is_window, is_quota as is_quota_lem};
 ghost use Rattle.private_store.specs.Extents.{is_apart as is_apart_lem, end_of};
 ghost use Rattle.private_store.specs.Shared.{job_is, widened, admitted as admitted_lem, windows_without};
-ghost use Rattle.job_admission.specs.Admissions.{largest_memory, live_at, window_of, lives_of, windows, place_for, admit_check as admit_check_lem, admitted, resize_check as resize_check_lem, resized, finished, AreKept};
+ghost use Rattle.job_admission.specs.Admissions.{largest_memory, live_at, window_of, lives_of, windows, place_for, admit_check as admit_check_lem, admitted, resize_check as resize_check_lem, resized, enter_check as enter_check_lem, sessions_entered as sessions_entered_lem, entered, finished, AreKept};
 
 use indexmap::IndexMap;
 use obj_id::{Extent, JobKey, JobNo, Quota, Refusal};
@@ -29,6 +30,8 @@ pub struct Live {
     pub key: JobKey,
     /// Where its window begins in the node's memory, in bytes.
     pub offset: u64,
+    /// How many session numbers were given for it.
+    pub entered: u32,
 }
 
 impl Live {
@@ -97,7 +100,12 @@ impl Admission {
         ensures err { OnErr result (self.new ≡ self.old) }
     {
         let offset = self.placed(job, quota)?;
-        let live = Live { quota, key, offset };
+        let live = Live {
+            quota,
+            key,
+            offset,
+            entered: 0,
+        };
         match self.live.insert(job, live) {
             Err(_) => Err(Refusal::NoMemory),
             Ok(_) => {
@@ -165,6 +173,29 @@ impl Admission {
         Ok(())
     }
 
+    /// The number of the job's next session, from 1. Takes no memory.
+    ///
+    /// `NotAdmitted` where the job isn't live or the key isn't its own, which are told alike, `TooMany`
+    /// where 4,294,967,295 numbers were given. A refusal changes nothing and uses no number.
+    pub fn enter(&mut self, job: JobNo, key: &JobKey) -> Result<u32, Refusal>
+        ensures number { IfOk result (λ number. number ≡ sessions_entered_lem self.old job + 1) }
+        ensures count { IfOk result (λ number. sessions_entered_lem self.new job ≡ number) }
+        ensures ok { OnOk result (self.new ≡ entered self.old job) }
+        ensures others { (other : JobNo) → same_job job other ≡ false → live_at self.new other ≡ live_at self.old other }
+        ensures passed { IsOk result → enter_check_lem self.old job key.now ≡ None }
+        ensures refused { (r : Refusal) → IsErrOf result r → enter_check_lem self.old job key.now ≡ Some r }
+        ensures err { OnErr result (self.new ≡ self.old) }
+    {
+        if let Some(refusal) = self.enter_check(job, key) {
+            return Err(refusal);
+        }
+        let Some(live) = self.live.get_mut(&job) else {
+            return Err(Refusal::NotAdmitted);
+        };
+        live.entered += 1;
+        Ok(live.entered)
+    }
+
     /// Whether the job is live and this is its key.
     pub fn key_fits(&self, job: JobNo, key: &JobKey) -> bool
         ensures { IsTrue result ↔ IsSomeAnd (live_at self.now job) (λ live. live.key ≡ key.now) }
@@ -202,6 +233,29 @@ impl Admission {
         ensures kept { AreKept self.now }
     {
         self.live.len()
+    }
+
+    /// Why no session enters the job with this key: `NotAdmitted`, `TooMany`, or nothing.
+    fn enter_check(&self, job: JobNo, key: &JobKey) -> Option<Refusal>
+        ensures { result ≡ enter_check_lem self.now job key.now }
+    {
+        if !self.key_fits(job, key) {
+            return Some(Refusal::NotAdmitted);
+        }
+        if self.sessions_entered(job) == u32::MAX {
+            return Some(Refusal::TooMany);
+        }
+        None
+    }
+
+    /// How many session numbers were given for the job; 0 where it isn't live.
+    fn sessions_entered(&self, job: JobNo) -> u32
+        ensures { result ≡ sessions_entered_lem self.now job }
+    {
+        match self.live.get(&job) {
+            Some(live) => live.entered,
+            None => 0,
+        }
     }
 
     /// Where the job's window goes, or why the job isn't admitted.

@@ -150,10 +150,10 @@ module _ (number : ℕ) (a b : Admissions) (line : WorkLine) (job : JobNo) (quot
   absent = absent_above a.greatest job old above within_old
 
   abbrev x_live : Live
-  x_live = record { quota = quota; key = key; offset = (placed a job quota passed).0 }
+  x_live = record { quota = quota; key = key; offset = (placed a job quota passed).0; entered = 0 }
 
   b_is : ◌≡◌ {A = Admissions} b (record a { greatest = job.0; live = a.live ++ (job, x_live) ∷ [] })
-  b_is = is ∙ ap (λ o. option_map_or (λ offset. record a { greatest = job.0; live = a.live ++ (job, record { quota = quota; key = key; offset = offset }) ∷ [] }) o a) (placed a job quota passed).1
+  b_is = is ∙ ap (λ o. option_map_or (λ offset. record a { greatest = job.0; live = a.live ++ (job, record { quota = quota; key = key; offset = offset; entered = 0 }) ∷ [] }) o a) (placed a job quota passed).1
 
   pub admitted_hosted : new ≡ old ++ (job, new_row job.0 quota) ∷ [] → AreHosted b new
   admitted_hosted entries =

@@ -1,6 +1,6 @@
 -- A command on the row of its job: what its answer says, and that another job's object is refused.
 use Rattle.std.proofs.Common.{◌≡◌, ℕ, ◌==◌, false, List, Ok, Err, refl, sym, ap, subst, ◌∙◌}
-use Rattle.std.specs.Prelude.{IfOk, OnErr}
+use Rattle.std.specs.Prelude.{IfOk, IfErr, OnErr}
 use Rattle.std.specs.declared.result.Result.{Result}
 use Rattle.obj_id.specs.declared.ids.ObjectId.{ObjectId}
 use Rattle.obj_id.specs.declared.commands.Command.{Command}
@@ -63,3 +63,7 @@ if_ok (Err e) h k = tt
 pub both_err : {X : Type 0} {E : Type 0} {P Q R : Type 0} (r : Result X E) → OnErr r P → OnErr r Q → (P → Q → R) → OnErr r R
 both_err (Ok x) h i k = tt
 both_err (Err e) h i k = k h i
+
+pub if_err : {X : Type 0} {E : Type 0} {P Q : E → Type 0} (r : Result X E) → IfErr r P → ((e : E) → P e → Q e) → IfErr r Q
+if_err (Ok x) h k = tt
+if_err (Err e) h k = k e h

@@ -36,7 +36,7 @@ use Rattle.node_core.proofs.Views.{itself, another, view_is}
 
 -- ---- the numbers
 
-is_some-lookup : {X : Type 0} (test : JobNo → Bool) (es : List (JobNo × X)) → is_some (lookup test es) ≡ list_any test (keys_of es)
+pub is_some-lookup : {X : Type 0} (test : JobNo → Bool) (es : List (JobNo × X)) → is_some (lookup test es) ≡ list_any test (keys_of es)
 is_some-lookup test [] = refl
 is_some-lookup test (e ∷ es) = by (test e.0) (is_some-lookup test es)
   where

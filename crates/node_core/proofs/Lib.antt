@@ -4,3 +4,5 @@ mod Views
 mod Calling
 mod Admitting
 mod Ending
+mod Asking
+mod Entering

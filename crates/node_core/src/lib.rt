@@ -1,14 +1,19 @@
 //! One node: the stores of many jobs, each as if it were alone.
 #![tactic(auto)]
 
-ghost use Rattle.std.specs.Prelude.{◌≡◌, ℕ, ◌≤◌, true, [], IfOk, OnErr, IsErrOf};
+ghost use Rattle.std.specs.Prelude.{◌≡◌, ◌↔◌, ℕ, ◌+◌, ◌≤◌, true, false, [], Some, None, IfOk, IfErr, OnOk, OnErr, IsErrOf, IsOk, is_ok, is_some};
+ghost use Rattle.obj_id.specs.declared.ids.JobNo.{JobNo};
 ghost use Rattle.obj_id.specs.declared.refusals.Refusal.{Refusal};
-ghost use Rattle.obj_id.specs.declared.refusals.Refusal.TheVariants.{NoMemory};
+ghost use Rattle.obj_id.specs.declared.refusals.Refusal.TheVariants.{NoMemory, NotAdmitted};
 ghost use Rattle.private_store.specs.declared.schedules.Event.TheVariants as event;
+ghost use Rattle.private_store.specs.Jobs.{same_job};
+ghost use Rattle.private_store.specs.Contents.{View};
+ghost use Rattle.private_store.specs.Commands.{usage_of};
 ghost use Rattle.private_store.specs.Private.{view_of, no_store};
-ghost use Rattle.job_admission.specs.Admissions.{largest_memory};
+ghost use Rattle.job_admission.specs.Admissions.{largest_memory, live_at, sessions_entered, enter_check, entered};
 ghost use Rattle.node_table.specs.Outcomes.{given_of};
 ghost use Rattle.node_core.specs.Hosted.{Shows};
+ghost use Rattle.node_core.specs.Borrowed.{borrowed_check, IsBorrowed};
 ghost use Rattle.node_core.specs.Steps.{is_built, is_built_command, Steps};
 
 mod calls;
@@ -18,7 +23,7 @@ use indexmap::IndexMap;
 use job_admission::Admission;
 use node_table::JobRow;
 pub use node_table::{Erase, Outcome};
-use obj_id::{Command, DirectoryMessage, JobKey, JobNo, Message, Place, Quota, Refusal, Reply};
+use obj_id::{Command, DirectoryMessage, JobKey, JobNo, Message, ObjectId, Place, Quota, Refusal, Reply, Usage};
 use private_store::Event;
 use spill_work::Works;
 use std::alloc::Global;
@@ -75,6 +80,53 @@ impl Node {
             Event::Call(job, session, command) => self.call(*job, *session, command),
             _ => Err(Refusal::NoMemory),
         }
+    }
+
+    /// The number of the job's next session, from 1. `NotAdmitted` where the job isn't live or the key isn't
+    /// the whole of its own, which are told alike; `TooMany` where 4,294,967,295 numbers were given. A
+    /// refusal changes nothing and uses no number. No event: no job's view changes. Takes no memory.
+    pub fn enter(&mut self, job: JobNo, key: &JobKey) -> Result<u32, Refusal>
+        ensures number { IfOk result (λ number. number ≡ sessions_entered self.old.admissions job + 1) }
+        ensures count { IfOk result (λ number. sessions_entered self.new.admissions job ≡ number) }
+        ensures ok { OnOk result (self.new ≡ record self.old { admissions = entered self.old.admissions job }) }
+        ensures others { (other : JobNo) → same_job job other ≡ false → live_at self.new.admissions other ≡ live_at self.old.admissions other }
+        ensures views { (q : ℕ) (view : View) → Shows self.new q view ↔ Shows self.old q view }
+        ensures passed { IsOk result → enter_check self.old.admissions job key.now ≡ None }
+        ensures refused { (r : Refusal) → IsErrOf result r → enter_check self.old.admissions job key.now ≡ Some r }
+        ensures err { OnErr result (self.new ≡ self.old) }
+    {
+        self.admission.enter(job, key)
+    }
+
+    /// A job's quotas and what is used of them, in bytes and in numbers. `NotAdmitted` where the job isn't
+    /// live. No event: nothing changes. Takes no memory.
+    pub fn usage(&self, job: JobNo) -> Result<Usage, Refusal>
+        ensures told { IfOk result (λ told. (view : View) → Shows self.now job.0 view → told ≡ usage_of view.shape) }
+        ensures live { is_ok result ≡ is_some (live_at self.now.admissions job) }
+        ensures refused { (r : Refusal) → IsErrOf result r → r ≡ NotAdmitted }
+    {
+        match self.rows.get(&job) {
+            Some(row) => Ok(row.usage(&self.works)),
+            None => Err(Refusal::NotAdmitted),
+        }
+    }
+
+    /// The bytes of an object that the session holds, all of them, lent without a copy.
+    ///
+    /// `NotAdmitted` where the job isn't live, `NotGranted` for another job's object, `Absent` where there
+    /// is no copy, `NotSealed` while it is being written or fetched, `NotHeld` where the session has no
+    /// hold. No event: nothing changes. Takes no memory.
+    pub fn read_borrowed(&self, job: JobNo, session: u32, id: &ObjectId) -> Result<&[u8], Refusal>
+        ensures ok { IfOk result (λ bytes. (view : View) → Shows self.now job.0 view → IsBorrowed view session id.now bytes.now) }
+        ensures refused { IfErr result (λ refusal. (view : View) → Shows self.now job.0 view → borrowed_check view.shape session id.now ≡ Some refusal) }
+    {
+        let Some(row) = self.rows.get(&job) else {
+            return Err(Refusal::NotAdmitted);
+        };
+        if id.job().0 != job.0 {
+            return Err(Refusal::NotGranted);
+        }
+        row.lend(session, id)
     }
 
     /// A session's command: its job's row carries it out. `NotAdmitted` where the job isn't live.

@@ -20,3 +20,4 @@ pub mod Removing
 pub mod Replacing
 pub mod Creating
 pub mod Asking
+pub mod Lending

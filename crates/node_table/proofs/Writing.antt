@@ -1,5 +1,5 @@
 -- A row takes Write and Read.
-use Rattle.std.proofs.Common.{◌≡◌, ℕ, ◌+◌, ◌≤◌, true, false, cond, ◌==◌, List, [], ◌∷◌, map, take, drop, length, Some, None, is_some, unwrap_or, nat_eq, refl, sym, ap, subst, ◌∙◌, arith}
+use Rattle.std.proofs.Common.{◌≡◌, ℕ, ◌+◌, ◌≤◌, true, false, cond, ◌==◌, List, map, take, drop, length, Some, None, is_some, nat_eq, refl, sym, ap, subst, ◌∙◌, arith}
 use Rattle.std.specs.Map.{set_value}
 use Rattle.obj_id.specs.declared.ids.ObjectId.{ObjectId}
 use Rattle.obj_id.specs.declared.works.Extent.{Extent}
@@ -15,10 +15,6 @@ use Rattle.private_store.specs.Shape.{Shape}
 use Rattle.private_store.specs.Copies.{extent_of}
 use Rattle.private_store.specs.Change.{replied, done, erasing}
 use Rattle.private_store.specs.Contents.{Contents, bytes_at, overwritten}
-use Rattle.std.specs.Ordering.{nat_cmp}
-use Rattle.std.specs.FinMap.{find}
-use Rattle.private_store.specs.Kept.{are_held}
-use Rattle.private_store.specs.Copies.{is_sealed}
 use Rattle.private_store.proofs.Tests.{some_value, true_false}
 use Rattle.private_store.proofs.Filling.{filled}
 use Rattle.private_store.proofs.RefusingLemmas.{keys_none, all_found}
@@ -34,14 +30,10 @@ use Rattle.node_table.specs.Checks.{write_check, read_check}
 use Rattle.node_table.specs.Shown.{IsShown, only, TakesStep}
 use Rattle.node_table.proofs.ByChecks.{unless_refused, called, own, write-by, read-by}
 use Rattle.node_table.proofs.CopyTables.{at-copies_found}
-use Rattle.node_table.proofs.Passed.{IsWritten, write_passed, IsRead, read_passed, placed_at, place_found, created_resides, sealed_resides, at_most_rounded}
+use Rattle.node_table.proofs.Passed.{IsWritten, write_passed, IsRead, read_passed, placed_at, place_found, created_resides, at_most_rounded}
 use Rattle.node_table.proofs.Places.{bytes-written, bytes-other, long_at}
+use Rattle.node_table.proofs.Lending.{held_shown}
 use Rattle.node_table.proofs.Stepping.{moved, stays, same_bytes}
-
--- a session that has a hold is among the holds
-some_hold : (session : ℕ) (holds : List (ℕ × ℕ)) → (unwrap_or (find nat_cmp session holds) 0 == 0) ≡ false → are_held holds ≡ true
-some_hold session [] e = absurd cc
-some_hold session (hold ∷ holds) e = refl
 
 module _ (node : ℕ) (row : Row) (line : WorkLine) (contents : Contents) (session : ℕ) (id : ObjectId) (offset : ℕ) (mine : (id.job.0 == row.job) ≡ true) (h : IsShown row line contents) where
   abbrev s : Shape
@@ -156,12 +148,5 @@ module _ (node : ℕ) (row : Row) (line : WorkLine) (contents : Contents) (sessi
           (stays node row line contents h y (reply.Bytes n)
           (called row line session (command.Read id offset n) ∙ ap (erasing s) (own row line id _ mine ∙ read-by row line id session offset n ∙ ap (λ o. unless_refused s o (replied s (reply.Bytes n))) passed)) refl refl)
 
-      -- what is held is sealed
-      held_sealed : is_sealed got.copy.copy.state ≡ true
-      held_sealed = (h.kept.kept.shape.each id got.copy.copy (at-copies_found row.copies id got.copy got.found)).held (some_hold session got.copy.copy.holds got.held)
-
       pub read_found : (shown : List ℕ) → ((k : Kept) (e : Extent) → at row.copies id ≡ Some k → extent_of k.copy ≡ Some e → shown ≡ take k.copy.length (placed_bytes e row.window.placed)) → shown ≡ bytes_at contents.bytes id
-      read_found shown are =
-          let resident = (h.kept.kept.shape.each id got.copy.copy (at-copies_found row.copies id got.copy got.found)).resident ∙ sealed_resides got.copy.copy.state got.copy.copy.fetch held_sealed in
-          let p = placed_at got.copy.copy resident in
-          are got.copy p.0 got.found p.1 ∙ sym (h.bytes id got.copy p.0 got.found p.1)
+      read_found = held_shown row line contents h session id got.copy got.found got.held

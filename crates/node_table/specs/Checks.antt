@@ -6,6 +6,7 @@ use Rattle.obj_id.specs.declared.refusals.Refusal.TheVariants.{BadSize, Exists, 
 use Rattle.private_store.specs.Limits.{most_bytes, most_holds, most_copies, has_numbers}
 use Rattle.private_store.specs.Tables.{ById, at}
 use Rattle.private_store.specs.Extents.{is_size}
+use Rattle.private_store.specs.Shape.{Copy}
 use Rattle.private_store.specs.Copies.{is_created}
 use Rattle.private_store.specs.Commands.{holds_of, all_holds, is_unsealed}
 use Rattle.node_table.specs.Kept.{Kept}
@@ -41,6 +42,16 @@ abbrev pub read_check : ById Kept → ℕ → ObjectId → ℕ → ℕ → Optio
 read_check copies session id offset n =
     if nat_lt most_bytes n then Some BadSize else
     elim (at copies id) [ None ↦ Some Absent | Some kept ↦ read_check_of kept session offset n ]
+
+-- of a copy whose bytes are lent whole
+abbrev pub lend_check_of : Copy → ℕ → Option Refusal
+lend_check_of copy session =
+    if is_unsealed copy.state then Some NotSealed else
+    (if holds_of copy session == 0 then Some NotHeld else None)
+
+abbrev pub lend_check : ById Copy → ℕ → ObjectId → Option Refusal
+lend_check copies session id =
+    elim (at copies id) [ None ↦ Some Absent | Some copy ↦ lend_check_of copy session ]
 
 abbrev pub release_check : ById Kept → ℕ → ObjectId → Option Refusal
 release_check copies session id =

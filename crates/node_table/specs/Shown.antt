@@ -1,5 +1,5 @@
 -- Which contents a row shows of its job's store, and what it is that a row takes the private step.
-use Rattle.std.specs.Prelude.{◌≡◌, ℕ, Bool, true, false, is_none, None, if◌then◌else◌, List, [], find, take, Option, Some, unwrap_or, option_map}
+use Rattle.std.specs.Prelude.{◌≡◌, ℕ, Bool, true, false, is_none, None, if◌then◌else◌, List, [], find, take, length, Option, Some, unwrap_or, option_map}
 use Rattle.obj_id.specs.declared.ids.ObjectId.{ObjectId}
 use Rattle.obj_id.specs.declared.works.DeviceKey.{DeviceKey}
 use Rattle.obj_id.specs.declared.works.Extent.{Extent}
@@ -8,7 +8,7 @@ use Rattle.obj_id.specs.declared.works.WorkKind.TheVariants.{Write, Read}
 use Rattle.obj_id.specs.declared.commands.Reply.{Reply}
 use Rattle.obj_id.specs.Ids.{same_id}
 use Rattle.private_store.specs.declared.inputs.Input.{Input}
-use Rattle.private_store.specs.Tables.{at, is_among}
+use Rattle.private_store.specs.Tables.{ById, at, is_among}
 use Rattle.std.specs.Option.{option_map_or}
 use Rattle.obj_id.specs.declared.commands.CopyState.{CopyState}
 use Rattle.obj_id.specs.declared.commands.CopyState.TheVariants.{Created, Sealed, Fetching}
@@ -21,6 +21,7 @@ use Rattle.job_region.specs.Region.{bytes_at as placed_bytes}
 use Rattle.lru_evictor.specs.Orders.{AreThere}
 use Rattle.spill_work.specs.Line.{WorkLine, works_of}
 use Rattle.node_table.specs.Kept.{Kept}
+use Rattle.node_table.specs.Checks.{lend_check}
 use Rattle.node_table.specs.Row.{Row, copies_of, shape_of}
 
 -- the work that is in flight for an object, if there is one
@@ -77,3 +78,9 @@ pub record TakesStep (node : ℕ) (old : Row) (before : WorkLine) (contents : Co
   pub reply : told.reply ≡ (view_step node (seen old before contents) x).reply
   pub posts : told.posts ≡ (view_step node (seen old before contents) x).posts
   pub erased : told.erased ≡ (view_step node (seen old before contents) x).erased
+
+-- what is lent to a session is the object's bytes, and all of them
+pub record IsLent (copies : ById Copy) (contents : Contents) (session : ℕ) (id : ObjectId) (lent : List ℕ) : Type 0 where
+  pub passed : lend_check copies session id ≡ None
+  pub bytes : lent ≡ bytes_at contents.bytes id
+  pub whole : (copy : Copy) → at copies id ≡ Some copy → length lent ≡ copy.length

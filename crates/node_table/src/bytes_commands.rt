@@ -1,5 +1,5 @@
-//! The commands that move bytes: Write, Seal and Read.
-ghost use Rattle.std.specs.Prelude.{◌≡◌, ◌==◌, ℕ, true, Some, take, drop, IfOk, OnErr};
+//! The commands that move bytes, Write, Seal and Read; and bytes that are lent.
+ghost use Rattle.std.specs.Prelude.{◌≡◌, ◌==◌, ℕ, true, Some, take, drop, IfOk, IfErr, OnErr};
 ghost use Rattle.obj_id.specs.declared.works.Extent.{Extent};
 ghost use Rattle.private_store.specs.Tables.{at};
 ghost use Rattle.private_store.specs.Copies.{extent_of};
@@ -7,15 +7,17 @@ ghost use Rattle.obj_id.specs.declared.commands.Command.TheVariants as command;
 ghost use Rattle.private_store.specs.declared.inputs.Input.TheVariants as input;
 ghost use Rattle.private_store.specs.Contents.{Contents, digest_of};
 ghost use Rattle.job_region.specs.Region.{bytes_at as placed_bytes};
+ghost use Rattle.node_table.specs.Checks.{lend_check};
 ghost use Rattle.node_table.specs.Kept.{Kept};
 ghost use Rattle.node_table.specs.Outcomes.{given_of};
 ghost use Rattle.spill_work.specs.Line.{WorkLine};
-ghost use Rattle.node_table.specs.Shown.{IsShown, TakesStep, only};
+ghost use Rattle.node_table.specs.Row.{copies_of};
+ghost use Rattle.node_table.specs.Shown.{IsShown, IsLent, TakesStep, only};
 
 use crate::outcome::{Erase, Outcome};
 use crate::row::JobRow;
 use bytes::Bytes;
-use obj_id::{Digest, DirectoryMessage, Location, Message, ObjectId, Place, Reply};
+use obj_id::{Digest, DirectoryMessage, Location, Message, ObjectId, Place, Refusal, Reply};
 use sha2::{Digest as _, Sha256};
 use std::alloc::{AllocError, Global};
 
@@ -80,6 +82,18 @@ impl JobRow {
         }
         let bytes = Bytes::copy_from_slice(alloc, part_of(self.bytes(id), offset, len))?;
         Ok(Reply::Bytes(bytes))
+    }
+
+    /// The bytes of an object that the session holds, all of them, lent without a copy. `Absent`,
+    /// `NotSealed`, `NotHeld`. Changes nothing, and takes no memory.
+    pub fn lend(&self, session: u32, id: &ObjectId) -> Result<&[u8], Refusal>
+        ensures ok { IfOk result (λ bytes. (line : WorkLine) (contents : Contents) → IsShown self.now line contents → IsLent (copies_of self.now.copies) contents session id.now bytes.now) }
+        ensures refused { IfErr result (λ refusal. lend_check (copies_of self.now.copies) session id.now ≡ Some refusal) }
+    {
+        if let Some(refusal) = self.copies().lend_check(session, id) {
+            return Err(refusal);
+        }
+        Ok(self.bytes(id))
     }
 }
 

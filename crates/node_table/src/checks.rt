@@ -1,9 +1,10 @@
 //! Why a command can't be carried out.
 ghost use Rattle.std.specs.Prelude.{◌≡◌, Some, option_map};
-ghost use Rattle.node_table.specs.Checks.{write_check_of, write_check as write_check_lem, seal_check_of, seal_check as seal_check_lem, read_check_of, read_check as read_check_lem, release_check as release_check_lem, hold_check as hold_check_lem, fetch_check as fetch_check_lem, create_check as create_check_lem};
+ghost use Rattle.node_table.specs.Checks.{write_check_of, write_check as write_check_lem, seal_check_of, seal_check as seal_check_lem, read_check_of, read_check as read_check_lem, lend_check_of, lend_check as lend_check_lem, release_check as release_check_lem, hold_check as hold_check_lem, fetch_check as fetch_check_lem, create_check as create_check_lem};
 ghost use Rattle.private_store.specs.Tables.{at};
 ghost use Rattle.private_store.specs.Shape.{Fetch};
 ghost use Rattle.node_table.specs.Kept.{Kept};
+ghost use Rattle.node_table.specs.Row.{copies_of};
 
 use crate::copies::Copies;
 use crate::copy::RowCopy;
@@ -46,15 +47,25 @@ impl RowCopy {
         None
     }
 
-    /// Why the session can't read `len` bytes from the offset on: `NotSealed`, `NotHeld`, `OutOfBounds`.
-    fn read_check(&self, session: u32, offset: u32, len: u32) -> Option<Refusal>
-        ensures { result ≡ read_check_of self.now session offset len }
+    /// Why the session isn't lent its bytes: `NotSealed`, `NotHeld`.
+    fn lend_check(&self, session: u32) -> Option<Refusal>
+        ensures { result ≡ lend_check_of self.now.copy session }
     {
         if matches!(self.state(), CopyState::Created | CopyState::Fetching) {
             return Some(Refusal::NotSealed);
         }
         if self.holds_of(session) == 0 {
             return Some(Refusal::NotHeld);
+        }
+        None
+    }
+
+    /// Why the session can't read `len` bytes from the offset on: `NotSealed`, `NotHeld`, `OutOfBounds`.
+    fn read_check(&self, session: u32, offset: u32, len: u32) -> Option<Refusal>
+        ensures { result ≡ read_check_of self.now session offset len }
+    {
+        if let Some(refusal) = self.lend_check(session) {
+            return Some(refusal);
         }
         if u64::from(self.length()) < u64::from(offset) + u64::from(len) {
             return Some(Refusal::OutOfBounds);
@@ -99,6 +110,16 @@ impl Copies {
         match self.get(id) {
             None => Some(Refusal::Absent),
             Some(copy) => copy.read_check(session, offset, len),
+        }
+    }
+
+    /// Why the session isn't lent the copy's bytes: `Absent`, `NotSealed`, `NotHeld`, or nothing.
+    pub fn lend_check(&self, session: u32, id: &ObjectId) -> Option<Refusal>
+        ensures { result ≡ lend_check_lem (copies_of self.now) session id.now }
+    {
+        match self.get(id) {
+            None => Some(Refusal::Absent),
+            Some(copy) => copy.lend_check(session),
         }
     }
 

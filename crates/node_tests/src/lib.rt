@@ -1,7 +1,9 @@
-//! Tests of nodes and of worlds of them: worked schedules with the answers that were written by hand,
-//! as the program reads and prints them, and step by step.
+//! Tests of nodes and of worlds of them: a node's calls that are no events; and worked schedules with the
+//! answers that were written by hand, as the program reads and prints them, and step by step.
 #![tactic(auto)]
 
+#[cfg(test)]
+mod calls;
 #[cfg(test)]
 mod schedules;
 #[cfg(test)]

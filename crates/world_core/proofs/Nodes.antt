@@ -71,7 +71,7 @@ lives_none memory place other lives (event.Finish job number a) b = true_false b
 -- the admissions after keep the node's memory
 pub memory_stays : (a : Admissions) (e : Event) (told : Reply (List ℕ)) → (admissions_after a e told).memory ≡ a.memory
 memory_stays a (event.Admit job quota key) reply.Ok =
-    elim (place_for a quota.window) as (λ o. (option_map_or (λ offset. record a { greatest = job.0; live = a.live ++ (job, record { quota = quota; key = key; offset = offset }) ∷ [] }) o a).memory ≡ a.memory) [ None ↦ refl | Some offset ↦ refl ]
+    elim (place_for a quota.window) as (λ o. (option_map_or (λ offset. record a { greatest = job.0; live = a.live ++ (job, record { quota = quota; key = key; offset = offset; entered = 0 }) ∷ [] }) o a).memory ≡ a.memory) [ None ↦ refl | Some offset ↦ refl ]
 memory_stays a (event.Admit job quota key) _ = refl
 memory_stays a (event.JobEnd job) reply.Ok = refl
 memory_stays a (event.JobEnd job) _ = refl
@@ -112,7 +112,7 @@ admittable a job quota e = by (job.0 == 0) (not (is_quota quota)) (nat_le job.0 
 greatest_is : (a : Admissions) (job : JobNo) (quota : Quota) (key : JobKey) → is_none (place_for a quota.window) ≡ false → (admitted a job quota key).greatest ≡ job.0
 greatest_is a job quota key placed = by (place_for a quota.window) placed
   where
-    by : (o : Option ℕ) → is_none o ≡ false → (option_map_or (λ offset. record a { greatest = job.0; live = a.live ++ (job, record { quota = quota; key = key; offset = offset }) ∷ [] }) o a).greatest ≡ job.0
+    by : (o : Option ℕ) → is_none o ≡ false → (option_map_or (λ offset. record a { greatest = job.0; live = a.live ++ (job, record { quota = quota; key = key; offset = offset; entered = 0 }) ∷ [] }) o a).greatest ≡ job.0
     by None t = false_true t
     by (Some offset) t = refl
 

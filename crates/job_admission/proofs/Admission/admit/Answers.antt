@@ -10,7 +10,7 @@ use Rattle.job_admission.proofs.Admission.admit.Goals as goal
 pub invariant_of-self-in-Ok : goal.invariant_of-self-in-Ok
 invariant_of-self-in-Ok c =
     let a : Admissions = record { memory = c.self.inside.memory; greatest = c.self.inside.greatest; live = c.self.inside.live.entries } in
-    let x : Live = record { quota = c.args.quota; key = c.args.key; offset = c.in_ok-offset.offset } in
+    let x : Live = record { quota = c.args.quota; key = c.args.key; offset = c.in_ok-offset.offset; entered = 0 } in
     let passed = ap (λ b. admit_check b c.args.job c.args.quota) c.self.view_is ∙ c.in_ok-offset.ensures.passed (search rules) in
     let found = ap (λ b. place_for b c.args.quota.window) c.self.view_is ∙ c.in_ok-offset.ensures.ok in
     let none = absent a c.args.job c.args.quota c.args.key c.in_ok-offset.offset c.self.invariant passed found in
@@ -20,7 +20,7 @@ invariant_of-self-in-Ok c =
 pub returns-in-Ok-clause-ok : goal.returns-in-Ok-clause-ok
 returns-in-Ok-clause-ok c =
     let a : Admissions = record { memory = c.self.inside.memory; greatest = c.self.inside.greatest; live = c.self.inside.live.entries } in
-    let x : Live = record { quota = c.args.quota; key = c.args.key; offset = c.in_ok-offset.offset } in
+    let x : Live = record { quota = c.args.quota; key = c.args.key; offset = c.in_ok-offset.offset; entered = 0 } in
     let passed = ap (λ b. admit_check b c.args.job c.args.quota) c.self.view_is ∙ c.in_ok-offset.ensures.passed (search rules) in
     let found = ap (λ b. place_for b c.args.quota.window) c.self.view_is ∙ c.in_ok-offset.ensures.ok in
     let none = absent a c.args.job c.args.quota c.args.key c.in_ok-offset.offset c.self.invariant passed found in

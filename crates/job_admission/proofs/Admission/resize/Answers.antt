@@ -22,7 +22,7 @@ invariant_of-self-2 c =
     let es = c.self.inside.live.entries in
     let memory = c.self.inside.memory in
     let x = c.in-Some-get_mut.live.now in
-    let new : Live = record { quota = c.args.quota; key = x.key; offset = x.offset } in
+    let new : Live = record { quota = c.args.quota; key = x.key; offset = x.offset; entered = x.entered } in
     let found = sym c.get_mut.ensures.value ∙ ap option_copied_mut c.in-Some-get_mut.is in
     let inside : Admissions = record { memory = memory; greatest = c.self.inside.greatest; live = es } in
     let check = ap (λ a. resize_check a job c.args.quota) c.self.view_is ∙ sym c.resize_check.ensures ∙ c.in_default.is in
@@ -40,7 +40,7 @@ invariant_of-self-2 c =
 pub returns-clause-lives : goal.returns-clause-lives
 returns-clause-lives c =
     let x = c.in-Some-get_mut.live.now in
-    let new : Live = record { quota = c.args.quota; key = x.key; offset = x.offset } in
+    let new : Live = record { quota = c.args.quota; key = x.key; offset = x.offset; entered = x.entered } in
     let found = sym c.get_mut.ensures.value ∙ ap option_copied_mut c.in-Some-get_mut.is in
     let wrote = c.get_mut.follows.holds new in
     ap lives_of wrote.0 ∙ lives_of-resized c.args.job x c.args.quota c.self.inside.live.entries c.self.invariant.distinct found

@@ -1,0 +1,75 @@
+-- The bytes of a copy that a session holds.
+use Rattle.std.proofs.Common.{◌≡◌, ℕ, ◌==◌, true, false, List, [], ◌∷◌, take, length, Option, Some, None, is_some, unwrap_or, option_map, refl, sym, ap, ◌∙◌}
+use Rattle.std.specs.Ordering.{nat_cmp}
+use Rattle.std.specs.FinMap.{find}
+use Rattle.obj_id.specs.declared.ids.ObjectId.{ObjectId}
+use Rattle.obj_id.specs.declared.works.Extent.{Extent}
+use Rattle.obj_id.specs.declared.refusals.Refusal.{Refusal}
+use Rattle.obj_id.specs.declared.refusals.Refusal.TheVariants.{Absent, NotSealed, NotHeld}
+use Rattle.private_store.specs.Tables.{ById, at}
+use Rattle.private_store.specs.Shape.{Copy}
+use Rattle.private_store.specs.Copies.{extent_of, is_sealed}
+use Rattle.private_store.specs.Commands.{holds_of, is_unsealed}
+use Rattle.private_store.specs.Contents.{Contents, bytes_at}
+use Rattle.private_store.specs.Kept.{are_held}
+use Rattle.private_store.proofs.Tests.{some_value}
+use Rattle.job_region.specs.Region.{bytes_at as placed_bytes}
+use Rattle.spill_work.specs.Line.{WorkLine}
+use Rattle.node_table.specs.Kept.{Kept}
+use Rattle.node_table.specs.Row.{Row, copies_of}
+use Rattle.node_table.specs.Checks.{lend_check, lend_check_of}
+use Rattle.node_table.specs.Shown.{IsShown, IsLent}
+use Rattle.node_table.proofs.CopyTables.{at-copies, at-copies_found}
+use Rattle.node_table.proofs.Passed.{past, there, placed_at, sealed_resides}
+
+-- a session that has a hold is among the holds
+some_hold : (session : ℕ) (holds : List (ℕ × ℕ)) → (unwrap_or (find nat_cmp session holds) 0 == 0) ≡ false → are_held holds ≡ true
+some_hold session [] e = absurd cc
+some_hold session (hold ∷ holds) e = refl
+
+-- a check of the store's copies reads those that the row keeps
+abbrev by_kept : ℕ → Option Kept → Option Refusal
+by_kept session o = elim o [ None ↦ Some Absent | Some k ↦ lend_check_of k.copy session ]
+
+abbrev by_copy : ℕ → Option Copy → Option Refusal
+by_copy session o = elim o [ None ↦ Some Absent | Some copy ↦ lend_check_of copy session ]
+
+pub lend-by : (es : ById Kept) (session : ℕ) (id : ObjectId) (o : Option Kept) → at es id ≡ o → lend_check (copies_of es) session id ≡ by_kept session o
+lend-by es session id o is = ap (by_copy session) (at-copies es id ∙ ap (option_map (λ k. k.copy)) is) ∙ by o
+  where
+    by : (o : Option Kept) → by_copy session (option_map (λ k. k.copy) o) ≡ by_kept session o
+    by None = refl
+    by (Some k) = refl
+
+module _ (row : Row) (line : WorkLine) (contents : Contents) (h : IsShown row line contents) (session : ℕ) (id : ObjectId) where
+  module _ (k : Kept) (found : at row.copies id ≡ Some k) (held : (holds_of k.copy session == 0) ≡ false) where
+    -- what is held is sealed
+    held_sealed : is_sealed k.copy.state ≡ true
+    held_sealed = (h.kept.kept.shape.each id k.copy (at-copies_found row.copies id k found)).held (some_hold session k.copy.holds held)
+
+    resident : is_some k.copy.offset ≡ true
+    resident = (h.kept.kept.shape.each id k.copy (at-copies_found row.copies id k found)).resident ∙ sealed_resides k.copy.state k.copy.fetch held_sealed
+
+    pub held_shown : (shown : List ℕ) → ((k : Kept) (e : Extent) → at row.copies id ≡ Some k → extent_of k.copy ≡ Some e → shown ≡ take k.copy.length (placed_bytes e row.window.placed)) → shown ≡ bytes_at contents.bytes id
+    held_shown shown are =
+        let p = placed_at k.copy resident in
+        are k p.0 found p.1 ∙ sym (h.bytes id k p.0 found p.1)
+
+    held_whole : length (bytes_at contents.bytes id) ≡ k.copy.length
+    held_whole = (h.kept.kept.filled.each id k.copy (at-copies_found row.copies id k found)).bytes resident
+
+  module _ (passed : lend_check (copies_of row.copies) session id ≡ None) where
+    got : (k : Kept) × (at row.copies id ≡ Some k) × (lend_check_of k.copy session ≡ None)
+    got = there (λ k. lend_check_of k.copy session) Absent (at row.copies id) (sym (lend-by row.copies session id (at row.copies id) refl) ∙ passed)
+
+    has : (holds_of got.0.copy session == 0) ≡ false
+    has = (past (holds_of got.0.copy session == 0) NotHeld None (past (is_unsealed got.0.copy.state) NotSealed _ got.2).1).0
+
+    pub lent_so : (shown : List ℕ) → ((k : Kept) (e : Extent) → at row.copies id ≡ Some k → extent_of k.copy ≡ Some e → shown ≡ take k.copy.length (placed_bytes e row.window.placed)) → IsLent (copies_of row.copies) contents session id shown
+    lent_so shown are =
+        let is = held_shown got.0 got.1 has shown are in
+        record {
+          passed = passed;
+          bytes = is;
+          whole = λ copy found. ap length is ∙ held_whole got.0 got.1 has ∙ ap (λ (c : Copy). c.length) (some_value got.0.copy copy (sym (at-copies_found row.copies id got.0 got.1) ∙ found));
+        }
