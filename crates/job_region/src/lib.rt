@@ -283,11 +283,7 @@ fn put(extents: &mut Vec<Extent>, extent: Extent) -> Result<(), AllocError>
 }
 
 /// The extents that stay where these go.
-fn kept_of(
-    alloc: Global,
-    extents: &Vec<Extent>,
-    gone: &[Extent],
-) -> Result<Vec<Extent>, AllocError>
+fn kept_of(alloc: Global, extents: &Vec<Extent>, gone: &[Extent]) -> Result<Vec<Extent>, AllocError>
     requires { IsNonDecreasingBy (λ (e : Extent). e.offset) gone.now }
     ensures { IfOk result (λ v. v.items ≡ kept gone.now extents.now.items) }
 {

@@ -1,9 +1,7 @@
 -- What the end of a job leaves: nothing of the job, and the others as they were.
 use Rattle.std.proofs.Common.{◌≡◌, ℕ, ◌==◌, Bool, true, false, not, cond, ◌||◌, List, [], ◌∷◌, ◌++◌, filter, map, Option, Some, None, is_some, refl, sym, ap, subst, ◌∙◌, arith, T}
 use Rattle.std.specs.Prelude.{nat_le}
-use Rattle.std.specs.List.{list_all, list_any, cons_option}
-use Rattle.std.specs.FinMap.{is_sorted}
-use Rattle.std.specs.FinMap.Entries.{below_all}
+use Rattle.std.specs.List.{list_all, list_any}
 use Rattle.std.specs.Map.{keys_of, lookup, remove_entry}
 use Rattle.std.proofs.lemmas.Bool.{eqb-true}
 use Rattle.std.proofs.lemmas.Bool.Decides.{nat_tests}
@@ -12,27 +10,23 @@ use Rattle.obj_id.specs.declared.ids.ObjectId.{ObjectId}
 use Rattle.obj_id.specs.declared.messages.DirectoryMessage.TheVariants.{EndJob}
 use Rattle.obj_id.specs.declared.commands.Reply.TheVariants as reply
 use Rattle.obj_id.specs.declared.refusals.Refusal.TheVariants.{Stale, NotAdmitted}
-use Rattle.obj_id.specs.Ids.{id_cmp}
 use Rattle.private_store.specs.declared.inputs.Input.TheVariants as input
 use Rattle.private_store.specs.declared.inputs.Judged.TheVariants as judged
 use Rattle.private_store.specs.declared.schedules.Event.TheVariants as event
 use Rattle.private_store.specs.Jobs.{same_job}
-use Rattle.private_store.specs.Tables.{at}
-use Rattle.private_store.specs.Kept.{IsViewKept}
 use Rattle.private_store.specs.Shape.{ended}
-use Rattle.private_store.specs.Change.{sending, erasing, keys_gone}
+use Rattle.private_store.specs.Change.{sending, erasing}
 use Rattle.private_store.specs.Events.{end_job_here, over}
 use Rattle.private_store.specs.Step.{step}
 use Rattle.private_store.specs.Contents.{Contents, View}
 use Rattle.private_store.specs.Private.{view_step, outcome, to_directory, key_of, no_contents}
 use Rattle.private_store.specs.Shared.{job_is}
 use Rattle.private_store.proofs.Checks.{checked-nil, checked-false}
-use Rattle.private_store.proofs.Tests.{both, both_left, both_right, and_right, true_false}
-use Rattle.spill_work.specs.Line.{WorkLine, works_of, used_by, same_job as same_line_job, IsSameFor, Drops}
+use Rattle.private_store.proofs.Tests.{both, both_left, both_right, true_false}
+use Rattle.spill_work.specs.Line.{WorkLine, Drops}
 use Rattle.job_admission.specs.Admissions.{Admissions, live_at, lives_of, finished}
-use Rattle.node_table.specs.Kept.{Kept}
-use Rattle.node_table.specs.Row.{Row, copies_of, shape_of}
-use Rattle.node_table.specs.Shown.{seen, Given, IsShown, work_on}
+use Rattle.node_table.specs.Row.{Row}
+use Rattle.node_table.specs.Shown.{seen, Given, IsShown}
 use Rattle.node_table.proofs.CopyTables.{sorted-copies}
 use Rattle.node_table.proofs.Creating.{unbacked}
 use Rattle.node_core.proofs.Others.{other_view, not_same}

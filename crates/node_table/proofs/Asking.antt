@@ -1,13 +1,10 @@
 -- A row takes Create where writes are asked for to make room.
-use Rattle.std.proofs.Common.{◌≡◌, ℕ, ◌+◌, ◌-◌, ◌≤◌, ◌<◌, Bool, true, false, not, ◌&&◌, ◌||◌, cond, ◌==◌, List, [], ◌∷◌, ◌++◌, map, fold, length, take, Option, Some, None, is_some, is_none, option_map, unwrap_or, refl, sym, ap, subst, ◌∙◌, T, arith}
-use Rattle.std.specs.Prelude.{if◌then◌else◌, find, nat_le}
+use Rattle.std.proofs.Common.{◌≡◌, ℕ, ◌+◌, ◌-◌, ◌≤◌, ◌<◌, Bool, true, false, not, ◌&&◌, ◌||◌, cond, ◌==◌, List, [], ◌∷◌, ◌++◌, map, fold, length, take, Option, Some, None, is_none, option_map, unwrap_or, refl, sym, ap, subst, ◌∙◌, T, arith}
+use Rattle.std.specs.Prelude.{find, nat_le}
 use Rattle.std.proofs.lemmas.Bool.Decides.{nat_tests}
-use Rattle.std.specs.List.{list_any, list_all}
 use Rattle.std.specs.Option.{option_map_or}
 use Rattle.std.specs.FinMap.Entries.{is_sorted, same_entries, is_sorted-put}
 use Rattle.obj_id.specs.declared.ids.ObjectId.{ObjectId}
-use Rattle.obj_id.specs.declared.works.Extent.{Extent}
-use Rattle.obj_id.specs.declared.works.WorkKind.{WorkKind}
 use Rattle.obj_id.specs.declared.works.WorkKind.TheVariants.{Write, Read}
 use Rattle.obj_id.specs.declared.commands.Kind.{Kind}
 use Rattle.obj_id.specs.declared.commands.Reply.TheVariants as reply
@@ -15,8 +12,8 @@ use Rattle.obj_id.specs.declared.refusals.Refusal.TheVariants.{Pending}
 use Rattle.obj_id.specs.Ids.{id_cmp, same_id}
 use Rattle.obj_id.proofs.SameIds.{id_cmp-IsTotalOrder, id_cmp-IsAntisymmetric, same_id-equal}
 use Rattle.private_store.specs.Tables.{ById, at, with_entry, is_among}
-use Rattle.private_store.specs.Shape.{Copy, Shape, Change, WorkInFlight}
-use Rattle.private_store.specs.Copies.{extent_of, is_held, is_primary, is_sealed, is_granted, is_working, is_idle, is_spillable}
+use Rattle.private_store.specs.Shape.{Copy, Shape, WorkInFlight}
+use Rattle.private_store.specs.Copies.{extent_of, is_working, is_idle, is_spillable}
 use Rattle.private_store.specs.Room.{make_room, no_room, asked}
 use Rattle.private_store.specs.Change.{refused, erasing}
 use Rattle.private_store.specs.Contents.{Contents, judge, keeps_digest, no_digest}
@@ -25,17 +22,17 @@ use Rattle.private_store.specs.Step.{step}
 use Rattle.private_store.proofs.Filling.{filled}
 use Rattle.private_store.proofs.RefusingLemmas.{keys_none, all_found}
 use Rattle.private_store.proofs.Rows.{at-put}
-use Rattle.private_store.proofs.Tests.{T_true, both, both_left, both_right, some_value, none_some, none_here, true_false, false_true, not_true}
+use Rattle.private_store.proofs.Tests.{T_true, both, both_left, both_right, some_value, none_some, none_here, not_true}
 use Rattle.job_region.specs.Region.{bytes_at as placed_bytes}
 use Rattle.lru_evictor.specs.Orders.{AreThere}
 use Rattle.lru_evictor.proofs.Reorders.{reordered-unused}
-use Rattle.spill_work.specs.Line.{WorkLine, works_of, used_by, numbered_works, room_for, AsksAll}
+use Rattle.spill_work.specs.Line.{WorkLine, works_of, numbered_works, room_for, AsksAll}
 use Rattle.node_table.specs.Entries.{changed, each_changed}
 use Rattle.node_table.specs.Kept.{Kept, can_spill, spilling, spilling_if}
 use Rattle.node_table.specs.Row.{Row, copies_of, shape_of}
 use Rattle.node_table.specs.Checks.{create_check}
 use Rattle.node_table.specs.RoomPlans.{AsksWrites}
-use Rattle.node_table.specs.Shown.{seen, work_on, IsPlain, IsShown, Given, only, TakesStep}
+use Rattle.node_table.specs.Shown.{seen, work_on, IsPlain, IsShown, only, TakesStep}
 use Rattle.node_table.proofs.ByChecks.{sending-is}
 use Rattle.node_table.proofs.Changes.{changed-found, changed-absent}
 use Rattle.node_table.proofs.CopyTables.{sorted-copies, at-copies_found, copies-changed}
@@ -109,8 +106,8 @@ one_same es id sorted = by (at es id) refl
     by (Some k) found =
         copies-changed spilling_if es id k found ∙ ap (with_entry (copies_of es) id) (same_copy k)
         ∙ same_entries id_cmp id_cmp-IsTotalOrder id_cmp-IsAntisymmetric (with_entry (copies_of es) id k.copy) (copies_of es)
-          (is_sorted-put id_cmp id_cmp-IsTotalOrder id k.copy (copies_of es) (subst T (sym (sorted-copies es)) sorted)) (subst T (sym (sorted-copies es)) sorted)
-          (λ q. at-put (copies_of es) id k.copy q ∙ here q (same_id q id) refl)
+        (is_sorted-put id_cmp id_cmp-IsTotalOrder id k.copy (copies_of es) (subst T (sym (sorted-copies es)) sorted)) (subst T (sym (sorted-copies es)) sorted)
+        (λ q. at-put (copies_of es) id k.copy q ∙ here q (same_id q id) refl)
       where
         here : (q : ObjectId) (b : Bool) → same_id q id ≡ b → cond b (Some k.copy) (at (copies_of es) q) ≡ at (copies_of es) q
         here q true t = sym (ap (at (copies_of es)) (same_id-equal q id t) ∙ at-copies_found es id k found)
@@ -235,8 +232,8 @@ module _ (node : ℕ) (row : Row) (line : WorkLine) (contents : Contents) (sessi
   may : (q : ObjectId) (z : Kept) → at row.copies q ≡ Some z → is_among ids q ≡ true → (z.working ≡ None) × (can_spill z ≡ true)
   may q z found among =
       let all : is_spillable s q z.copy ≡ true =
-          sym (ap (λ c. option_map_or (is_spillable s q) c false) (at-copies_found row.copies q z found))
-          ∙ each_among (λ q. option_map_or (is_spillable s q) (at s.copies q) false) ids asks.spillable q among in
+      sym (ap (λ c. option_map_or (is_spillable s q) c false) (at-copies_found row.copies q z found))
+      ∙ each_among (λ q. option_map_or (is_spillable s q) (at s.copies q) false) ids asks.spillable q among in
       let idle = both_right _ (is_idle s q z.copy) (both_left _ (not z.copy.doomed) all) in
       let still = not_true (is_working s q) (both_right _ (not (is_working s q)) idle) in
       let none = h.working q z found ∙ none_here (work_on s.works q) (working-on s.works q ∙ still) in

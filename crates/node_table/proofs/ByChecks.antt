@@ -1,5 +1,5 @@
 -- The commands of the private store, by their checks: the refusal, and else what is done.
-use Rattle.std.proofs.Common.{◌≡◌, ℕ, Bool, true, false, not, cond, ◌==◌, ◌+◌, nat_lt, List, [], ◌∷◌, ◌++◌, Option, Some, None, option_map, refl, sym, ap, subst, ◌∙◌}
+use Rattle.std.proofs.Common.{◌≡◌, ℕ, Bool, true, false, not, cond, ◌==◌, ◌+◌, nat_lt, List, [], ◌∷◌, ◌++◌, Option, Some, None, option_map, refl, sym, ap, ◌∙◌}
 use Rattle.std.specs.Option.{option_map_or, option_and_then}
 use Rattle.obj_id.specs.declared.ids.ObjectId.{ObjectId}
 use Rattle.obj_id.specs.declared.refusals.Refusal.{Refusal}
@@ -9,18 +9,18 @@ use Rattle.obj_id.specs.declared.commands.Command.{Command}
 use Rattle.obj_id.specs.declared.commands.Reply.TheVariants as reply
 use Rattle.private_store.specs.declared.inputs.Judged.TheVariants as judged
 use Rattle.private_store.specs.Limits.{most_bytes}
-use Rattle.private_store.specs.Tables.{ById, at}
+use Rattle.private_store.specs.Tables.{at}
 use Rattle.private_store.specs.Shape.{Copy, Shape, Change, Sending, add_location}
 use Rattle.private_store.specs.Copies.{is_created, visible}
 use Rattle.private_store.specs.Room.{set_copy}
-use Rattle.private_store.specs.Change.{replied, refused, done, checked, needing, sending, erasing, settled}
-use Rattle.private_store.specs.Commands.{write, seal, read, release, holds_of, is_unsealed, with_holds}
+use Rattle.private_store.specs.Change.{replied, refused, done, checked, needing, sending, erasing}
+use Rattle.private_store.specs.Commands.{write, seal, read, holds_of, is_unsealed}
 use Rattle.private_store.specs.Step.{step, owned, commanded}
 use Rattle.private_store.proofs.Checks.{checked-nil, checked-false}
 use Rattle.spill_work.specs.Line.{WorkLine}
 use Rattle.node_table.specs.Kept.{Kept}
-use Rattle.node_table.specs.Row.{Row, copies_of, shape_of}
-use Rattle.node_table.specs.Checks.{write_check, write_check_of, seal_check, seal_check_of, read_check, read_check_of, release_check}
+use Rattle.node_table.specs.Row.{Row, shape_of}
+use Rattle.node_table.specs.Checks.{write_check, seal_check, read_check, read_check_of}
 use Rattle.node_table.proofs.CopyTables.{at-copies}
 
 -- the refusal, or else the rest

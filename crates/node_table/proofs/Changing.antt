@@ -1,36 +1,30 @@
 -- A step that changes one copy where it lies, and brings no bytes.
-use Rattle.std.proofs.Common.{◌≡◌, ℕ, Bool, true, false, cond, ◌⊎◌, inl, inr, List, [], ◌∷◌, map, take, Option, Some, None, is_some, option_map, unwrap_or, refl, sym, ap, subst, ◌∙◌, T}
-use Rattle.std.specs.Prelude.{IsTrue}
-use Rattle.std.specs.List.{list_all}
+use Rattle.std.proofs.Common.{◌≡◌, ℕ, Bool, true, false, cond, ◌⊎◌, inl, inr, List, [], take, Some, None, is_some, unwrap_or, refl, sym, ap, subst, ◌∙◌, T}
 use Rattle.obj_id.specs.declared.ids.ObjectId.{ObjectId}
 use Rattle.obj_id.specs.declared.works.Extent.{Extent}
-use Rattle.obj_id.specs.declared.messages.Digest.{Digest}
 use Rattle.obj_id.specs.Ids.{same_id}
-use Rattle.obj_id.proofs.SameIds.{same_id-equal, same_id-itself}
+use Rattle.obj_id.proofs.SameIds.{same_id-equal}
 use Rattle.private_store.specs.declared.inputs.Input.{Input}
 use Rattle.private_store.specs.Tables.{ById, at, with_entry, is_among}
 use Rattle.private_store.specs.Shape.{Copy, Change}
 use Rattle.private_store.specs.Copies.{extent_of}
-use Rattle.private_store.specs.Room.{set_copy}
 use Rattle.private_store.specs.Change.{keys_gone}
-use Rattle.private_store.specs.Contents.{Contents, judge, bytes_brought, digest_brought, brought, keeps_digest, no_digest, whole_reply}
-use Rattle.private_store.specs.Private.{key_of}
-use Rattle.private_store.specs.Step.{reordered}
+use Rattle.private_store.specs.Contents.{Contents, judge, bytes_brought, digest_brought, brought, keeps_digest, no_digest}
 use Rattle.private_store.proofs.Filling.{filled}
 use Rattle.private_store.proofs.RefusingLemmas.{keys_none, all_found}
 use Rattle.private_store.proofs.KeptLists.{all_weaker}
-use Rattle.private_store.proofs.Rows.{at-put, at-put_here}
-use Rattle.private_store.proofs.Tests.{both, and_left, and_right, some_value, true_T}
+use Rattle.private_store.proofs.Rows.{at-put}
+use Rattle.private_store.proofs.Tests.{some_value, true_T}
 use Rattle.job_region.specs.Region.{bytes_at as placed_bytes}
 use Rattle.lru_evictor.specs.Orders.{AreThere}
 use Rattle.spill_work.specs.Line.{WorkLine, works_of}
 use Rattle.node_table.specs.Entries.{changed}
 use Rattle.node_table.specs.Kept.{Kept}
-use Rattle.node_table.specs.Row.{Row, copies_of, shape_of, place_of}
-use Rattle.node_table.specs.Shown.{seen, work_on, IsPlain, IsShown, Given}
+use Rattle.node_table.specs.Row.{Row, copies_of}
+use Rattle.node_table.specs.Shown.{seen, work_on, IsPlain, IsShown}
 use Rattle.node_table.proofs.Changes.{changed-found}
 use Rattle.node_table.proofs.CopyTables.{copies-changed}
-use Rattle.node_table.proofs.Stepping.{Moves, same_bytes, digests_now, bytes_now}
+use Rattle.node_table.proofs.Stepping.{same_bytes, digests_now, bytes_now}
 
 -- ---- a table with one entry changed
 
@@ -96,7 +90,6 @@ module _ (node : ℕ) (row : Row) (line : WorkLine) (contents : Contents) (h : I
       ∙ ap (λ n. filled (at contents.bytes q) (record z.0.copy { length = n })) same.1
       ∙ same_bytes node row line contents h x q z.0 e z.1 (sym (same_extent y z.0 same.0 same.1) ∙ lies)
       ∙ ap (λ n. take n (placed_bytes e row.window.placed)) (sym same.1)
-
 
   -- where no digest is brought, and the change keeps it
   pub digests_stay : (c : Change) → digest_brought node (seen row line contents) x c.reply ≡ None → ((f k).digest ≡ k.digest) → (keeps_digest (f k).copy ≡ true → keeps_digest k.copy ≡ true)

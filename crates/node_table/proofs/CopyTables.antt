@@ -1,5 +1,5 @@
 -- The copies of a row as its store's table has them.
-use Rattle.std.proofs.Common.{◌≡◌, ℕ, Bool, true, false, not, cond, List, [], ◌∷◌, map, filter, Option, Some, None, option_map, ◌&&◌, refl, sym, ap, ◌∙◌, T}
+use Rattle.std.proofs.Common.{◌≡◌, Bool, true, false, not, cond, [], ◌∷◌, Some, None, option_map, ◌&&◌, refl, sym, ap, ◌∙◌, T}
 use Rattle.std.specs.Ordering.{is_lt}
 use Rattle.std.specs.declared.cmp.Ordering.{Ordering}
 use Rattle.std.specs.declared.cmp.Ordering.TheVariants.{Less, Equal, Greater}
@@ -10,7 +10,6 @@ use Rattle.obj_id.proofs.SameIds.{same_id-equal, same_id-itself}
 use Rattle.private_store.proofs.Filling.{below_none}
 use Rattle.private_store.proofs.Tests.{and_left, none_some}
 use Rattle.private_store.specs.Tables.{ById, at, with_entry, without_entry}
-use Rattle.private_store.specs.Shape.{Copy}
 use Rattle.node_table.specs.Entries.{changed}
 use Rattle.node_table.specs.Kept.{Kept}
 use Rattle.node_table.specs.Row.{copies_of}

@@ -1,46 +1,45 @@
 -- A row takes Create where a place is made for the new copy, or there is one.
-use Rattle.std.proofs.Common.{◌≡◌, ℕ, ◌+◌, ◌/◌, ◌*◌, ◌≤◌, ◌^◌, ◌<◌, Bool, true, false, not, ◌&&◌, ◌||◌, cond, ◌==◌, nat_eq, nat_le, ◌⊎◌, inl, inr, List, [], ◌∷◌, ◌++◌, filter, map, flat_map, fold, length, take, replicate, Option, Some, None, is_some, is_none, option_map, unwrap_or, Ok, Err, refl, sym, ap, subst, ◌∙◌, T, arith}
-use Rattle.std.specs.Prelude.{if◌then◌else◌, filter_map, is_ok}
-use Rattle.std.specs.declared.result.Result.{Result}
+use Rattle.std.proofs.Common.{◌≡◌, ℕ, ◌≤◌, Bool, true, false, not, ◌&&◌, ◌||◌, cond, ◌==◌, nat_eq, nat_le, inl, inr, List, [], ◌∷◌, ◌++◌, filter, map, flat_map, fold, length, take, replicate, Option, Some, None, is_some, is_none, option_map, unwrap_or, Ok, Err, refl, sym, ap, subst, ◌∙◌, T, arith}
+use Rattle.std.specs.Prelude.{if◌then◌else◌, filter_map}
 use Rattle.std.specs.List.{list_all, list_any, cons_option}
 use Rattle.std.specs.Option.{option_map_or, option_and_then}
 use Rattle.std.specs.Map.{lookup}
 use Rattle.std.specs.FinMap.Entries.{is_sorted, below_all, same_entries, is_sorted-put, is_sorted-where_key}
 use Rattle.std.proofs.lemmas.List.{take-replicate}
-use Rattle.std.proofs.lemmas.List.Folds.{list_all-append, list_any-append}
+use Rattle.std.proofs.lemmas.List.Folds.{list_all-append}
 use Rattle.std.proofs.lemmas.List.Elements.{filter-append}
 use Rattle.obj_id.specs.declared.ids.ObjectId.{ObjectId}
 use Rattle.obj_id.specs.declared.works.Extent.{Extent}
 use Rattle.obj_id.specs.declared.works.WorkKind.TheVariants.{Write, Read}
 use Rattle.obj_id.specs.declared.commands.Kind.{Kind}
-use Rattle.obj_id.specs.declared.commands.CopyState.TheVariants.{Created, Away}
+use Rattle.obj_id.specs.declared.commands.CopyState.TheVariants.{Away}
 use Rattle.obj_id.specs.declared.commands.Command.TheVariants as command
 use Rattle.obj_id.specs.declared.commands.Reply.TheVariants as reply
 use Rattle.obj_id.specs.declared.refusals.Refusal.{Refusal}
-use Rattle.obj_id.specs.declared.refusals.Refusal.TheVariants.{BadSize, Gone, Exists, TooMany, Full, Pending}
+use Rattle.obj_id.specs.declared.refusals.Refusal.TheVariants.{BadSize, Gone, Exists, TooMany, Full}
 use Rattle.obj_id.specs.Ids.{id_cmp, id_eq, same_id}
 use Rattle.obj_id.proofs.SameIds.{id_cmp-IsTotalOrder, id_cmp-IsAntisymmetric, same_id-equal, same_id-itself, same_id-flip, same_id-not_back, same_id-id_eq}
 use Rattle.private_store.specs.declared.inputs.Input.{Input}
 use Rattle.private_store.specs.declared.inputs.Input.TheVariants as input
 use Rattle.private_store.specs.Limits.{most_copies}
-use Rattle.private_store.specs.Tables.{ById, at, with_entry, without_entry, is_among}
+use Rattle.private_store.specs.Tables.{ById, at, with_entry, is_among}
 use Rattle.private_store.specs.Extents.{rounded, first, is_size}
 use Rattle.private_store.specs.Shape.{Copy, Shape, Change, Sending, remove_location}
 use Rattle.private_store.specs.Copies.{extent_of, is_primary, is_sealed, is_evictable, is_idle, device_used}
 use Rattle.private_store.specs.Room.{Room, make_room, offset_without, no_room, evict_room, evicted, eviction_notice, set_copy, drop_copy}
-use Rattle.private_store.specs.Change.{replied, refused, checked, sending, erasing, in_room, has_ended, keys_gone}
-use Rattle.private_store.specs.Commands.{create, created, new_copy, is_length, is_full_of_copies}
-use Rattle.private_store.specs.Contents.{Contents, View, judge, keeps_digest, no_digest}
+use Rattle.private_store.specs.Change.{replied, refused, sending, erasing, in_room, keys_gone}
+use Rattle.private_store.specs.Commands.{create, created, new_copy, is_length}
+use Rattle.private_store.specs.Contents.{Contents, View, judge, keeps_digest}
 use Rattle.obj_id.specs.declared.messages.DirectoryMessage.TheVariants.{RemoveLocation}
 use Rattle.private_store.specs.Private.{key_of, posts_of, to_directory, view_after}
 use Rattle.private_store.specs.Step.{step, reordered}
 use Rattle.private_store.proofs.Checks.{checked-nil}
 use Rattle.private_store.proofs.Filling.{filled}
 use Rattle.private_store.proofs.KeptLists.{any-filter}
-use Rattle.private_store.proofs.ObjectMaps.{is_id, at-lookup, without_entry-absent}
+use Rattle.private_store.proofs.ObjectMaps.{at-lookup, without_entry-absent}
 use Rattle.private_store.proofs.Rows.{at-put, at-put_here, at-drop}
-use Rattle.private_store.proofs.Tests.{T_true, both, both_left, both_right, and_right, or_left, or_right, or_cases, some_value, none_some, true_false, false_true}
-use Rattle.job_region.specs.Region.{bytes_at as placed_bytes, extents_of, put_in, without}
+use Rattle.private_store.proofs.Tests.{T_true, both, both_left, both_right, and_right, or_left, or_right, or_cases, some_value, none_some, true_false}
+use Rattle.job_region.specs.Region.{bytes_at as placed_bytes, extents_of}
 use Rattle.job_region.proofs.Places.{lookup-put_in}
 use Rattle.lru_evictor.specs.Orders.{AreThere, last_used, without_id, without_ids}
 use Rattle.lru_evictor.specs.declared.facts.DeviceRoom.{DeviceRoom}
@@ -50,8 +49,8 @@ use Rattle.node_table.specs.Entries.{without_all}
 use Rattle.node_table.specs.Kept.{Kept, new_kept}
 use Rattle.node_table.specs.Row.{Row, copies_of, shape_of, place_of, ArePlaced}
 use Rattle.node_table.specs.Checks.{create_check}
-use Rattle.node_table.specs.Creating.{extents_gone, placed_without, replaced, IsReplaced, removals}
-use Rattle.node_table.specs.RoomPlans.{MakesPlace, all_pass}
+use Rattle.node_table.specs.Creating.{placed_without, replaced, removals}
+use Rattle.node_table.specs.RoomPlans.{MakesPlace}
 use Rattle.node_table.specs.Shown.{seen, work_on, IsPlain, IsShown, Given, only, TakesStep}
 use Rattle.node_table.proofs.ByChecks.{unless_refused, first-check, called, own, sending-is}
 use Rattle.node_table.proofs.CopyTables.{at-first, at-rest, sorted-copies, at-copies, at-copies_found, at-copies_none, copies-with}
@@ -79,8 +78,8 @@ with-without ids es id x sorted stays =
     (is_sorted-where_key id_cmp (λ q. not (is_among ids q)) (with_entry es id x) (is_sorted-put id_cmp id_cmp-IsTotalOrder id x es sorted))
     (is_sorted-put id_cmp id_cmp-IsTotalOrder id x (without_all ids es) (is_sorted-where_key id_cmp (λ q. not (is_among ids q)) es sorted))
     (λ q. at-without ids (with_entry es id x) q ∙ ap (λ o. cond (not (is_among ids q)) o None) (at-put es id x q)
-      ∙ by q (same_id q id) refl (is_among ids q) refl
-      ∙ ap (λ o. cond (same_id q id) (Some x) o) (sym (at-without ids es q)) ∙ sym (at-put (without_all ids es) id x q))
+    ∙ by q (same_id q id) refl (is_among ids q) refl
+    ∙ ap (λ o. cond (same_id q id) (Some x) o) (sym (at-without ids es q)) ∙ sym (at-put (without_all ids es) id x q))
   where
     by : (q : ObjectId) (s : Bool) → same_id q id ≡ s → (a : Bool) → is_among ids q ≡ a → cond (not a) (cond s (Some x) (at es q)) None ≡ cond s (Some x) (cond (not a) (at es q) None)
     by q true s false a = refl

@@ -1,34 +1,28 @@
 -- The window, the copies and the works of a row describe its job's store.
-use Rattle.std.proofs.Common.{◌≡◌, ℕ, ◌+◌, ◌<◌, ◌≤◌, ◌^◌, Bool, true, false, not, ◌&&◌, ◌||◌, cond, ◌⊎◌, inl, inr, nat_eq, List, [], ◌∷◌, map, filter, length, sum, Contains, Option, Some, None, is_some, is_none, option_map, refl, sym, ap, subst, ◌∙◌, T, arith}
-use Rattle.std.specs.Prelude.{◌↔◌, IsSomeAnd, count_by, filter_map, find}
+use Rattle.std.proofs.Common.{◌≡◌, ℕ, Bool, true, false, not, ◌&&◌, ◌||◌, cond, ◌⊎◌, inl, inr, nat_eq, List, [], ◌∷◌, length, Contains, Option, Some, None, is_some, is_none, option_map, refl, sym, ap, subst, ◌∙◌, T, arith}
+use Rattle.std.specs.Prelude.{◌↔◌, IsSomeAnd, filter_map, find}
 use Rattle.std.specs.List.{list_any, cons_option}
-use Rattle.std.specs.Option.{option_map_or, option_and_then}
+use Rattle.std.specs.Option.{option_and_then}
 use Rattle.std.specs.Map.{lookup}
-use Rattle.std.specs.Ordering.{is_lt}
 use Rattle.std.specs.FinMap.Entries.{is_sorted, below_all}
 use Rattle.std.proofs.lemmas.Bool.Decides.{nat_tests}
 use Rattle.std.proofs.lemmas.List.Elements.{Contains-append_left, Contains-append_right, Contains-append_cases, Contains-push, Contains-push_cases}
-use Rattle.std.proofs.lemmas.List.Sums.{sum_by-cons}
 use Rattle.obj_id.specs.declared.ids.ObjectId.{ObjectId}
 use Rattle.obj_id.specs.declared.works.Extent.{Extent}
 use Rattle.obj_id.specs.declared.works.WorkKind.{WorkKind}
 use Rattle.obj_id.specs.declared.works.WorkKind.TheVariants.{Write, Read}
 use Rattle.obj_id.specs.Ids.{id_cmp, same_id}
-use Rattle.obj_id.proofs.SameIds.{same_id-equal, same_id-itself}
-use Rattle.private_store.specs.Limits.{is_quota}
 use Rattle.private_store.specs.Tables.{ById, at}
 use Rattle.private_store.specs.Extents.{rounded}
 use Rattle.private_store.specs.Shape.{Copy, Shape, WorkInFlight}
-use Rattle.private_store.specs.Copies.{extent_of, is_held, is_sealed, is_primary, is_working, is_writing, device_used}
+use Rattle.private_store.specs.Copies.{extent_of, is_held, is_sealed, is_primary, is_working, device_used}
 use Rattle.private_store.specs.Contents.{Contents}
-use Rattle.private_store.proofs.Filling.{below_none}
-use Rattle.private_store.proofs.KeptLists.{count-yes, count-no, none_counted}
-use Rattle.private_store.proofs.Tests.{T_true, and_left, and_right, none_some, some_value}
+use Rattle.private_store.proofs.Tests.{T_true, and_right, none_some, some_value}
 use Rattle.job_region.specs.Region.{extents_of, IsAt}
 use Rattle.lru_evictor.specs.declared.facts.DeviceRoom.{DeviceRoom}
 use Rattle.lru_evictor.specs.Facts.{Looked}
 use Rattle.lru_evictor.specs.Plans.{IsDescribed, extents_in, facts_of as store_facts}
-use Rattle.spill_work.specs.Line.{WorkLine, is_write}
+use Rattle.spill_work.specs.Line.{WorkLine}
 use Rattle.node_table.specs.Kept.{Kept}
 use Rattle.node_table.specs.Row.{Row, copies_of, shape_of, place_of, ArePlaced}
 use Rattle.node_table.specs.Shown.{IsShown, work_on}

@@ -1,23 +1,21 @@
 -- A row takes Get of an object that isn't there, and of one that is on its way.
-use Rattle.std.proofs.Common.{◌≡◌, ℕ, suc, ◌+◌, Bool, true, false, not, cond, ◌||◌, ◌==◌, nat_le, List, [], ◌∷◌, ◌++◌, map, take, length, Option, Some, None, is_some, option_map, unwrap_or, refl, sym, ap, subst, ◌∙◌}
+use Rattle.std.proofs.Common.{◌≡◌, ℕ, suc, ◌+◌, Bool, true, false, not, cond, ◌||◌, ◌==◌, nat_le, List, [], ◌∷◌, map, take, length, Option, Some, None, is_some, option_map, unwrap_or, refl, sym, ap, subst, ◌∙◌}
 use Rattle.std.specs.Prelude.{if◌then◌else◌, find}
 use Rattle.std.specs.List.{list_any}
 use Rattle.std.specs.Option.{option_map_or}
 use Rattle.obj_id.specs.declared.works.WorkKind.TheVariants.{Write, Read}
 use Rattle.obj_id.specs.declared.ids.ObjectId.{ObjectId}
-use Rattle.obj_id.specs.declared.works.Extent.{Extent}
 use Rattle.obj_id.specs.declared.messages.DirectoryMessage.TheVariants.{Locate}
 use Rattle.obj_id.specs.declared.refusals.Refusal.{Refusal}
 use Rattle.obj_id.specs.declared.refusals.Refusal.TheVariants.{TooMany, Pending, Absent}
 use Rattle.obj_id.specs.declared.commands.Command.TheVariants as command
 use Rattle.obj_id.specs.declared.commands.Reply.TheVariants as reply
 use Rattle.obj_id.specs.Ids.{same_id}
-use Rattle.obj_id.proofs.SameIds.{same_id-equal, same_id-itself}
-use Rattle.private_store.specs.declared.inputs.Input.{Input}
+use Rattle.obj_id.proofs.SameIds.{same_id-equal}
 use Rattle.private_store.specs.declared.inputs.Input.TheVariants as input
 use Rattle.private_store.specs.Limits.{most_copies, has_numbers}
-use Rattle.private_store.specs.Tables.{ById, at, with_entry, is_among}
-use Rattle.private_store.specs.Shape.{Copy, Shape, Change, Fetch, Phase, locating, sized, pulling, failed, locate}
+use Rattle.private_store.specs.Tables.{at, with_entry, is_among}
+use Rattle.private_store.specs.Shape.{Shape, Change, Fetch, Phase, locating, sized, pulling, failed, locate}
 use Rattle.private_store.specs.Copies.{extent_of}
 use Rattle.private_store.specs.Change.{refused, erasing, sending}
 use Rattle.private_store.specs.Commands.{fetched_copy, fetch_begun, get_fetching}
@@ -38,12 +36,12 @@ use Rattle.spill_work.specs.Line.{WorkLine, works_of}
 use Rattle.node_table.specs.Kept.{Kept, fetched_kept}
 use Rattle.node_table.specs.Row.{Row, copies_of, shape_of}
 use Rattle.node_table.specs.Checks.{fetch_check}
-use Rattle.node_table.specs.Shown.{seen, is_plain, work_on, IsPlain, IsShown, Given, only, TakesStep}
+use Rattle.node_table.specs.Shown.{is_plain, work_on, IsPlain, IsShown, Given, only, TakesStep}
 use Rattle.node_table.proofs.ByChecks.{unless_refused, first-check, needing-by, sending-is}
 use Rattle.node_table.proofs.CopyTables.{at-copies_none, copies-with}
 use Rattle.node_table.proofs.Changing.{there_with, keys_with}
 use Rattle.node_table.proofs.Orders.{there_last, listed_last, last_listed}
-use Rattle.node_table.proofs.Getting.{s, x, by_copy, get_is, get_at}
+use Rattle.node_table.proofs.Getting.{by_copy, get_is, get_at}
 use Rattle.node_table.proofs.Stepping.{Moves, moved, stays, same_bytes}
 
 pub length-map : {A B : Type 0} (f : A → B) (xs : List A) → length (map f xs) ≡ length xs

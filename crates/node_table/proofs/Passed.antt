@@ -1,5 +1,5 @@
 -- What is so of a copy whose command passed its checks.
-use Rattle.std.proofs.Common.{◌≡◌, ℕ, ◌+◌, ◌*◌, ◌/◌, ◌≤◌, nat_lt, Bool, true, false, not, cond, ◌==◌, Option, Some, None, is_some, refl, sym, ap, subst, ◌∙◌, arith}
+use Rattle.std.proofs.Common.{◌≡◌, ℕ, ◌+◌, ◌≤◌, nat_lt, Bool, true, false, not, cond, ◌==◌, Option, Some, None, is_some, refl, ap, ◌∙◌, arith}
 use Rattle.std.specs.Option.{option_map_or, option_and_then}
 use Rattle.std.proofs.lemmas.Bool.Decides.{nat_tests}
 use Rattle.obj_id.specs.declared.ids.ObjectId.{ObjectId}
@@ -18,7 +18,7 @@ use Rattle.private_store.specs.Commands.{holds_of, is_unsealed}
 use Rattle.private_store.proofs.Tests.{true_false}
 use Rattle.node_table.specs.Kept.{Kept}
 use Rattle.node_table.specs.Row.{place_of}
-use Rattle.node_table.specs.Checks.{write_check, write_check_of, seal_check, seal_check_of, read_check, read_check_of, release_check}
+use Rattle.node_table.specs.Checks.{write_check, write_check_of, seal_check, seal_check_of, read_check, read_check_of}
 
 -- a check that passed: the first test failed, and the rest passed
 pub past : (b : Bool) (r : Refusal) (rest : Option Refusal) → cond b (Some r) rest ≡ None → (b ≡ false) × (rest ≡ None)

@@ -1,5 +1,5 @@
 -- Where the copies of a row lie, after a change of the window or of the copies.
-use Rattle.std.proofs.Common.{◌≡◌, ◌≢◌, ℕ, ◌+◌, ◌≤◌, ◌<◌, nat_lt, Bool, true, false, cond, nat_eq, List, [], ◌∷◌, Contains, Option, Some, None, length, take, refl, sym, ap, subst, ◌∙◌, arith}
+use Rattle.std.proofs.Common.{◌≡◌, ◌≢◌, ℕ, ◌+◌, ◌≤◌, ◌<◌, nat_lt, Bool, true, false, cond, nat_eq, List, [], ◌∷◌, Contains, Option, Some, None, length, refl, sym, ap, subst, ◌∙◌, arith}
 use Rattle.std.specs.Prelude.{◌↔◌, IsSomeAnd, unwrap_or, OnOk, OnErr, Ok, Err, IsSome, IsErrOf}
 use Rattle.std.specs.declared.result.Result.{Result}
 use Rattle.std.specs.Cmp.{nat_eq_equiv}
@@ -11,7 +11,7 @@ use Rattle.obj_id.specs.declared.works.Extent.{Extent}
 use Rattle.obj_id.specs.declared.refusals.Refusal.{Refusal}
 use Rattle.obj_id.specs.declared.refusals.Refusal.TheVariants.{OutOfBounds}
 use Rattle.private_store.specs.Contents.{overwritten}
-use Rattle.private_store.proofs.Tests.{true_false, some_value}
+use Rattle.private_store.proofs.Tests.{some_value}
 use Rattle.private_store.proofs.RowContents.{length-overwritten}
 use Rattle.job_region.specs.Region.{Region, extents_of, IsAt, bytes_at}
 use Rattle.private_store.specs.Tables.{ById, at, with_entry}

@@ -1,5 +1,5 @@
 -- Copies of some ids taken out of a table.
-use Rattle.std.proofs.Common.{◌≡◌, ℕ, ◌+◌, Bool, true, false, not, ◌||◌, cond, List, [], ◌∷◌, drop, filter, fold, refl, sym, ap, ◌∙◌}
+use Rattle.std.proofs.Common.{◌≡◌, ℕ, ◌+◌, true, false, not, ◌||◌, cond, List, [], ◌∷◌, drop, refl, sym, ap, ◌∙◌}
 use Rattle.obj_id.specs.declared.ids.ObjectId.{ObjectId}
 use Rattle.obj_id.specs.Ids.{same_id}
 use Rattle.obj_id.proofs.SameIds.{same_id-flip}

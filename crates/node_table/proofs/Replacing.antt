@@ -1,10 +1,10 @@
 -- Where the copies of a row lie after some of them went and a new one took a place.
-use Rattle.std.proofs.Common.{◌≡◌, ◌≢◌, ℕ, ◌+◌, ◌<◌, ◌≤◌, Bool, true, false, not, ◌||◌, cond, nat_eq, List, [], ◌∷◌, ◌++◌, filter, map, length, replicate, Contains, ◌⊎◌, inl, inr, Option, Some, None, is_some, option_map, refl, sym, ap, subst, ◌∙◌, arith}
-use Rattle.std.specs.Prelude.{IsSomeAnd, filter_map, nat_lt}
-use Rattle.std.specs.List.{list_any, cons_option}
+use Rattle.std.proofs.Common.{◌≡◌, ◌≢◌, ℕ, Bool, true, false, not, ◌||◌, cond, nat_eq, List, [], ◌∷◌, ◌++◌, length, replicate, Contains, ◌⊎◌, inl, inr, Option, Some, None, option_map, refl, sym, ap, subst, ◌∙◌, arith}
+use Rattle.std.specs.Prelude.{IsSomeAnd, nat_lt}
+use Rattle.std.specs.List.{cons_option}
 use Rattle.std.specs.List.Sorted.{IsPermutation}
 use Rattle.std.proofs.lemmas.List.Elements.{filter-append}
-use Rattle.std.specs.Option.{option_map_or, option_and_then}
+use Rattle.std.specs.Option.{option_and_then}
 use Rattle.std.specs.Map.{lookup}
 use Rattle.std.specs.FinMap.Entries.{find-where_key}
 use Rattle.std.proofs.lemmas.Bool.Decides.{nat_tests}
@@ -19,7 +19,7 @@ use Rattle.private_store.specs.Extents.{rounded}
 use Rattle.private_store.specs.Copies.{extent_of}
 use Rattle.private_store.proofs.Rows.{at-put}
 use Rattle.private_store.proofs.Tests.{true_false, false_true, some_value, none_some}
-use Rattle.job_region.specs.Region.{Region, extents_of, without, put_in, IsAt}
+use Rattle.job_region.specs.Region.{extents_of, without, put_in, IsAt}
 use Rattle.job_region.proofs.Places.{lookup-put_in, lookup-put_in_other}
 use Rattle.lru_evictor.specs.Facts.{gone_of}
 use Rattle.lru_evictor.specs.Orders.{without_id, last_used}

@@ -1,5 +1,5 @@
 -- A row takes Seal.
-use Rattle.std.proofs.Common.{◌≡◌, ℕ, Bool, true, false, cond, ◌==◌, ◌⊎◌, inl, inr, List, [], ◌∷◌, ◌++◌, map, take, flat_map, Option, Some, None, option_map, is_some, is_none, unwrap_or, refl, sym, ap, subst, ◌∙◌}
+use Rattle.std.proofs.Common.{◌≡◌, ℕ, true, false, cond, ◌==◌, ◌⊎◌, inl, inr, List, [], ◌∷◌, map, take, Some, None, is_none, unwrap_or, refl, sym, ap, ◌∙◌}
 use Rattle.std.specs.Option.{option_map_or}
 use Rattle.obj_id.specs.declared.ids.ObjectId.{ObjectId}
 use Rattle.obj_id.specs.declared.works.Extent.{Extent}
@@ -15,19 +15,18 @@ use Rattle.obj_id.specs.declared.commands.CopyState.TheVariants.{Created, Sealed
 use Rattle.obj_id.specs.declared.commands.Command.TheVariants as command
 use Rattle.obj_id.specs.declared.commands.Reply.TheVariants as reply
 use Rattle.obj_id.specs.Ids.{same_id}
-use Rattle.obj_id.proofs.SameIds.{same_id-equal, same_id-itself}
 use Rattle.private_store.specs.declared.inputs.Input.{Input}
 use Rattle.private_store.specs.declared.inputs.Input.TheVariants as input
-use Rattle.private_store.specs.Tables.{ById, at, with_entry}
+use Rattle.private_store.specs.Tables.{at, with_entry}
 use Rattle.private_store.specs.Shape.{Copy, Shape, Change, add_location}
 use Rattle.private_store.specs.Copies.{extent_of, is_created}
 use Rattle.private_store.specs.Room.{set_copy}
 use Rattle.private_store.specs.Change.{refused, done, erasing, sending}
-use Rattle.private_store.specs.Contents.{Contents, judge, bytes_at, digest_at, digest_of, no_digest, keeps_digest}
-use Rattle.private_store.specs.Private.{Post, posts_of, key_of, length_at}
+use Rattle.private_store.specs.Contents.{Contents, judge, bytes_at, digest_of, no_digest, keeps_digest}
+use Rattle.private_store.specs.Private.{Post, key_of, length_at}
 use Rattle.private_store.specs.Step.{step}
 use Rattle.private_store.proofs.Rows.{at-put, at-put_here}
-use Rattle.private_store.proofs.Tests.{some_value, true_false}
+use Rattle.private_store.proofs.Tests.{true_false}
 use Rattle.job_region.specs.Region.{bytes_at as placed_bytes}
 use Rattle.lru_evictor.proofs.Reorders.{reordered-unused}
 use Rattle.spill_work.specs.Line.{WorkLine}
@@ -40,8 +39,8 @@ use Rattle.node_table.proofs.ByChecks.{unless_refused, called, own, seal_done, s
 use Rattle.node_table.proofs.Changes.{changed-found}
 use Rattle.node_table.proofs.CopyTables.{at-copies_found, copies-changed}
 use Rattle.node_table.proofs.Passed.{IsUnwritten, seal_passed, placed_at, created_resides}
-use Rattle.node_table.proofs.Changing.{with_change, there_still, from_changed, bytes_stay, works_stay, plain_stay, listed_stay, keys_with}
-use Rattle.node_table.proofs.Stepping.{Moves, o, moved, shown_now, stays, digests_now}
+use Rattle.node_table.proofs.Changing.{there_still, from_changed, bytes_stay, works_stay, plain_stay, listed_stay, keys_with}
+use Rattle.node_table.proofs.Stepping.{Moves, moved, shown_now, stays, digests_now}
 
 module _ (node : ℕ) (row : Row) (line : WorkLine) (contents : Contents) (session : ℕ) (id : ObjectId) (mine : (id.job.0 == row.job) ≡ true) (h : IsShown row line contents) where
   abbrev s : Shape

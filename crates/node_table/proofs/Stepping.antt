@@ -1,21 +1,19 @@
 -- A row takes a step: what has to be shown of it, and what is so of a step that brings and changes nothing.
-use Rattle.std.proofs.Common.{◌≡◌, ℕ, Bool, true, false, cond, List, [], ◌∷◌, flat_map, map, take, length, replicate, Option, Some, None, is_some, unwrap_or, refl, sym, ap, subst, ◌∙◌, T}
-use Rattle.std.specs.Prelude.{IsTrue}
+use Rattle.std.proofs.Common.{◌≡◌, ℕ, true, cond, List, [], flat_map, map, take, length, replicate, Option, Some, None, is_some, unwrap_or, refl, sym, ap, subst, ◌∙◌, T}
 use Rattle.std.specs.FinMap.{is_sorted}
 use Rattle.obj_id.specs.declared.ids.ObjectId.{ObjectId}
 use Rattle.obj_id.specs.declared.works.Extent.{Extent}
-use Rattle.obj_id.specs.declared.works.DeviceKey.{DeviceKey}
 use Rattle.obj_id.specs.declared.messages.Digest.{Digest}
 use Rattle.obj_id.specs.declared.commands.Reply.{Reply}
 use Rattle.obj_id.specs.Ids.{id_cmp}
 use Rattle.private_store.specs.declared.inputs.Input.{Input}
 use Rattle.private_store.specs.Tables.{ById, at, is_among}
-use Rattle.private_store.specs.Shape.{Copy, Shape, Change}
+use Rattle.private_store.specs.Shape.{Copy, Change}
 use Rattle.private_store.specs.Copies.{extent_of}
-use Rattle.private_store.specs.Change.{replied, erasing, keys_gone}
+use Rattle.private_store.specs.Change.{replied, erasing}
 use Rattle.private_store.specs.Step.{step, reordered}
-use Rattle.private_store.specs.Contents.{Contents, View, judge, bytes_at, digest_at, keeps_digest, no_digest, bytes_brought, digest_brought, brought, kept, whole_reply}
-use Rattle.private_store.specs.Private.{Post, posts_of, key_of, view_step, outcome, view_after}
+use Rattle.private_store.specs.Contents.{Contents, View, judge, bytes_at, keeps_digest, no_digest, bytes_brought, digest_brought, brought, whole_reply}
+use Rattle.private_store.specs.Private.{posts_of, key_of, view_step, view_after}
 use Rattle.private_store.specs.Kept.{IsViewKept}
 use Rattle.private_store.proofs.Filling.{at-kept, kept_row, filled}
 use Rattle.private_store.proofs.RowContents.{default_same}
@@ -28,7 +26,7 @@ use Rattle.spill_work.specs.Line.{WorkLine, works_of}
 use Rattle.node_table.specs.Kept.{Kept}
 use Rattle.node_table.specs.Row.{Row, copies_of, shape_of}
 use Rattle.node_table.specs.Shown.{seen, work_on, IsPlain, IsShown, Given, only, TakesStep}
-use Rattle.node_table.proofs.CopyTables.{at-copies, at-copies_found}
+use Rattle.node_table.proofs.CopyTables.{at-copies_found}
 
 module _ (node : ℕ) (row : Row) (line : WorkLine) (contents : Contents) (h : IsShown row line contents) (x : Input) where
   abbrev pub before : View

@@ -3,8 +3,6 @@ use Rattle.std.proofs.Common.{◌≡◌, ℕ, ◌+◌, ◌-◌, ◌*◌, ◌≤�
 use Rattle.std.specs.Prelude.{sum, sum_by, count_by, filter_map, min, nat_le}
 use Rattle.std.specs.Option.{option_map_or}
 use Rattle.std.specs.List.{list_any, cons_option}
-use Rattle.std.specs.Ordering.{is_eq, is_lt}
-use Rattle.std.specs.Cmp.{tied_itself}
 use Rattle.std.specs.FinMap.{is_sorted}
 use Rattle.std.specs.FinMap.Entries.{below_all}
 use Rattle.std.proofs.lemmas.Bool.Decides.{nat_tests}
@@ -18,7 +16,6 @@ use Rattle.obj_id.specs.declared.commands.Usage.{Usage}
 use Rattle.obj_id.specs.declared.commands.Command.TheVariants as command
 use Rattle.obj_id.specs.declared.commands.Reply.TheVariants as reply
 use Rattle.obj_id.specs.Ids.{id_cmp, same_id}
-use Rattle.obj_id.proofs.SameIds.{id_cmp-IsTotalOrder, same_id-equal}
 use Rattle.private_store.specs.declared.inputs.Input.TheVariants as input
 use Rattle.private_store.specs.Limits.{is_quota, is_window, greatest_device_quota}
 use Rattle.private_store.specs.Extents.{rounded, end_of}
@@ -28,7 +25,7 @@ use Rattle.private_store.specs.Copies.{extent_of, is_writing, window_used, devic
 use Rattle.private_store.specs.Commands.{own_items, granted_items, usage_of}
 use Rattle.private_store.specs.Contents.{Contents}
 use Rattle.private_store.specs.Kept.{is_placed}
-use Rattle.private_store.proofs.Tests.{and_left, and_right, both_left, both_right, none_some, less_is, T_true, or_false}
+use Rattle.private_store.proofs.Tests.{and_right, both_left, both_right, T_true, or_false}
 use Rattle.spill_work.specs.Line.{WorkLine, is_write}
 use Rattle.node_table.specs.Kept.{Kept}
 use Rattle.node_table.specs.Row.{Row, copies_of, shape_of}

@@ -1,18 +1,16 @@
 -- A row takes Write and Read.
-use Rattle.std.proofs.Common.{◌≡◌, ◌≢◌, ℕ, ◌+◌, ◌-◌, ◌≤◌, Bool, true, false, cond, ◌==◌, List, [], ◌∷◌, ◌++◌, map, take, drop, length, Option, Some, None, is_some, unwrap_or, nat_eq, refl, sym, ap, subst, ◌∙◌, arith}
+use Rattle.std.proofs.Common.{◌≡◌, ℕ, ◌+◌, ◌≤◌, true, false, cond, ◌==◌, List, [], ◌∷◌, map, take, drop, length, Some, None, is_some, unwrap_or, nat_eq, refl, sym, ap, subst, ◌∙◌, arith}
 use Rattle.std.specs.Map.{set_value}
 use Rattle.obj_id.specs.declared.ids.ObjectId.{ObjectId}
 use Rattle.obj_id.specs.declared.works.Extent.{Extent}
 use Rattle.obj_id.specs.declared.refusals.Refusal.{Refusal}
-use Rattle.obj_id.specs.declared.commands.Command.{Command}
 use Rattle.obj_id.specs.declared.commands.Command.TheVariants as command
-use Rattle.obj_id.specs.declared.commands.Reply.{Reply}
 use Rattle.obj_id.specs.declared.commands.Reply.TheVariants as reply
 use Rattle.obj_id.specs.Ids.{same_id}
 use Rattle.obj_id.proofs.SameIds.{same_id-equal, same_id-itself}
 use Rattle.private_store.specs.declared.inputs.Input.{Input}
 use Rattle.private_store.specs.declared.inputs.Input.TheVariants as input
-use Rattle.private_store.specs.Tables.{ById, at, with_entry}
+use Rattle.private_store.specs.Tables.{at}
 use Rattle.private_store.specs.Shape.{Shape}
 use Rattle.private_store.specs.Copies.{extent_of}
 use Rattle.private_store.specs.Change.{replied, done, erasing}
@@ -33,12 +31,12 @@ use Rattle.spill_work.specs.Line.{WorkLine}
 use Rattle.node_table.specs.Kept.{Kept}
 use Rattle.node_table.specs.Row.{Row, copies_of, shape_of, place_of, ArePlaced}
 use Rattle.node_table.specs.Checks.{write_check, read_check}
-use Rattle.node_table.specs.Shown.{seen, IsShown, Given, only, TakesStep}
+use Rattle.node_table.specs.Shown.{IsShown, only, TakesStep}
 use Rattle.node_table.proofs.ByChecks.{unless_refused, called, own, write-by, read-by}
 use Rattle.node_table.proofs.CopyTables.{at-copies_found}
 use Rattle.node_table.proofs.Passed.{IsWritten, write_passed, IsRead, read_passed, placed_at, place_found, created_resides, sealed_resides, at_most_rounded}
 use Rattle.node_table.proofs.Places.{bytes-written, bytes-other, long_at}
-use Rattle.node_table.proofs.Stepping.{Moves, moved, stays, same_bytes}
+use Rattle.node_table.proofs.Stepping.{moved, stays, same_bytes}
 
 -- a session that has a hold is among the holds
 some_hold : (session : ℕ) (holds : List (ℕ × ℕ)) → (unwrap_or (find nat_cmp session holds) 0 == 0) ≡ false → are_held holds ≡ true

@@ -1,20 +1,17 @@
 -- One copy as its row keeps it: the store's copy, its digest, and which work is in flight for it.
-use Rattle.std.specs.Prelude.{◌≡◌, ℕ, ◌+◌, ◌-◌, Bool, true, false, not, ◌&&◌, ◌||◌, Option, Some, None, if◌then◌else◌, is_some, is_none, option_map}
+use Rattle.std.specs.Prelude.{◌≡◌, ℕ, ◌+◌, ◌-◌, Bool, ◌&&◌, Option, Some, None, if◌then◌else◌, is_some, is_none, option_map}
 use Rattle.std.specs.Option.{option_map_or}
 use Rattle.obj_id.specs.declared.commands.Kind.{Kind}
-use Rattle.obj_id.specs.declared.commands.CopyState.{CopyState}
 use Rattle.obj_id.specs.declared.commands.CopyState.TheVariants.{Sealed, Restoring, Away}
 use Rattle.obj_id.specs.declared.messages.Digest.{Digest}
-use Rattle.obj_id.specs.declared.works.Extent.{Extent}
 use Rattle.obj_id.specs.declared.works.WorkKind.{WorkKind}
 use Rattle.obj_id.specs.declared.works.WorkKind.TheVariants.{Write, Read}
-use Rattle.private_store.specs.Extents.{rounded}
 use Rattle.private_store.specs.Shape.{Copy, Fetch}
-use Rattle.private_store.specs.Copies.{extent_of, is_sealed, is_primary, is_away}
+use Rattle.private_store.specs.Copies.{is_sealed, is_primary, is_away}
 use Rattle.private_store.specs.Commands.{new_copy, fetched_copy, with_holds, holds_of}
 use Rattle.object_state.specs.Marks.{Marks}
 use Rattle.pins_holds.specs.Pinned.{Pinned}
-use Rattle.fetch_core.specs.Fetching.{Fetching, pull_begun}
+use Rattle.fetch_core.specs.Fetching.{Fetching}
 
 pub record Kept : Type 0 where
   pub copy : Copy

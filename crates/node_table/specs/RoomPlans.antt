@@ -1,18 +1,17 @@
 -- What is to be done for room in a row's window, and what a plan reads of the copies that a row keeps.
-use Rattle.std.specs.Prelude.{◌≡◌, ℕ, ◌<◌, ◌≤◌, Bool, true, false, not, ◌&&◌, ◌||◌, if◌then◌else◌, List, [], length, map, fold, sum, is_some, is_none}
+use Rattle.std.specs.Prelude.{◌≡◌, ℕ, ◌<◌, ◌≤◌, Bool, true, false, not, ◌&&◌, ◌||◌, if◌then◌else◌, List, [], length, fold, is_some, is_none}
 use Rattle.std.specs.List.{list_all}
 use Rattle.std.specs.Option.{option_map_or}
 use Rattle.obj_id.specs.declared.ids.ObjectId.{ObjectId}
 use Rattle.obj_id.specs.declared.refusals.Refusal.TheVariants.{Pending, Full, Busy, TooMany}
 use Rattle.private_store.specs.Limits.{has_numbers}
-use Rattle.private_store.specs.Tables.{ById, at}
+use Rattle.private_store.specs.Tables.{at}
 use Rattle.private_store.specs.Extents.{rounded}
 use Rattle.private_store.specs.Shape.{Copy, Shape}
 use Rattle.private_store.specs.Copies.{extent_of, is_held, is_sealed, is_primary, is_evictable, is_spillable}
 use Rattle.private_store.specs.Kept.{IsOrderOfUse}
 use Rattle.private_store.specs.Room.{Room, Plan, fits, wait, full, busy, evict, spill, works_left, offset_without, asked, evict_room, no_room}
 use Rattle.lru_evictor.specs.declared.facts.CopyFacts.{CopyFacts}
-use Rattle.spill_work.specs.Line.{is_write}
 use Rattle.node_table.specs.Kept.{Kept}
 use Rattle.node_table.specs.declared.room.RoomPlan.{RoomPlan}
 use Rattle.node_table.specs.declared.room.RoomPlan.TheVariants.{Place, Ask, Refuse}

@@ -1,5 +1,5 @@
 -- The row of one job at a node, and the store of that job, without contents, that it is.
-use Rattle.std.specs.Prelude.{◌≡◌, ℕ, false, List, [], map, Contains, Option, Some, option_map}
+use Rattle.std.specs.Prelude.{◌≡◌, ℕ, false, List, [], map, Contains, Option, Some}
 use Rattle.std.specs.Option.{option_and_then}
 use Rattle.obj_id.specs.declared.ids.ObjectId.{ObjectId}
 use Rattle.obj_id.specs.declared.works.Extent.{Extent}

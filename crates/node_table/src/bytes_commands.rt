@@ -12,9 +12,9 @@ ghost use Rattle.node_table.specs.Outcomes.{given_of};
 ghost use Rattle.spill_work.specs.Line.{WorkLine};
 ghost use Rattle.node_table.specs.Shown.{IsShown, TakesStep, only};
 
+use crate::outcome::{Erase, Outcome};
 use crate::row::JobRow;
 use bytes::Bytes;
-use crate::outcome::{Erase, Outcome};
 use obj_id::{Digest, DirectoryMessage, Location, Message, ObjectId, Place, Reply};
 use sha2::{Digest as _, Sha256};
 use std::alloc::{AllocError, Global};

@@ -19,7 +19,9 @@ use crate::get_command::told;
 use crate::outcome::{Erase, Outcome};
 use crate::room::RoomPlan;
 use crate::row::JobRow;
-use obj_id::{DirectoryMessage, Items, JobNo, Kind, Message, ObjectId, Place, Refusal, Reply, WorkKind};
+use obj_id::{
+    DirectoryMessage, Items, JobNo, Kind, Message, ObjectId, Place, Refusal, Reply, WorkKind,
+};
 use spill_work::Works;
 use std::alloc::{AllocError, Global};
 

@@ -24,12 +24,7 @@ use std::alloc::{AllocError, Global};
 impl JobRow {
     /// Get of a sealed copy: one more hold of the session, and the copy is the most recently used one.
     /// `TooMany` at 64 holds.
-    fn get_sealed(
-        &mut self,
-        alloc: Global,
-        session: u32,
-        id: &ObjectId,
-    ) -> Result<Outcome, Refusal>
+    fn get_sealed(&mut self, alloc: Global, session: u32, id: &ObjectId) -> Result<Outcome, Refusal>
         ensures ok { IfOk result (λ o. (node : ℕ) (line : WorkLine) (contents : Contents) → (id.now.job.0 == self.old.job) ≡ true → IsShown self.old line contents
             → (k : Kept) → at self.old.copies id.now ≡ Some k → is_sealed k.copy.state ≡ true
             → TakesStep node self.old line contents (input.Call session (command.Get id.now)) (given_of o) self.new line) }
@@ -50,12 +45,7 @@ impl JobRow {
 impl JobRow {
     /// Get of an object that isn't here: its fetch begins, under the job's next number, and its source is
     /// asked for. `TooMany` at 1,024 copies, and where no number is left; else the answer is `Pending`.
-    fn begin_fetch(
-        &mut self,
-        alloc: Global,
-        node: u32,
-        id: &ObjectId,
-    ) -> Result<Outcome, Refusal>
+    fn begin_fetch(&mut self, alloc: Global, node: u32, id: &ObjectId) -> Result<Outcome, Refusal>
         requires { at self.old.copies id.now ≡ None }
         ensures ok { IfOk result (λ o. (session : ℕ) (line : WorkLine) (contents : Contents) → (id.now.job.0 == self.old.job) ≡ true → IsShown self.old line contents
             → TakesStep node self.old line contents (input.Call session (command.Get id.now)) (given_of o) self.new line) }
@@ -79,12 +69,7 @@ impl JobRow {
 impl JobRow {
     /// Get of an object that is on its way and whose source isn't known yet: it is asked for again, and
     /// the answer is `Pending`. Changes nothing; the error is want of memory.
-    fn locate_again(
-        &self,
-        alloc: Global,
-        node: u32,
-        id: &ObjectId,
-    ) -> Result<Outcome, Refusal>
+    fn locate_again(&self, alloc: Global, node: u32, id: &ObjectId) -> Result<Outcome, Refusal>
         ensures ok { IfOk result (λ o. (session : ℕ) (line : WorkLine) (contents : Contents) → (id.now.job.0 == self.now.job) ≡ true → IsShown self.now line contents
             → (k : Kept) → at self.now.copies id.now ≡ Some k → is_fetching k.copy.state ≡ true
             → TakesStep node self.now line contents (input.Call session (command.Get id.now)) (given_of o) self.now line) }

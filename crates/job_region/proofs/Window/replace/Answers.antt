@@ -1,9 +1,8 @@
-use Rattle.std.proofs.Common.{nat_eq, replicate, List, Option, ◌≡◌, ℕ, sym, ap, ◌∙◌, arith, length}
+use Rattle.std.proofs.Common.{nat_eq, sym, ap, ◌∙◌, arith, length}
 use Rattle.std.specs.Map.{lookup}
-use Rattle.obj_id.specs.declared.works.Extent.{Extent}
 use Rattle.private_store.specs.Extents as extents
-use Rattle.job_region.specs.Region.{Region, extents_of, put_in, without}
-use Rattle.job_region.specs.Layout.{LaidFrom, kept, placed_in}
+use Rattle.job_region.specs.Region.{Region, extents_of, without}
+use Rattle.job_region.specs.Layout.{kept}
 use Rattle.job_region.proofs.Kept.{kept_laid, placed_kept}
 use Rattle.job_region.proofs.Places.{new_ends, new_laid, new_whole, new_placed, new_fresh, found_in}
 use Rattle.job_region.proofs.Window.replace.Goals as goal
@@ -14,7 +13,7 @@ clear_bytes-requires c =
     let left = kept c.args.gone.now c.self.inside.extents.items in
     let laid = kept_laid c.args.gone.now c.self.inside.quota 0 c.self.inside.extents.items c.self.invariant.laid in
     let found = found_in m c.self.inside.quota c.args.len c.round_up-need.result c.in-Some.offset left c.round_up-need.ensures
-        (ap (λ ps. extents.first (extents_of ps) c.self.inside.quota c.args.len) (placed_kept m c.args.gone.now c.self.inside.extents.items) ∙ sym c.gap_without.ensures ∙ c.in-Some.is) in
+    (ap (λ ps. extents.first (extents_of ps) c.self.inside.quota c.args.len) (placed_kept m c.args.gone.now c.self.inside.extents.items) ∙ sym c.gap_without.ensures ∙ c.in-Some.is) in
     let ends = new_ends m c.self.inside.quota c.round_up-need.result c.in-Some.offset left c.self.invariant.whole laid (omega arith) (omega arith) found in
     omega (arith, ends, c.self.invariant.whole)
 
@@ -24,7 +23,7 @@ invariant_of-self c =
     let left = kept c.args.gone.now c.self.inside.extents.items in
     let laid = kept_laid c.args.gone.now c.self.inside.quota 0 c.self.inside.extents.items c.self.invariant.laid in
     let found = found_in m c.self.inside.quota c.args.len c.round_up-need.result c.in-Some.offset left c.round_up-need.ensures
-        (ap (λ ps. extents.first (extents_of ps) c.self.inside.quota c.args.len) (placed_kept m c.args.gone.now c.self.inside.extents.items) ∙ sym c.gap_without.ensures ∙ c.in-Some.is) in
+    (ap (λ ps. extents.first (extents_of ps) c.self.inside.quota c.args.len) (placed_kept m c.args.gone.now c.self.inside.extents.items) ∙ sym c.gap_without.ensures ∙ c.in-Some.is) in
     record {
       whole = ap length c.clear_bytes.ensures ∙ new_whole m c.self.inside.quota c.round_up-need.result c.in-Some.offset left c.self.invariant.whole laid (omega arith) (omega arith) found;
       laid = rw (c.in_ok-put.ensures.ok, c.in_ok-left.ensures) (new_laid m c.self.inside.quota c.round_up-need.result c.in-Some.offset left c.self.invariant.whole laid (omega arith) (omega arith) found);
@@ -37,7 +36,7 @@ returns-clause-placed c =
     let left = kept c.args.gone.now c.self.inside.extents.items in
     let laid = kept_laid c.args.gone.now c.self.inside.quota 0 c.self.inside.extents.items c.self.invariant.laid in
     let found = found_in m c.self.inside.quota c.args.len c.round_up-need.result c.in-Some.offset left c.round_up-need.ensures
-        (ap (λ ps. extents.first (extents_of ps) c.self.inside.quota c.args.len) (placed_kept m c.args.gone.now c.self.inside.extents.items) ∙ sym c.gap_without.ensures ∙ c.in-Some.is) in
+    (ap (λ ps. extents.first (extents_of ps) c.self.inside.quota c.args.len) (placed_kept m c.args.gone.now c.self.inside.extents.items) ∙ sym c.gap_without.ensures ∙ c.in-Some.is) in
     let new = new_placed m c.self.inside.quota c.round_up-need.result c.in-Some.offset left c.self.invariant.whole laid (omega arith) (omega arith) found in
     rw (c.in_ok-put.ensures.ok, c.in_ok-left.ensures, c.clear_bytes.ensures, new, placed_kept m c.args.gone.now c.self.inside.extents.items, ← c.self.view_is)
 
@@ -47,7 +46,7 @@ returns-clause-fresh c =
     let left = kept c.args.gone.now c.self.inside.extents.items in
     let laid = kept_laid c.args.gone.now c.self.inside.quota 0 c.self.inside.extents.items c.self.invariant.laid in
     let found = found_in m c.self.inside.quota c.args.len c.round_up-need.result c.in-Some.offset left c.round_up-need.ensures
-        (ap (λ ps. extents.first (extents_of ps) c.self.inside.quota c.args.len) (placed_kept m c.args.gone.now c.self.inside.extents.items) ∙ sym c.gap_without.ensures ∙ c.in-Some.is) in
+    (ap (λ ps. extents.first (extents_of ps) c.self.inside.quota c.args.len) (placed_kept m c.args.gone.now c.self.inside.extents.items) ∙ sym c.gap_without.ensures ∙ c.in-Some.is) in
     ap (λ (r : Region). lookup (nat_eq c.in-Some.offset) (without c.args.gone.now r.placed)) (sym c.self.view_is)
     ∙ ap (lookup (nat_eq c.in-Some.offset)) (sym (placed_kept m c.args.gone.now c.self.inside.extents.items))
     ∙ new_fresh m c.self.inside.quota c.round_up-need.result c.in-Some.offset left c.self.invariant.whole laid (omega arith) (omega arith) found
@@ -58,7 +57,7 @@ returns-clause-small c =
     let left = kept c.args.gone.now c.self.inside.extents.items in
     let laid = kept_laid c.args.gone.now c.self.inside.quota 0 c.self.inside.extents.items c.self.invariant.laid in
     let found = found_in m c.self.inside.quota c.args.len c.round_up-need.result c.in-Some.offset left c.round_up-need.ensures
-        (ap (λ ps. extents.first (extents_of ps) c.self.inside.quota c.args.len) (placed_kept m c.args.gone.now c.self.inside.extents.items) ∙ sym c.gap_without.ensures ∙ c.in-Some.is) in
+    (ap (λ ps. extents.first (extents_of ps) c.self.inside.quota c.args.len) (placed_kept m c.args.gone.now c.self.inside.extents.items) ∙ sym c.gap_without.ensures ∙ c.in-Some.is) in
     let ends = new_ends m c.self.inside.quota c.round_up-need.result c.in-Some.offset left c.self.invariant.whole laid (omega arith) (omega arith) found in
     let small = c.self.invariant.small in
     omega (arith, ends, small)

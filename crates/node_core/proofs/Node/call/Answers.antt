@@ -38,4 +38,4 @@ returns-clause-err c =
     let wrote = c.get_mut.follows.holds c.carry_out.new.row in
     both_err c.carry_out.result c.carry_out.ensures.err c.carry_out.ensures.works (λ same works.
     (λ i. with_all c.self.inside.number c.self.inside.admission c.self.inside.works c.args.job c.args.session c.args.command.now
-      ((wrote.0 ∙ ap (set_value (same_job c.args.job) rows) same ∙ set_value_same (same_job c.args.job) rows c.in-Some.row.now found) i) (works i)) ∙ c.self.view_is)
+    ((wrote.0 ∙ ap (set_value (same_job c.args.job) rows) same ∙ set_value_same (same_job c.args.job) rows c.in-Some.row.now found) i) (works i)) ∙ c.self.view_is)

@@ -1,4 +1,4 @@
-use Rattle.std.proofs.Common.{◌≡◌, ◌+◌, ◌++◌, length, sym, ap, subst, ◌∙◌, arith}
+use Rattle.std.proofs.Common.{◌≡◌, ◌+◌, ◌++◌, length, sym, ap, subst, ◌∙◌}
 use Rattle.std.specs.Prelude.{unwrap_or}
 use Rattle.spill_work.specs.Line.{WorkLine, AsksAll, used_by, numbered}
 use Rattle.spill_work.proofs.LineLemmas.{asks_all}

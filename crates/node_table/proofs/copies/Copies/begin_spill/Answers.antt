@@ -1,7 +1,7 @@
 use Rattle.std.proofs.Common.{sym, ap, ◌∙◌}
 use Rattle.std.specs.Option.{option_copied_mut}
 use Rattle.node_table.specs.Kept.{spilling_if}
-use Rattle.node_table.proofs.Changes.{not_written, written, tested}
+use Rattle.node_table.proofs.Changes.{not_written, written}
 use Rattle.node_table.proofs.copies.Copies.begin_spill.Goals as goal
 
 pub returns-in_default : goal.returns-in_default

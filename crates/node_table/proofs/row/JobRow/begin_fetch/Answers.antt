@@ -1,4 +1,4 @@
-use Rattle.std.proofs.Common.{◌≡◌, ℕ, ◌+◌, [], Some, None, sym, ap, subst, ◌∙◌}
+use Rattle.std.proofs.Common.{ℕ, ◌+◌, [], sym, ap, subst, ◌∙◌}
 use Rattle.obj_id.specs.declared.refusals.Refusal.TheVariants.{Pending}
 use Rattle.obj_id.specs.declared.commands.Command.TheVariants as command
 use Rattle.obj_id.specs.declared.commands.Reply.TheVariants as reply
@@ -11,7 +11,7 @@ use Rattle.private_store.specs.Private.{to_directory}
 use Rattle.lru_evictor.specs.Orders.{last_used}
 use Rattle.node_table.specs.Kept.{fetched_kept}
 use Rattle.node_table.specs.Row.{Row}
-use Rattle.node_table.specs.Shown.{only, TakesStep}
+use Rattle.node_table.specs.Shown.{TakesStep}
 use Rattle.node_table.proofs.Fetching.{fetch_refused, fetch_done}
 use Rattle.node_table.proofs.row.JobRow.begin_fetch.Goals as goal
 

@@ -1,4 +1,4 @@
-use Rattle.std.proofs.Common.{◌≡◌, None, ℕ, ◌∷◌, [], List, Option, sym, ap, subst, ◌∙◌}
+use Rattle.std.proofs.Common.{◌≡◌, None, [], List, Option, sym, subst, ◌∙◌}
 use Rattle.std.specs.Prelude.{IfSome, IfNone}
 use Rattle.obj_id.specs.declared.commands.Command.TheVariants as command
 use Rattle.obj_id.specs.declared.commands.Reply.TheVariants as reply
@@ -8,7 +8,6 @@ use Rattle.node_table.specs.Creating.{IsReplaced, placed_without, replaced}
 use Rattle.private_store.specs.Extents.{first, rounded}
 use Rattle.job_region.specs.Region.{extents_of}
 use Rattle.obj_id.specs.declared.works.Extent.{Extent}
-use Rattle.node_table.specs.Row.{Row}
 use Rattle.node_table.specs.Shown.{TakesStep}
 use Rattle.node_table.proofs.Creating.{no_trace, has_place, placed_done}
 use Rattle.node_table.proofs.Getting.{each_ok}
@@ -33,7 +32,7 @@ pub returns-clause-ok : goal.returns-clause-ok
 returns-clause-ok c session line contents mine h makes =
     let e = c.in-Some.extent in
     let r : IsReplaced c.args.self.now c.args.id.now c.args.kind c.args.len c.args.victims.now e c.replace_copies.new.self =
-        subst (λ (o : Option Extent). IfSome o (λ e. IsReplaced c.args.self.now c.args.id.now c.args.kind c.args.len c.args.victims.now e c.replace_copies.new.self)) c.in-Some.is c.in_ok-extent.ensures.some in
+    subst (λ (o : Option Extent). IfSome o (λ e. IsReplaced c.args.self.now c.args.id.now c.args.kind c.args.len c.args.victims.now e c.replace_copies.new.self)) c.in-Some.is c.in_ok-extent.ensures.some in
     let stays = or_false_left _ (is_among c.args.self.now.order c.args.id.now) (sym c.is_listed.ensures ∙ c.if-is_listed.false) in
     subst (λ row. TakesStep c.args.node c.args.self.now line contents (input.Call session (command.Create c.args.id.now c.args.kind c.args.len)) (record { reply = reply.Placed e.offset e.length; posts = c.in_ok-messages.messages; erased = [] }) row line) (sym r.row)
     (subst (λ n. TakesStep c.args.node c.args.self.now line contents (input.Call session (command.Create c.args.id.now c.args.kind c.args.len)) (record { reply = reply.Placed e.offset n; posts = c.in_ok-messages.messages; erased = [] }) (replaced c.args.self.now c.args.id.now c.args.kind c.args.len e.offset c.args.victims.now) line) (sym r.length)

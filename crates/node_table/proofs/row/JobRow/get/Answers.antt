@@ -1,5 +1,4 @@
-use Rattle.std.proofs.Common.{◌≡◌, Some, None, option_map, refl, sym, ap, subst, ◌∙◌}
-use Rattle.std.specs.Prelude.{IfOk, Ok, Err}
+use Rattle.std.proofs.Common.{option_map, sym, ap, subst, ◌∙◌}
 use Rattle.obj_id.specs.declared.commands.Command.TheVariants as command
 use Rattle.private_store.specs.declared.inputs.Input.TheVariants as input
 use Rattle.private_store.specs.Tables.{at}
@@ -43,4 +42,3 @@ returns-in-Some-Away-clause-ok c =
     each_ok c.told-in-Some-Away.result (λ o said line contents mine h.
     subst (λ t. TakesStep c.args.node c.args.self.now line contents (input.Call c.args.session (command.Get c.args.id.now)) t c.args.self.now line) (sym said)
     (pending_told c.args.node c.args.self.now line contents c.args.session c.args.id.now mine h k.0 k.1 (ap is_created (k.2 ∙ c.in-Some-Away.field-0-is)) (ap is_sealed (k.2 ∙ c.in-Some-Away.field-0-is)) (ap is_fetching (k.2 ∙ c.in-Some-Away.field-0-is)))) c.told-in-Some-Away.ensures.ok
-

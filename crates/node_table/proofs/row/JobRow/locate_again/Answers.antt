@@ -1,4 +1,4 @@
-use Rattle.std.proofs.Common.{◌≡◌, sym, ap, subst, ◌∙◌}
+use Rattle.std.proofs.Common.{ap, ◌∙◌}
 use Rattle.private_store.specs.Tables.{at}
 use Rattle.node_table.proofs.Fetching.{again}
 use Rattle.node_table.proofs.row.JobRow.locate_again.Goals as goal

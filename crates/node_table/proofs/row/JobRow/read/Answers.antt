@@ -1,4 +1,4 @@
-use Rattle.std.proofs.Common.{Option, Some, None, take, drop, sym, ap, subst, ◌∙◌, ◌≡◌}
+use Rattle.std.proofs.Common.{take, drop, sym, ap, ◌∙◌}
 use Rattle.node_table.specs.Checks.{read_check}
 use Rattle.node_table.proofs.Writing.{read_refused, read_done, read_found}
 use Rattle.node_table.proofs.row.JobRow.read.Goals as goal

@@ -18,7 +18,7 @@ pub returns-in_default-clause-none : goal.returns-in_default-clause-none
 returns-in_default-clause-none c =
     ap (λ (r : Row). first (extents_of (placed_without r c.args.victims.now)) r.window.quota c.args.len) (sym c.self.view_is)
     ∙ ap (λ ps. first (extents_of ps) c.self.inside.window.quota c.args.len)
-      (sym (left_sorted c.self.inside.copies c.args.victims.now c.self.inside.window.placed c.in_ok-gone.gone.items c.deref.result.now c.in_ok-gone.ensures.permutation c.deref.ensures.value))
+    (sym (left_sorted c.self.inside.copies c.args.victims.now c.self.inside.window.placed c.in_ok-gone.gone.items c.deref.result.now c.in_ok-gone.ensures.permutation c.deref.ensures.value))
     ∙ sym c.fits_without.ensures ∙ c.in_default.is
 
 pub invariant_of-self-then-is_err : goal.invariant_of-self-then-is_err
@@ -62,10 +62,10 @@ invariant_of-self-in-Ok c =
     let left = left_sorted c.self.inside.copies c.args.victims.now c.self.inside.window.placed c.in_ok-gone.gone.items c.deref.result.now c.in_ok-gone.ensures.permutation c.deref.ensures.value in
     let left_then = left_sorted c.self.inside.copies c.args.victims.now c.self.inside.window.placed c.in_ok-gone.gone.items c.deref-2.result.now c.in_ok-gone.ensures.permutation c.deref-2.ensures.value in
     let offset = some_value c.in-Some.offset c.in-Ok.extent.offset
-        (sym c.in-Some.is ∙ c.fits_without.ensures ∙ ap (λ ps. first (extents_of ps) c.self.inside.window.quota c.args.len) (left ∙ sym left_then) ∙ c.in-Ok.ensures.least) in
+    (sym c.in-Some.is ∙ c.fits_without.ensures ∙ ap (λ ps. first (extents_of ps) c.self.inside.window.quota c.args.len) (left ∙ sym left_then) ∙ c.in-Ok.ensures.least) in
     let copies = c.remove_all.ensures ∙ ap (without_all c.args.victims.now) (c.in_ok-insert.ensures.ok ∙ ap (with_entry c.self.inside.copies c.args.id.now) (c.created.ensures ∙ ap (new_kept c.args.kind c.args.len) offset)) in
     let placed = ap (λ (w : Region). w.placed) c.in-Ok.ensures.placed
-        ∙ (λ i. put_in (c.in-Ok.extent.offset, replicate (c.in-Ok.ensures.length i) 0) (left_then i)) in
+    ∙ (λ i. put_in (c.in-Ok.extent.offset, replicate (c.in-Ok.ensures.length i) 0) (left_then i)) in
     let fresh = ap (lookup (nat_eq c.in-Ok.extent.offset)) (sym left_then) ∙ c.in-Ok.ensures.fresh in
     subst (λ t. ArePlaced c.replace.new.self.placed (place_of t)) (sym copies)
     (subst (λ ps. ArePlaced ps (place_of (without_all c.args.victims.now (with_entry c.self.inside.copies c.args.id.now (new_kept c.args.kind c.args.len c.in-Ok.extent.offset))))) (sym placed)
@@ -76,10 +76,10 @@ returns-clause-some c =
     let left = left_sorted c.self.inside.copies c.args.victims.now c.self.inside.window.placed c.in_ok-gone.gone.items c.deref.result.now c.in_ok-gone.ensures.permutation c.deref.ensures.value in
     let left_then = left_sorted c.self.inside.copies c.args.victims.now c.self.inside.window.placed c.in_ok-gone.gone.items c.deref-2.result.now c.in_ok-gone.ensures.permutation c.deref-2.ensures.value in
     let offset = some_value c.in-Some.offset c.in-Ok.extent.offset
-        (sym c.in-Some.is ∙ c.fits_without.ensures ∙ ap (λ ps. first (extents_of ps) c.self.inside.window.quota c.args.len) (left ∙ sym left_then) ∙ c.in-Ok.ensures.least) in
+    (sym c.in-Some.is ∙ c.fits_without.ensures ∙ ap (λ ps. first (extents_of ps) c.self.inside.window.quota c.args.len) (left ∙ sym left_then) ∙ c.in-Ok.ensures.least) in
     let copies = c.remove_all.ensures ∙ ap (without_all c.args.victims.now) (c.in_ok-insert.ensures.ok ∙ ap (with_entry c.self.inside.copies c.args.id.now) (c.created.ensures ∙ ap (new_kept c.args.kind c.args.len) offset)) in
     let window = c.in-Ok.ensures.placed
-        ∙ (λ i. region (put_in (c.in-Ok.extent.offset, replicate (c.in-Ok.ensures.length i) 0) (left_then i))) in
+    ∙ (λ i. region (put_in (c.in-Ok.extent.offset, replicate (c.in-Ok.ensures.length i) 0) (left_then i))) in
     let entered = of_ok c.enter.result c.enter.ensures.ok (sym c.is_err.ensures.value ∙ c.if-is_err.false) in
     let order = c.forget_all.ensures.own ∙ ap (without_ids c.args.victims.now) entered.own in
     record {

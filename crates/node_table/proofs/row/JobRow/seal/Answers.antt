@@ -1,9 +1,8 @@
-use Rattle.std.proofs.Common.{[], Option, Some, None, refl, sym, ap, subst, ◌∙◌, ◌≡◌}
+use Rattle.std.proofs.Common.{[], refl, sym, ap, subst, ◌∙◌}
 use Rattle.obj_id.specs.declared.commands.Command.TheVariants as command
 use Rattle.obj_id.specs.declared.commands.Reply.TheVariants as reply
 use Rattle.private_store.specs.declared.inputs.Input.TheVariants as input
 use Rattle.node_table.specs.Checks.{seal_check}
-use Rattle.node_table.specs.Outcomes.{given_of}
 use Rattle.node_table.specs.Shown.{TakesStep}
 use Rattle.node_table.proofs.Sealing.{seal_refused, seal_done_so, seal_digest}
 use Rattle.node_table.proofs.row.JobRow.seal.Goals as goal

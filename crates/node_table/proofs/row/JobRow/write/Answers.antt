@@ -1,6 +1,4 @@
-use Rattle.std.proofs.Common.{Option, Some, None, length, sym, ap, subst, ◌∙◌, ◌≡◌}
-use Rattle.private_store.specs.Tables.{ById}
-use Rattle.node_table.specs.Kept.{Kept}
+use Rattle.std.proofs.Common.{length, sym, ap, subst, ◌∙◌}
 use Rattle.obj_id.specs.declared.commands.Command.TheVariants as command
 use Rattle.obj_id.specs.declared.commands.Reply.TheVariants as reply
 use Rattle.private_store.specs.declared.inputs.Input.TheVariants as input
