@@ -1,3 +1,4 @@
 pub mod Hosted
 pub mod Steps
 pub mod Calls
+pub mod Foreseen
