@@ -1,10 +1,10 @@
 -- How many copies a plan can take: each is another one.
-use Rattle.std.proofs.Common.{◌≡◌, ℕ, suc, ◌+◌, ◌≤◌, Bool, true, false, not, ◌&&◌, cond, List, [], ◌∷◌, length, map, filter, Option, Some, None, is_some, refl, sym, ap, subst, ◌∙◌, arith}
+use Rattle.std.proofs.Common.{◌≡◌, ℕ, suc, ◌+◌, ◌≤◌, Bool, true, false, not, cond, List, [], ◌∷◌, length, Option, Some, None, is_some, refl, sym, ap, ◌∙◌, arith}
 use Rattle.std.specs.List.{list_all, count_by}
 use Rattle.std.specs.Option.{option_map_or}
 use Rattle.obj_id.specs.declared.ids.ObjectId.{ObjectId}
 use Rattle.obj_id.specs.Ids.{same_id}
-use Rattle.obj_id.proofs.SameIds.{same_id-itself, same_id-equal}
+use Rattle.obj_id.proofs.SameIds.{same_id-itself}
 use Rattle.private_store.specs.Tables.{ById, at, without_entry}
 use Rattle.private_store.specs.Kept.{IsOrderOfUse}
 use Rattle.private_store.specs.Shape.{Copy, Shape}

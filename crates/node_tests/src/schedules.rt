@@ -288,6 +288,13 @@ fn a_job_has_at_most_1024_copies(rt: HostRuntime) -> Result<(), Fail> {
     writeln!(printed, "n0 j1 s1 refused 17 TooMany")?;
     writeln!(schedule, "cmd 0 2 1 create t1.1 1")?;
     writeln!(printed, "n0 j2 s1 placed 0 16")?;
-    check(&rt, alloc, ONE_NODE, schedule.as_str(), printed.as_str(), None);
+    check(
+        &rt,
+        alloc,
+        ONE_NODE,
+        schedule.as_str(),
+        printed.as_str(),
+        None,
+    );
     Ok(())
 }

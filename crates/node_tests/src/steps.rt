@@ -42,12 +42,7 @@ fn printed(alloc: Global, step: &Step, answer: &StepAnswer) -> Result<String, Al
 }
 
 /// What the world answers to the line's step, which it is given once more where memory was wanting.
-fn told(
-    rt: &impl Abort,
-    alloc: Global,
-    world: &mut World,
-    line: &str,
-) -> Result<String, AllocError>
+fn told(rt: &impl Abort, alloc: Global, world: &mut World, line: &str) -> Result<String, AllocError>
     requires { length world.old.nodes ≡ 1 }
     ensures { length world.new.nodes ≡ 1 }
 {
@@ -207,7 +202,8 @@ fn a_job_is_told_the_same_without_its_neighbour(rt: HostRuntime) -> Result<(), F
             None => panic!(rt; "memory was wanting twice"),
         },
     };
-    let due = "n0 j1 s1 placed 0 32\nn0 j1 s1 ok\nn0 j1 s1 placed 0 32\nn0 j1 s1 list t1.2:created:primary:32\n";
+    let due =
+        "n0 j1 s1 placed 0 32\nn0 j1 s1 ok\nn0 j1 s1 placed 0 32\nn0 j1 s1 list t1.2:created:primary:32\n";
     assert_eq!(rt; told.0.as_str(), due);
     assert_eq!(rt; told.1.as_str(), due);
     Ok(())
