@@ -1,5 +1,5 @@
 //! The commands of a session, carried out on the row of its job.
-ghost use Rattle.std.specs.Prelude.{◌≡◌, true, false, IfOk, OnErr, IsErrOf};
+ghost use Rattle.std.specs.Prelude.{◌≡◌, ◌≤◌, length, Some, true, false, IfOk, OnErr, IsErrOf};
 ghost use Rattle.obj_id.specs.declared.ids.JobNo.{JobNo};
 ghost use Rattle.obj_id.specs.declared.refusals.Refusal.{Refusal};
 ghost use Rattle.obj_id.specs.declared.refusals.Refusal.TheVariants.{NoMemory};
@@ -7,6 +7,7 @@ ghost use Rattle.spill_work.specs.Line.{same_job, IsSameFor};
 ghost use Rattle.node_table.specs.Outcomes.{given_of};
 ghost use Rattle.node_core.specs.Calls.{is_own as is_own_lem, Obeys};
 ghost use Rattle.node_core.specs.Steps.{is_built_command};
+ghost use Rattle.node_core.specs.Foreseen.{most_by_command};
 
 use bytes::Bytes;
 use node_table::{JobRow, Outcome};
@@ -27,6 +28,7 @@ pub(crate) fn carry_out(
 ) -> Result<Outcome, Refusal>
     requires { is_built_command command.now ≡ true }
     ensures ok { IfOk result (λ o. Obeys node job.0 row.old works.old session command.now (given_of o) row.new works.new) }
+    ensures few { IfOk result (λ o. length o.messages ≤ most_by_command (Some row.old) command.now) }
     ensures others { (other : JobNo) → same_job job other ≡ false → IsSameFor other works.old works.new }
     ensures memory { (r : Refusal) → IsErrOf result r → r ≡ NoMemory }
     ensures err { OnErr result (row.new ≡ row.old) }

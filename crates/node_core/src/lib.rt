@@ -1,7 +1,7 @@
 //! One node: the stores of many jobs, each as if it were alone.
 #![tactic(auto)]
 
-ghost use Rattle.std.specs.Prelude.{◌≡◌, ◌↔◌, ℕ, ◌+◌, ◌≤◌, true, false, [], Some, None, IfOk, IfErr, OnOk, OnErr, IsErrOf, IsOk, is_ok, is_some};
+ghost use Rattle.std.specs.Prelude.{◌≡◌, ◌↔◌, ℕ, ◌+◌, ◌≤◌, true, false, [], length, Some, None, IfOk, IfErr, OnOk, OnErr, IsErrOf, IsOk, is_ok, is_some};
 ghost use Rattle.obj_id.specs.declared.ids.JobNo.{JobNo};
 ghost use Rattle.obj_id.specs.declared.refusals.Refusal.{Refusal};
 ghost use Rattle.obj_id.specs.declared.refusals.Refusal.TheVariants.{NoMemory, NotAdmitted};
@@ -12,13 +12,16 @@ ghost use Rattle.private_store.specs.Commands.{usage_of};
 ghost use Rattle.private_store.specs.Private.{view_of, no_store};
 ghost use Rattle.job_admission.specs.Admissions.{largest_memory, live_at, sessions_entered, enter_check, entered};
 ghost use Rattle.node_table.specs.Outcomes.{given_of};
-ghost use Rattle.node_core.specs.Hosted.{Shows};
+ghost use Rattle.node_core.specs.Hosted.{Shows, row_at};
 ghost use Rattle.node_core.specs.Borrowed.{borrowed_check, IsBorrowed};
 ghost use Rattle.node_core.specs.Steps.{is_built, is_built_command, Steps};
+ghost use Rattle.node_core.specs.Foreseen.{most_by_command, IsAsForeseen};
 
 mod calls;
+mod foreseen;
 
 use bytes::Bytes;
+pub use foreseen::Foreseen;
 use indexmap::IndexMap;
 use job_admission::Admission;
 use node_table::JobRow;
@@ -67,10 +70,12 @@ impl Node {
         }
     }
 
-    /// Steps the node by one event. `NoMemory` alone, and then nothing has changed.
+    /// Steps the node by one event. `NoMemory` alone, and then nothing has changed. What it gives is as
+    /// `foresee` says.
     pub fn apply(&mut self, event: &Event) -> Result<Outcome, Refusal>
         requires { is_built event.now ≡ true }
         ensures ok { IfOk result (λ o. Steps self.old event.now (given_of o) self.new) }
+        ensures foreseen { IfOk result (λ o. IsAsForeseen self.old event.now (given_of o)) }
         ensures memory { (r : Refusal) → IsErrOf result r → r ≡ NoMemory }
         ensures err { OnErr result (self.new ≡ self.old) }
     {
@@ -138,6 +143,7 @@ impl Node {
     ) -> Result<Outcome, Refusal>
         requires { is_built_command command.now ≡ true }
         ensures ok { IfOk result (λ o. Steps self.old (event.Call job session command.now) (given_of o) self.new) }
+        ensures few { IfOk result (λ o. length o.messages ≤ most_by_command (row_at self.old job) command.now) }
         ensures memory { (r : Refusal) → IsErrOf result r → r ≡ NoMemory }
         ensures err { OnErr result (self.new ≡ self.old) }
     {
@@ -159,6 +165,7 @@ impl Node {
     /// The operator admits a job. All growth comes before the first change.
     fn admit(&mut self, job: JobNo, quota: Quota, key: JobKey) -> Result<Outcome, Refusal>
         ensures ok { IfOk result (λ o. Steps self.old (event.Admit job quota key) (given_of o) self.new) }
+        ensures silent { IfOk result (λ o. o.messages ≡ []) }
         ensures memory { (r : Refusal) → IsErrOf result r → r ≡ NoMemory }
         ensures err { OnErr result (self.new ≡ self.old) }
     {
@@ -181,6 +188,7 @@ impl Node {
     /// The operator ends a job: nothing is left of it here, and the directory is told.
     fn end_job(&mut self, job: JobNo) -> Result<Outcome, Refusal>
         ensures ok { IfOk result (λ o. Steps self.old (event.JobEnd job) (given_of o) self.new) }
+        ensures few { IfOk result (λ o. length o.messages ≤ 1) }
         ensures memory { (r : Refusal) → IsErrOf result r → r ≡ NoMemory }
         ensures err { OnErr result (self.new ≡ self.old) }
     {

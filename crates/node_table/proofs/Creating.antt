@@ -57,6 +57,7 @@ use Rattle.node_table.proofs.CopyTables.{at-first, at-rest, sorted-copies, at-co
 use Rattle.node_table.proofs.Described.{described, facts_at}
 use Rattle.node_table.proofs.Fetching.{length-map, nothing_found}
 use Rattle.node_table.proofs.Orders.{listed_last, last_listed}
+use Rattle.node_table.proofs.Counting.{length-once, passing_there}
 use Rattle.node_table.proofs.Removing.{without-more, without-last}
 use Rattle.node_table.proofs.Replacing.{at-without, Stands, stands, found_still}
 use Rattle.node_table.proofs.Stepping.{Moves, moved, stays, same_bytes}
@@ -257,6 +258,10 @@ module _ (node : ℕ) (row : Row) (line : WorkLine) (contents : Contents) (sessi
 
       pub no_trace : is_among victims id || is_among row.order id ≡ true → ⊥
       no_trace t = elim (or_cases (is_among victims id) (is_among row.order id) t) [ inl a ↦ no_victim a | inr a ↦ not_listed a ]
+
+      -- and there are no more victims than copies
+      pub few_victims : length victims ≤ length row.copies
+      few_victims = subst (λ n. length victims ≤ n) (length-map {B = ObjectId × Copy} (λ e. (e.0, e.1.copy)) row.copies) (length-once victims s.copies makes.once (passing_there s (is_evictable s) victims makes.evictable))
 
       module _ (placed : ArePlaced row.window.placed (place_of row.copies)) where
         abbrev device : DeviceRoom

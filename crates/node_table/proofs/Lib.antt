@@ -17,6 +17,7 @@ pub mod Totals
 pub mod Described
 pub mod Planning
 pub mod Removing
+pub mod Counting
 pub mod Replacing
 pub mod Creating
 pub mod Asking

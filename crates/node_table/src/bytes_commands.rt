@@ -1,5 +1,5 @@
 //! The commands that move bytes, Write, Seal and Read; and bytes that are lent.
-ghost use Rattle.std.specs.Prelude.{◌≡◌, ◌==◌, ℕ, true, Some, take, drop, IfOk, IfErr, OnErr};
+ghost use Rattle.std.specs.Prelude.{◌≡◌, ◌≤◌, length, ◌==◌, ℕ, true, Some, take, drop, IfOk, IfErr, OnErr};
 ghost use Rattle.obj_id.specs.declared.works.Extent.{Extent};
 ghost use Rattle.private_store.specs.Tables.{at};
 ghost use Rattle.private_store.specs.Copies.{extent_of};
@@ -48,6 +48,7 @@ impl JobRow {
     ) -> Result<Outcome, AllocError>
         ensures ok { IfOk result (λ o. (line : WorkLine) (contents : Contents) → (id.now.job.0 == self.old.job) ≡ true → IsShown self.old line contents
             → TakesStep node self.old line contents (input.Call session (command.Seal id.now)) (given_of o) self.new line) }
+        ensures few { IfOk result (λ o. length o.messages ≤ 1) }
         ensures err { OnErr result (self.new ≡ self.old) }
     {
         if let Some(refusal) = self.copies().seal_check(id) {

@@ -1,5 +1,5 @@
 //! Create: a copy to be written, in a place that is made for it.
-ghost use Rattle.std.specs.Prelude.{◌≡◌, ◌==◌, ℕ, true, false, None, Some, IfOk, OnOk, OnErr, IsErrOf};
+ghost use Rattle.std.specs.Prelude.{◌≡◌, ◌==◌, ℕ, ◌≤◌, length, [], true, false, None, Some, IfOk, OnOk, OnErr, IsErrOf};
 ghost use Rattle.obj_id.specs.declared.ids.JobNo.{JobNo};
 ghost use Rattle.obj_id.specs.declared.refusals.Refusal.{Refusal};
 ghost use Rattle.obj_id.specs.declared.refusals.Refusal.TheVariants.{NoMemory};
@@ -30,6 +30,7 @@ impl JobRow {
     /// by evicting the job's least recently used copies that may go, and else by asking for the writes of
     /// those that may be spilled, which is told `Pending`. `BadSize`, `Exists`, `TooMany`, `Pending`,
     /// `Full`, `Busy`. The error is want of memory, and then nothing has changed. Other jobs' works stay.
+    /// It sends no more messages than the job has copies.
     pub fn create(
         &mut self,
         alloc: Global,
@@ -41,6 +42,7 @@ impl JobRow {
     ) -> Result<Outcome, Refusal>
         ensures ok { IfOk result (λ o. (session : ℕ) (contents : Contents) → (id.now.job.0 == self.old.job) ≡ true → IsShown self.old works.old contents
             → TakesStep node self.old works.old contents (input.Call session (command.Create id.now kind len)) (given_of o) self.new works.new) }
+        ensures few { IfOk result (λ o. length o.messages ≤ length self.old.copies) }
         ensures others { (other : JobNo) → same_job id.now.job other ≡ false → IsSameFor other works.old works.new }
         ensures memory { (r : Refusal) → IsErrOf result r → r ≡ NoMemory }
         ensures err { OnErr result (self.new ≡ self.old) }
@@ -72,12 +74,17 @@ impl JobRow {
         ensures ok { IfOk result (λ o. (session : ℕ) (line : WorkLine) (contents : Contents) → (id.now.job.0 == self.old.job) ≡ true → IsShown self.old line contents
             → MakesPlace (make_room self.old.order (shape_of self.old line) len) (shape_of self.old line) len victims.now
             → TakesStep node self.old line contents (input.Call session (command.Create id.now kind len)) (given_of o) self.new line) }
+        ensures few { IfOk result (λ o. length o.messages ≤ length self.old.copies) }
         ensures memory { (r : Refusal) → IsErrOf result r → r ≡ NoMemory }
         ensures err { OnErr result (self.new ≡ self.old) }
     {
         // the id has no copy, so that it is neither a victim nor in the order of use
         if self.is_listed(id, victims) {
             return told(alloc, Refusal::Exists);
+        }
+        // each victim is another copy
+        if victims.len() > self.copies().len() {
+            return told(alloc, Refusal::Full);
         }
         let messages = removals(alloc, node, victims)?;
         let Some(extent) = self.replace_copies(alloc, id, kind, len, victims)? else {
@@ -102,6 +109,7 @@ impl JobRow {
             → create_check_lem self.old id n ≡ None
             → AsksWrites (make_room self.old.order (shape_of self.old works.old) n) (shape_of self.old works.old) ids.now
             → TakesStep node self.old works.old contents (input.Call session (command.Create id kind n)) (given_of o) self.new works.new) }
+        ensures silent { IfOk result (λ o. o.messages ≡ []) }
         ensures others { (other : JobNo) → same_job job other ≡ false → IsSameFor other works.old works.new }
         ensures memory { (r : Refusal) → IsErrOf result r → r ≡ NoMemory }
         ensures err { OnErr result (self.new ≡ self.old) }

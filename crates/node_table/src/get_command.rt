@@ -1,5 +1,5 @@
 //! Get: a hold on a copy that is here, and else what brings it here.
-ghost use Rattle.std.specs.Prelude.{◌≡◌, ◌==◌, ℕ, true, false, Some, None, IsOk, IfOk, OnErr, IsErrOf};
+ghost use Rattle.std.specs.Prelude.{◌≡◌, ◌==◌, ℕ, ◌≤◌, length, true, false, Some, None, IsOk, IfOk, OnErr, IsErrOf};
 ghost use Rattle.obj_id.specs.declared.refusals.Refusal.{Refusal};
 ghost use Rattle.obj_id.specs.declared.refusals.Refusal.TheVariants.{NoMemory};
 ghost use Rattle.obj_id.specs.declared.commands.Command.TheVariants as command;
@@ -28,6 +28,7 @@ impl JobRow {
         ensures ok { IfOk result (λ o. (node : ℕ) (line : WorkLine) (contents : Contents) → (id.now.job.0 == self.old.job) ≡ true → IsShown self.old line contents
             → (k : Kept) → at self.old.copies id.now ≡ Some k → is_sealed k.copy.state ≡ true
             → TakesStep node self.old line contents (input.Call session (command.Get id.now)) (given_of o) self.new line) }
+        ensures few { IfOk result (λ o. length o.messages ≤ 1) }
         ensures memory { (r : Refusal) → IsErrOf result r → r ≡ NoMemory }
         ensures err { OnErr result (self.new ≡ self.old) }
     {
@@ -49,6 +50,7 @@ impl JobRow {
         requires { at self.old.copies id.now ≡ None }
         ensures ok { IfOk result (λ o. (session : ℕ) (line : WorkLine) (contents : Contents) → (id.now.job.0 == self.old.job) ≡ true → IsShown self.old line contents
             → TakesStep node self.old line contents (input.Call session (command.Get id.now)) (given_of o) self.new line) }
+        ensures few { IfOk result (λ o. length o.messages ≤ 1) }
         ensures memory { (r : Refusal) → IsErrOf result r → r ≡ NoMemory }
         ensures err { OnErr result (self.new ≡ self.old) }
     {
@@ -73,6 +75,7 @@ impl JobRow {
         ensures ok { IfOk result (λ o. (session : ℕ) (line : WorkLine) (contents : Contents) → (id.now.job.0 == self.now.job) ≡ true → IsShown self.now line contents
             → (k : Kept) → at self.now.copies id.now ≡ Some k → is_fetching k.copy.state ≡ true
             → TakesStep node self.now line contents (input.Call session (command.Get id.now)) (given_of o) self.now line) }
+        ensures few { IfOk result (λ o. length o.messages ≤ 1) }
         ensures memory { (r : Refusal) → IsErrOf result r → r ≡ NoMemory }
     {
         let messages = locate(alloc, node, *id, self.copies().fetch_of(id))?;
@@ -94,6 +97,7 @@ impl JobRow {
     ) -> Result<Outcome, Refusal>
         ensures ok { IfOk result (λ o. (line : WorkLine) (contents : Contents) → (id.now.job.0 == self.old.job) ≡ true → IsShown self.old line contents
             → TakesStep node self.old line contents (input.Call session (command.Get id.now)) (given_of o) self.new line) }
+        ensures few { IfOk result (λ o. length o.messages ≤ 1) }
         ensures memory { (r : Refusal) → IsErrOf result r → r ≡ NoMemory }
         ensures err { OnErr result (self.new ≡ self.old) }
     {

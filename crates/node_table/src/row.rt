@@ -95,6 +95,13 @@ impl JobRow {
         &self.copies
     }
 
+    /// How many copies it has.
+    pub fn copy_count(&self) -> usize
+        ensures { result ≡ length self.now.copies }
+    {
+        self.copies.len()
+    }
+
     /// Its window.
     pub(crate) fn window(&self) -> &Window
         ensures { result.now ≡ self.now.window }

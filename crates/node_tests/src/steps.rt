@@ -17,7 +17,7 @@ const ONE_NODE: Shape = Shape {
 };
 
 /// The step that the line spells.
-fn step_of(rt: &impl Abort, alloc: Global, line: &str) -> Result<Step, AllocError>
+pub(crate) fn step_of(rt: &impl Abort, alloc: Global, line: &str) -> Result<Step, AllocError>
     ensures { IfOk result (λ step. is_built_step_lem 1 step ≡ true) }
 {
     let read = match read_line(alloc, line, 1) {

@@ -29,7 +29,7 @@ pub enum Input {
 pub enum Judged {
     Begin(Quota),
     Requota(Quota),
-    Call(u32, Command<u32>),
+    Call(u32, Command<u64>),
     Answer(u64, WorkVerdict),
     /// Fetch number, and the first entry of another node, if there is one.
     Located(ObjectId, u64, Option<Source>),

@@ -1,4 +1,4 @@
-use Rattle.std.proofs.Common.{◌≡◌, None, [], List, Option, sym, subst, ◌∙◌}
+use Rattle.std.proofs.Common.{◌≡◌, None, [], List, Option, length, sym, ap, subst, ◌∙◌, arith}
 use Rattle.std.specs.Prelude.{IfSome, IfNone}
 use Rattle.obj_id.specs.declared.commands.Command.TheVariants as command
 use Rattle.obj_id.specs.declared.commands.Reply.TheVariants as reply
@@ -9,7 +9,8 @@ use Rattle.private_store.specs.Extents.{first, rounded}
 use Rattle.job_region.specs.Region.{extents_of}
 use Rattle.obj_id.specs.declared.works.Extent.{Extent}
 use Rattle.node_table.specs.Shown.{TakesStep}
-use Rattle.node_table.proofs.Creating.{no_trace, has_place, placed_done}
+use Rattle.node_table.proofs.Counting.{length-removals}
+use Rattle.node_table.proofs.Creating.{no_trace, has_place, few_victims, placed_done}
 use Rattle.node_table.proofs.Getting.{each_ok}
 use Rattle.private_store.proofs.Tests.{or_false_left}
 use Rattle.private_store.specs.Tables.{is_among}
@@ -38,3 +39,17 @@ returns-clause-ok c session line contents mine h makes =
     (subst (λ n. TakesStep c.args.node c.args.self.now line contents (input.Call session (command.Create c.args.id.now c.args.kind c.args.len)) (record { reply = reply.Placed e.offset n; posts = c.in_ok-messages.messages; erased = [] }) (replaced c.args.self.now c.args.id.now c.args.kind c.args.len e.offset c.args.victims.now) line) (sym r.length)
     (subst (λ (ms : List Post). TakesStep c.args.node c.args.self.now line contents (input.Call session (command.Create c.args.id.now c.args.kind c.args.len)) (record { reply = reply.Placed e.offset (rounded c.args.len); posts = ms; erased = [] }) (replaced c.args.self.now c.args.id.now c.args.kind c.args.len e.offset c.args.victims.now) line) (sym c.in_ok-messages.ensures)
     (placed_done c.args.node c.args.self.now line contents session c.args.id.now c.args.kind c.args.len mine h c.requires c.args.victims.now makes c.replace_copies.ensures.placed stays e.offset r.least r.fresh)))
+
+pub returns-then-victims-len-clause-ok : goal.returns-then-victims-len-clause-ok
+returns-then-victims-len-clause-ok c = each_ok c.told-then-victims-len.result (λ o said session line contents mine h makes.
+    let few = few_victims c.args.node c.args.self.now line contents session c.args.id.now c.args.kind c.args.len mine h c.requires c.args.victims.now makes in
+    let counted = c.len.ensures ∙ ap length c.copies.ensures.copies in
+    let more = c.if-victims-len.true in
+    absurd (omega (arith, few, counted, more))) c.told-then-victims-len.ensures.ok
+
+pub returns-clause-few : goal.returns-clause-few
+returns-clause-few c =
+    let counted = c.len.ensures ∙ ap length c.copies.ensures.copies in
+    let few = c.if-victims-len.false in
+    let sent = ap length c.in_ok-messages.ensures ∙ length-removals c.args.node c.args.victims.now in
+    omega (arith, counted, few, sent)

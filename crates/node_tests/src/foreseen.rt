@@ -1,0 +1,152 @@
+//! What a node foresees of an event, and what the event sends then.
+ghost use Rattle.std.specs.Prelude.{◌≡◌, true, IfOk};
+ghost use Rattle.node_core.specs.Steps.{is_built};
+
+use crate::steps::step_of;
+use node_core::{Node, Outcome};
+use obj_id::{Command, Refusal};
+use private_store::{Event, Judged, Step};
+use std::alloc::{AllocError, Global};
+use std::process::Abort;
+use std::test::Fail;
+
+/// An event's line, and what is due of it.
+#[derive(Clone, Copy)]
+struct Expected {
+    line: &'static str,
+    /// No more messages than this are foreseen.
+    most: usize,
+    /// These are sent.
+    sent: usize,
+    /// The word of the judged input.
+    judged: &'static str,
+    /// What it counts: bytes of the window, the copy, or what is written or read.
+    bytes: u64,
+}
+
+/// The event that the line spells.
+fn event_of(rt: &impl Abort, alloc: Global, line: &str) -> Result<Event, AllocError>
+    ensures { IfOk result (λ event. is_built event ≡ true) }
+{
+    match step_of(rt, alloc, line)? {
+        Step::At(_, event) => Ok(event),
+        Step::Deliver(..) => panic!(rt; "not an event"),
+    }
+}
+
+/// What the event gives, which is taken once more where memory was wanting.
+fn taken(node: &mut Node, event: &Event) -> Result<Outcome, Refusal>
+    requires { is_built event.now ≡ true }
+{
+    match node.apply(event) {
+        Ok(outcome) => Ok(outcome),
+        Err(_) => node.apply(event),
+    }
+}
+
+fn word_of(judged: &Option<Judged>) -> &'static str {
+    match judged {
+        None => "nothing",
+        Some(Judged::Begin(_)) => "begin",
+        Some(Judged::End) => "end",
+        Some(Judged::Call(_, command)) => command_word(command),
+        Some(_) => "another",
+    }
+}
+
+fn command_word(command: &Command<u64>) -> &'static str {
+    match command {
+        Command::Create(..) => "create",
+        Command::Write(..) => "write",
+        Command::Seal(_) => "seal",
+        Command::Get(_) => "get",
+        Command::Read(..) => "read",
+        Command::Release(_) => "release",
+        Command::List => "list",
+        Command::Usage => "usage",
+        Command::Leave => "leave",
+        _ => "another",
+    }
+}
+
+fn bytes_of(judged: &Option<Judged>) -> u64 {
+    match judged {
+        Some(Judged::Begin(quota)) => quota.window,
+        Some(Judged::Call(_, Command::Create(_, _, len))) => *len as u64,
+        Some(Judged::Call(_, Command::Write(_, _, count))) => *count,
+        Some(Judged::Call(_, Command::Read(_, _, len))) => *len as u64,
+        _ => 0,
+    }
+}
+
+/// Checks what is foreseen of each event in turn, and what it sends.
+fn check(rt: &impl Abort, alloc: Global, events: &[Expected]) -> Result<(), Fail> {
+    let mut node = Node::new(alloc, 0, 1_073_741_824);
+    for due in events {
+        let event = event_of(rt, alloc, due.line)?;
+        let foreseen = node.foresee(&event);
+        let outcome = taken(&mut node, &event)?;
+        assert_eq!(rt; foreseen.most_messages, due.most);
+        assert_eq!(rt; outcome.messages.as_slice().len(), due.sent);
+        assert_eq!(rt; word_of(&foreseen.judged), due.judged);
+        assert_eq!(rt; bytes_of(&foreseen.judged), due.bytes);
+    }
+    Ok(())
+}
+
+fn due(line: &'static str, most: usize, sent: usize, judged: &'static str, bytes: u64) -> Expected {
+    Expected {
+        line,
+        most,
+        sent,
+        judged,
+        bytes,
+    }
+}
+
+#[test]
+fn each_event_is_as_foreseen(rt: HostRuntime) -> Result<(), Fail> {
+    let events = [
+        due("admit 0 1 64 0", 0, 0, "begin", 64),
+        due("cmd 0 1 1 create t1.1 20", 0, 0, "create", 20),
+        due("cmd 0 1 1 write t1.1 0 48656c6c6f", 0, 0, "write", 5),
+        due("cmd 0 1 1 seal t1.1", 1, 1, "seal", 0),
+        due("cmd 0 1 1 get t1.1", 1, 0, "get", 0),
+        due("cmd 0 1 1 read t1.1 0 3", 0, 0, "read", 3),
+        due("cmd 0 1 1 release t1.1", 0, 0, "release", 0),
+        due("cmd 0 1 1 get t1.2", 1, 1, "get", 0),
+        due("cmd 0 1 1 list", 0, 0, "list", 0),
+        due("cmd 0 1 1 usage", 0, 0, "usage", 0),
+        due("cmd 0 1 1 leave", 0, 0, "leave", 0),
+        due("end 0 1", 1, 1, "end", 0),
+    ];
+    check(&rt, rt.alloc(), &events)
+}
+
+#[test]
+fn what_the_operator_is_refused_is_no_input(rt: HostRuntime) -> Result<(), Fail> {
+    let events = [
+        due("admit 0 2 64 0", 0, 0, "begin", 64),
+        due("admit 0 2 64 0", 0, 0, "nothing", 0),
+        due("admit 0 3 15 0", 0, 0, "nothing", 0),
+        due("end 0 3", 1, 0, "nothing", 0),
+        due("cmd 0 3 1 seal t1.1", 1, 0, "seal", 0),
+        due("cmd 0 3 1 create t1.1 20", 0, 0, "create", 20),
+    ];
+    check(&rt, rt.alloc(), &events)
+}
+
+#[test]
+fn evictions_send_no_more_than_the_copies_that_are_there(rt: HostRuntime) -> Result<(), Fail> {
+    let events = [
+        due("admit 0 1 48 0", 0, 0, "begin", 48),
+        due("cmd 0 1 1 copy t1.1 16", 0, 0, "create", 16),
+        due("cmd 0 1 1 copy t1.2 16", 1, 0, "create", 16),
+        due("cmd 0 1 1 copy t1.3 16", 2, 0, "create", 16),
+        due("cmd 0 1 1 seal t1.1", 1, 1, "seal", 0),
+        due("cmd 0 1 1 seal t1.2", 1, 1, "seal", 0),
+        due("cmd 0 1 1 create t1.4 32", 3, 2, "create", 32),
+        due("cmd 0 1 1 create t1.5 16", 2, 0, "create", 16),
+    ];
+    check(&rt, rt.alloc(), &events)
+}
