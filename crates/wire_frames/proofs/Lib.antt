@@ -1,5 +1,6 @@
 pub mod Counts
 pub mod Kept
+pub mod Finishing
 pub mod KindTables
 pub mod OneReply
 pub mod Pieces

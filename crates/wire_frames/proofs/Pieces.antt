@@ -1,9 +1,11 @@
 -- A stream in pieces.
-use Rattle.std.proofs.Common.{◌≡◌, ℕ, ◌+◌, ◌<◌, List, [], ◌∷◌, ◌++◌, length, drop, flat_map, zero, suc, refl, sym, ap, subst, ◌∙◌, arith, append_assoc, append-nil, length-drop}
+use Rattle.std.proofs.Common.{◌≡◌, ℕ, ◌+◌, ◌<◌, ◌≤◌, inl, inr, List, [], ◌∷◌, ◌++◌, length, drop, flat_map, zero, suc, refl, sym, ap, subst, ◌∙◌, arith, append_assoc, append-nil, length-drop}
+use Rattle.std.proofs.lemmas.Bool.{and_parts, leb-true}
 use Rattle.std.proofs.lemmas.List.{drop-append-le}
+use Rattle.std.specs.Prelude.{nat_le}
 use Rattle.private_store.specs.declared.frames.Item.{Item}
-use Rattle.private_store.specs.Frames.{End, clean, mid_frame, malformed, Stream, stopped, after_item, stream_of}
-use Rattle.wire_frames.specs.Heads.{after_items, cut_end}
+use Rattle.private_store.specs.Frames.{End, clean, mid_frame, malformed, Stream, stopped, after_item, number_at, stream_of}
+use Rattle.wire_frames.specs.Heads.{IsPart, after_items, cut_end}
 use Rattle.wire_frames.specs.Laws.{Feeding, IsLessThanAFrame, feeding, given_by, items_in}
 use Rattle.wire_frames.specs.Reading.{Reading, unfinished, failed, answer_at, answer_of, continued, reading_after}
 use Rattle.wire_frames.proofs.Streams.{HeadOf, cut, fault, whole, head_of}
@@ -100,22 +102,41 @@ feeding-stream pieces = fed_on pieces []
 
 -- ---- what is kept
 
-kept_of_cut : (bytes : List ℕ) → length bytes < 65604 → IsLessThanAFrame (reading_after (stopped bytes (cut_end bytes)))
-kept_of_cut [] short = short
-kept_of_cut (b ∷ bs) short = short
+-- what is kept is a part of a frame
+abbrev pub IsKept : Reading → Type 0
+IsKept (unfinished bytes) = IsPart bytes
+IsKept failed = Unit {0}
+
+kept_of_cut : (bytes : List ℕ) → IsPart bytes → IsKept (reading_after (stopped bytes (cut_end bytes)))
+kept_of_cut [] part = part
+kept_of_cut (b ∷ bs) part = part
 
 kept_at : (n : ℕ) (bytes : List ℕ) → length bytes < suc n → HeadOf bytes
-    → ((others : List ℕ) → length others < n → IsLessThanAFrame (reading_after (stream_of others))) → IsLessThanAFrame (reading_after (stream_of bytes))
-kept_at n bytes less (cut short is) later = subst (λ s. IsLessThanAFrame (reading_after s)) (sym is) (kept_of_cut bytes short)
-kept_at n bytes less (fault is) later = subst (λ s. IsLessThanAFrame (reading_after s)) (sym (alone (λ b. stopped b malformed) bytes is)) tt
+    → ((others : List ℕ) → length others < n → IsKept (reading_after (stream_of others))) → IsKept (reading_after (stream_of bytes))
+kept_at n bytes less (cut part is) later = subst (λ s. IsKept (reading_after s)) (sym is) (kept_of_cut bytes part)
+kept_at n bytes less (fault is) later = subst (λ s. IsKept (reading_after s)) (sym (alone (λ b. stopped b malformed) bytes is)) tt
 kept_at n bytes less (whole size x at is) later =
-    subst (λ s. IsLessThanAFrame (reading_after s)) (sym (alone (λ b. after_item x (stream_of (drop (4 + size) b))) bytes is))
+    subst (λ s. IsKept (reading_after s)) (sym (alone (λ b. after_item x (stream_of (drop (4 + size) b))) bytes is))
     (later (drop (4 + size) bytes) (omega (arith, at.whole, length-drop (4 + size) bytes)))
 
-kept_below : (n : ℕ) (bytes : List ℕ) → length bytes < n → IsLessThanAFrame (reading_after (stream_of bytes))
+kept_below : (n : ℕ) (bytes : List ℕ) → length bytes < n → IsKept (reading_after (stream_of bytes))
 kept_below zero bytes less = absurd (omega arith)
 kept_below (suc n) bytes less = kept_at n bytes less (head_of bytes) (kept_below n)
 
+pub IsKept-reading_after : (bytes : List ℕ) → IsKept (reading_after (stream_of bytes))
+IsKept-reading_after bytes = kept_below (suc (length bytes)) bytes (omega arith)
+
+less_than_a_frame : (bytes : List ℕ) → IsPart bytes → length bytes < 65604
+less_than_a_frame bytes (inl short) = omega arith
+less_than_a_frame bytes (inr (in_range, short)) =
+    let size = number_at bytes 0 in
+    let most : size ≤ 65600 = leb-true size 65600 (and_parts (nat_le 1 size) (nat_le size 65600) in_range).1 in
+    omega arith
+
+IsLessThanAFrame-kept : (r : Reading) → IsKept r → IsLessThanAFrame r
+IsLessThanAFrame-kept (unfinished bytes) part = less_than_a_frame bytes part
+IsLessThanAFrame-kept failed part = tt
+
 -- less than a frame is kept
 pub IsLessThanAFrame-reading_after : (bytes : List ℕ) → IsLessThanAFrame (reading_after (stream_of bytes))
-IsLessThanAFrame-reading_after bytes = kept_below (suc (length bytes)) bytes (omega arith)
+IsLessThanAFrame-reading_after bytes = IsLessThanAFrame-kept (reading_after (stream_of bytes)) (IsKept-reading_after bytes)

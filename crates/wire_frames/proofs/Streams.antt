@@ -1,11 +1,11 @@
 -- A stream, frame by frame.
-use Rattle.std.proofs.Common.{◌≡◌, ℕ, ◌+◌, ◌-◌, ◌<◌, ◌≤◌, Bool, true, false, nat_lt, List, [], ◌∷◌, ◌++◌, length, take, drop, Option, Some, None, zero, suc, refl, sym, ap, subst, ◌∙◌, arith, length-append, length-drop}
+use Rattle.std.proofs.Common.{◌≡◌, ℕ, ◌+◌, ◌-◌, ◌<◌, ◌≤◌, Bool, true, false, nat_lt, List, [], ◌∷◌, ◌++◌, length, take, drop, Option, Some, None, inl, inr, zero, suc, refl, sym, ap, subst, ◌∙◌, arith, length-append, length-drop}
 use Rattle.std.proofs.lemmas.Bool.{and_parts, le-ltb, leb-true, ltb-false, ltb-true}
 use Rattle.std.specs.Prelude.{nat_le, slice_index}
 use Rattle.std.specs.Int.{from_be_bytes, w32}
 use Rattle.std.proofs.lemmas.List.{drop-append-le, take-append-le}
 use Rattle.std.proofs.Math.ListN.{get_or-append}
-use Rattle.wire_frames.specs.Heads.{cut_end}
+use Rattle.wire_frames.specs.Heads.{IsPart, cut_end}
 use Rattle.private_store.specs.declared.frames.Item.{Item}
 use Rattle.private_store.specs.Frames.{clean, mid_frame, malformed, Stream, stopped, after_item, frames_of, is_command_length, item_of, number_at, stream_of}
 
@@ -106,7 +106,7 @@ stream_of-cut (b ∷ bs) long h cut = rw (stream_of-step (b ∷ bs)) (rw (is_lon
 
 -- ---- what stands at the head of bytes stays there, whatever follows
 
-number_at-append : (bytes more : List ℕ) → 4 ≤ length bytes → number_at (bytes ++ more) 0 ≡ number_at bytes 0
+pub number_at-append : (bytes more : List ℕ) → 4 ≤ length bytes → number_at (bytes ++ more) 0 ≡ number_at bytes 0
 number_at-append bytes more long = ap (λ front. from_be_bytes w32 front) (take-append-le 4 bytes more long)
 
 body-append : (bytes more : List ℕ) (size : ℕ) → 1 ≤ size → 4 + size ≤ length bytes
@@ -132,7 +132,7 @@ IsHead-append bytes more size x h =
 
 -- no whole frame, or a fault, or a frame
 pub data HeadOf (bytes : List ℕ) : Type 0 where
-  cut : length bytes < 65604 → stream_of bytes ≡ stopped bytes (cut_end bytes) → HeadOf bytes
+  cut : IsPart bytes → stream_of bytes ≡ stopped bytes (cut_end bytes) → HeadOf bytes
   fault : ((more : List ℕ) → stream_of (bytes ++ more) ≡ stopped (bytes ++ more) malformed) → HeadOf bytes
   whole : (size : ℕ) (x : Item) → IsHead bytes size (Some x)
       → ((more : List ℕ) → stream_of (bytes ++ more) ≡ after_item x (stream_of (drop (4 + size) (bytes ++ more)))) → HeadOf bytes
@@ -141,23 +141,17 @@ of_head : (bytes : List ℕ) (size : ℕ) (x : Option Item) → IsHead bytes siz
 of_head bytes size None h = fault (λ more. stream_of-head (bytes ++ more) size None (IsHead-append bytes more size None h))
 of_head bytes size (Some x) h = whole size x h (λ more. stream_of-head (bytes ++ more) size (Some x) (IsHead-append bytes more size (Some x) h))
 
-below : (n size : ℕ) → is_command_length size ≡ true → nat_lt n (4 + size) ≡ true → n < 65604
-below n size h k =
-    let most : size ≤ 65600 = leb-true size 65600 (and_parts (nat_le 1 size) (nat_le size 65600) h).1 in
-    let less : n < 4 + size = ltb-true n (4 + size) k in
-    omega arith
-
 of_long : (bytes : List ℕ) (in_range : Bool) (is_cut : Bool) → 4 ≤ length bytes → is_command_length (number_at bytes 0) ≡ in_range
     → nat_lt (length bytes) (4 + number_at bytes 0) ≡ is_cut → HeadOf bytes
 of_long bytes false is_cut long h k = fault (λ more.
     stream_of-out_of_range (bytes ++ more) (omega (arith, length-append bytes more)) (ap is_command_length (number_at-append bytes more long) ∙ h))
-of_long bytes true true long h k = cut (below (length bytes) (number_at bytes 0) h k) (stream_of-cut bytes long h k)
+of_long bytes true true long h k = cut (inr (h, ltb-true (length bytes) (4 + number_at bytes 0) k)) (stream_of-cut bytes long h k)
 of_long bytes true false long h k =
     of_head bytes (number_at bytes 0) (item_of (slice_index bytes 4) (take (number_at bytes 0 - 1) (drop 5 bytes)))
     (record { number = refl; in_range = h; whole = ltb-false (length bytes) (4 + number_at bytes 0) k; reads = refl })
 
 of_bytes : (bytes : List ℕ) (is_short : Bool) → nat_lt (length bytes) 4 ≡ is_short → HeadOf bytes
-of_bytes bytes true h = let short : length bytes < 4 = ltb-true (length bytes) 4 h in cut (omega arith) (stream_of-short bytes h)
+of_bytes bytes true h = cut (inl (ltb-true (length bytes) 4 h)) (stream_of-short bytes h)
 of_bytes bytes false h =
     of_long bytes (is_command_length (number_at bytes 0)) (nat_lt (length bytes) (4 + number_at bytes 0)) (ltb-false (length bytes) 4 h) refl refl
 

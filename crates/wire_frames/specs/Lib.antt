@@ -1,3 +1,5 @@
+pub mod Filled
+pub mod Finishing
 pub mod Heads
 pub mod Items
 pub mod Kinds

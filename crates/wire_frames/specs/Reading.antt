@@ -57,3 +57,8 @@ told answer reader = record { answer = answer; reader = reader }
 -- a piece is fed to a reader
 abbrev pub fed : Reading → List ℕ → Fed
 fed reader piece = told (answer_of (continued reader piece)) (reading_after (continued reader piece))
+
+-- a piece by the items that it gives and what is left, where a fault stands behind them or doesn't
+abbrev pub fed_by : List Item → Bool → List ℕ → Fed
+fed_by items true rest = told (answer_at malformed items) failed
+fed_by items false rest = told (Ok items) (unfinished rest)

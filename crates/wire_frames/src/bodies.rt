@@ -1,7 +1,8 @@
 //! What the bodies of frames say.
-ghost use Rattle.std.specs.Prelude.{◌≡◌, ◌+◌, ◌≤◌, Some, None, IsTrue, if◌then◌else◌, IfOk, length, slice_index};
+ghost use Rattle.std.specs.Prelude.{◌≡◌, ◌+◌, ◌≤◌, Some, None, IsTrue, if◌then◌else◌, IfOk, IfSome, length, slice_index};
 ghost use Rattle.private_store.specs.Frames.{bare as bare_lem, hello as hello_lem, id_at as id_at_lem, is_id, kind_of, number_at as number_at_lem, task_at as task_at_lem};
-ghost use Rattle.wire_frames.specs.Kinds.{end_task as end_task_lem, fits as fits_lem, read_about, read_of, said};
+ghost use Rattle.wire_frames.specs.Kinds.{end_task as end_task_lem, fits as fits_lem, read_about, read_of, said as said_lem};
+ghost use Rattle.wire_frames.specs.Filled.{HasPayload, filled, option_filled};
 
 use crate::kinds::{FrameKind, ObjectKind};
 use bytes::Bytes;
@@ -9,19 +10,61 @@ use obj_id::{Command, JobKey, JobNo, Kind, ObjectId, TaskNo};
 use private_store::{Awaited, Item};
 use std::alloc::{AllocError, Global};
 
-/// What a frame of this kind and body says; `None` where the body has another form. The bytes of a write are
-/// copied once.
-pub(crate) fn item(alloc: Global, kind: FrameKind, body: &[u8]) -> Result<Option<Item>, AllocError>
-    ensures { IfOk result (λ item. item ≡ read_of kind body.now) }
-{
-    match kind {
-        FrameKind::Hello => Ok(hello(body)),
-        FrameKind::EndTask => Ok(end_task(body)),
-        FrameKind::List => Ok(bare(Command::List, body)),
-        FrameKind::Usage => Ok(bare(Command::Usage, body)),
-        FrameKind::Leave => Ok(bare(Command::Leave, body)),
-        FrameKind::About(kind) => about(alloc, kind, body),
+/// How many bytes of a write's body stand before its payload.
+const BEFORE_PAYLOAD: usize = 32;
+
+/// What a body says, but for the payload of a write.
+#[derive(Debug, Drop)]
+pub(crate) enum Said {
+    Item(Item),
+    /// A write to the object at the offset. Its payload is what the body has behind its first 32 bytes.
+    Write(ObjectId, u32),
+}
+
+impl Said {
+    /// The item, with the payload copied out of the body.
+    pub(crate) fn copied(self, alloc: Global, body: &[u8]) -> Result<Item, AllocError>
+        requires { HasPayload self body.now }
+        ensures { IfOk result (λ item. item ≡ filled self body.now) }
+    {
+        match self {
+            Said::Item(item) => Ok(item),
+            Said::Write(id, offset) => {
+                let payload = Bytes::copy_from_slice(alloc, &body[BEFORE_PAYLOAD..])?;
+                Ok(Item::Command(Command::Write(id, offset, payload)))
+            }
+        }
     }
+
+    /// The item. Its payload stays where the body is.
+    pub(crate) fn shared(self, mut body: Bytes) -> Item
+        requires { HasPayload self body }
+        ensures { result ≡ filled self body }
+    {
+        match self {
+            Said::Item(item) => item,
+            Said::Write(id, offset) => {
+                body.advance(BEFORE_PAYLOAD);
+                Item::Command(Command::Write(id, offset, body))
+            }
+        }
+    }
+}
+
+/// What a frame of this kind and body says; `None` where the body has another form.
+pub(crate) fn read_body(kind: FrameKind, body: &[u8]) -> Option<Said>
+    ensures reads { option_filled result body.now ≡ read_of kind body.now }
+    ensures payload { IfSome result (λ said. HasPayload said body.now) }
+{
+    let item = match kind {
+        FrameKind::Hello => hello(body),
+        FrameKind::EndTask => end_task(body),
+        FrameKind::List => bare(Command::List, body),
+        FrameKind::Usage => bare(Command::Usage, body),
+        FrameKind::Leave => bare(Command::Leave, body),
+        FrameKind::About(kind) => return about(kind, body),
+    };
+    Some(Said::Item(item?))
 }
 
 /// A job and its key.
@@ -58,15 +101,16 @@ fn bare(command: Command<Bytes>, body: &[u8]) -> Option<Item>
 }
 
 /// An object's id, and what its kind has behind it.
-fn about(alloc: Global, kind: ObjectKind, body: &[u8]) -> Result<Option<Item>, AllocError>
-    ensures { IfOk result (λ item. item ≡ read_about kind body.now) }
+fn about(kind: ObjectKind, body: &[u8]) -> Option<Said>
+    ensures reads { option_filled result body.now ≡ read_about kind body.now }
+    ensures payload { IfSome result (λ said. HasPayload said body.now) }
 {
     if !fits(kind, body) {
-        return Ok(None);
+        return None;
     }
     match id_at(body) {
-        None => Ok(Some(Item::BadId)),
-        Some(id) => Ok(Some(about_object(alloc, kind, id, body)?)),
+        None => Some(Said::Item(Item::BadId)),
+        Some(id) => Some(about_object(kind, id, body)),
     }
 }
 
@@ -89,45 +133,38 @@ fn fits(kind: ObjectKind, body: &[u8]) -> bool
 }
 
 /// What a body that has the form of its kind says of its object.
-fn about_object(
-    alloc: Global,
-    kind: ObjectKind,
-    id: ObjectId,
-    body: &[u8],
-) -> Result<Item, AllocError>
+fn about_object(kind: ObjectKind, id: ObjectId, body: &[u8]) -> Said
     requires { IsTrue (fits_lem kind body.now) }
-    ensures { IfOk result (λ item. item ≡ said kind id body.now) }
+    ensures reads { filled result body.now ≡ said_lem kind id body.now }
+    ensures payload { HasPayload result body.now }
 {
     match kind {
         ObjectKind::Create => {
             let kind = kind_at(body);
-            Ok(Item::Command(Command::Create(id, kind, number_at(body, 29))))
+            Said::Item(Item::Command(Command::Create(id, kind, number_at(body, 29))))
         }
-        ObjectKind::Write => {
-            let bytes = Bytes::copy_from_slice(alloc, &body[32..])?;
-            Ok(Item::Command(Command::Write(id, number_at(body, 28), bytes)))
-        }
-        ObjectKind::Seal => Ok(Item::Command(Command::Seal(id))),
-        ObjectKind::Get => Ok(Item::Command(Command::Get(id))),
+        ObjectKind::Write => Said::Write(id, number_at(body, 28)),
+        ObjectKind::Seal => Said::Item(Item::Command(Command::Seal(id))),
+        ObjectKind::Get => Said::Item(Item::Command(Command::Get(id))),
         ObjectKind::Read => {
             let offset = number_at(body, 28);
-            Ok(Item::Command(Command::Read(id, offset, number_at(body, 32))))
+            Said::Item(Item::Command(Command::Read(id, offset, number_at(body, 32))))
         }
-        ObjectKind::Release => Ok(Item::Command(Command::Release(id))),
-        ObjectKind::Unpin => Ok(Item::Command(Command::Unpin(id, task_at(body, 28)))),
-        ObjectKind::Borrow => Ok(Item::Command(Command::Borrow(id, task_at(body, 28)))),
-        ObjectKind::GiveUp => Ok(Item::Command(Command::GiveUp(id, task_at(body, 28)))),
-        ObjectKind::Delete => Ok(Item::Command(Command::Delete(id))),
-        ObjectKind::Grant => Ok(Item::Command(Command::Grant(id, target_at(body)))),
-        ObjectKind::Withdraw => Ok(Item::Command(Command::Withdraw(id, target_at(body)))),
+        ObjectKind::Release => Said::Item(Item::Command(Command::Release(id))),
+        ObjectKind::Unpin => Said::Item(Item::Command(Command::Unpin(id, task_at(body, 28)))),
+        ObjectKind::Borrow => Said::Item(Item::Command(Command::Borrow(id, task_at(body, 28)))),
+        ObjectKind::GiveUp => Said::Item(Item::Command(Command::GiveUp(id, task_at(body, 28)))),
+        ObjectKind::Delete => Said::Item(Item::Command(Command::Delete(id))),
+        ObjectKind::Grant => Said::Item(Item::Command(Command::Grant(id, target_at(body)))),
+        ObjectKind::Withdraw => Said::Item(Item::Command(Command::Withdraw(id, target_at(body)))),
         ObjectKind::Peek => {
             let offset = number_at(body, 28);
-            Ok(Item::Command(Command::Peek(id, offset, number_at(body, 32))))
+            Said::Item(Item::Command(Command::Peek(id, offset, number_at(body, 32))))
         }
-        ObjectKind::GetWait => Ok(Item::Wait(Awaited::Get(id))),
+        ObjectKind::GetWait => Said::Item(Item::Wait(Awaited::Get(id))),
         ObjectKind::CreateWait => {
             let kind = kind_at(body);
-            Ok(Item::Wait(Awaited::Create(id, kind, number_at(body, 29))))
+            Said::Item(Item::Wait(Awaited::Create(id, kind, number_at(body, 29))))
         }
     }
 }

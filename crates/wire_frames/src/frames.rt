@@ -1,15 +1,19 @@
 //! The whole frames at the head of bytes.
-ghost use Rattle.std.specs.Prelude.{◌≡◌, ◌≤◌, IfOk, length, drop};
-ghost use Rattle.private_store.specs.Frames.{is_command_length as is_command_length_lem, item_of as item_of_lem, stream_of};
-ghost use Rattle.wire_frames.specs.Heads.{IsWithin, stream_from, stream_read};
+ghost use Rattle.std.specs.Prelude.{◌≡◌, ◌≤◌, IfOk, IfSome, length, drop};
+ghost use Rattle.private_store.specs.Frames.{is_command_length as is_command_length_lem, item_of, stream_of};
+ghost use Rattle.wire_frames.specs.Filled.{HasPayload, option_filled};
+ghost use Rattle.wire_frames.specs.Heads.{StandsAtHead, stream_from, stream_read};
 
-use crate::bodies::{item, number_at};
+use crate::bodies::{Said, number_at, read_body};
 use crate::kinds::FrameKind;
 use private_store::Item;
 use std::alloc::{AllocError, Global};
 
 /// The most bytes that a command's frame has behind its length.
 const MOST_BYTES: u32 = 65_600;
+
+/// How many bytes of a frame stand before its body: its length and its kind.
+pub(crate) const BEFORE_BODY: usize = 5;
 
 /// What stands at the head of bytes.
 #[derive(Debug, Drop)]
@@ -19,7 +23,7 @@ pub(crate) enum Head {
     /// No frame, whatever follows.
     Fault,
     /// A whole frame: what it says, and its length with all its bytes.
-    Frame(Item, usize),
+    Frame(Said, usize),
 }
 
 /// The whole frames at the head of bytes.
@@ -40,7 +44,8 @@ pub(crate) fn read_frames(alloc: Global, bytes: &[u8]) -> Result<Frames, AllocEr
     let mut items = Vec::new(alloc);
     let mut used = 0;
     loop {
-        match read_head(alloc, &bytes[used..])? {
+        let rest = &bytes[used..];
+        match read_head(rest) {
             Head::Cut => {
                 return Ok(Frames {
                     items,
@@ -55,8 +60,8 @@ pub(crate) fn read_frames(alloc: Global, bytes: &[u8]) -> Result<Frames, AllocEr
                     faulty: true,
                 });
             }
-            Head::Frame(item, size) => {
-                items.push(item)?;
+            Head::Frame(said, size) => {
+                items.push(said.copied(alloc, &rest[BEFORE_BODY..size])?)?;
                 used += size;
             }
         }
@@ -65,29 +70,29 @@ pub(crate) fn read_frames(alloc: Global, bytes: &[u8]) -> Result<Frames, AllocEr
 
 /// What stands at the head of the bytes. A length is looked at once its four bytes are there, all else once the
 /// frame is whole.
-fn read_head(alloc: Global, bytes: &[u8]) -> Result<Head, AllocError>
-    ensures stream { IfOk result (λ head. stream_of bytes.now ≡ stream_from head bytes.now) }
-    ensures within { IfOk result (IsWithin (length bytes.now)) }
+pub(crate) fn read_head(bytes: &[u8]) -> Head
+    ensures stream { stream_of bytes.now ≡ stream_from result bytes.now }
+    ensures stands { StandsAtHead bytes.now result }
 {
     if bytes.len() < 4 {
-        return Ok(Head::Cut);
+        return Head::Cut;
     }
     let size = number_at(bytes, 0);
     if !is_command_length(size) {
-        return Ok(Head::Fault);
+        return Head::Fault;
     }
     let end = 4 + size as usize;
     if bytes.len() < end {
-        return Ok(Head::Cut);
+        return Head::Cut;
     }
-    match item_of(alloc, bytes[4], &bytes[5..end])? {
-        None => Ok(Head::Fault),
-        Some(item) => Ok(Head::Frame(item, end)),
+    match said_by(bytes[4], &bytes[BEFORE_BODY..end]) {
+        None => Head::Fault,
+        Some(said) => Head::Frame(said, end),
     }
 }
 
 /// Whether a command's frame may have so many bytes behind its length.
-fn is_command_length(size: u32) -> bool
+pub(crate) fn is_command_length(size: u32) -> bool
     ensures { result ≡ is_command_length_lem size }
 {
     1 <= size && size <= MOST_BYTES
@@ -95,11 +100,9 @@ fn is_command_length(size: u32) -> bool
 
 /// What a frame says by its kind's byte and its body; `None` where there is no such kind or the body has another
 /// form.
-fn item_of(alloc: Global, kind: u8, body: &[u8]) -> Result<Option<Item>, AllocError>
-    ensures { IfOk result (λ item. item ≡ item_of_lem kind body.now) }
+fn said_by(kind: u8, body: &[u8]) -> Option<Said>
+    ensures reads { option_filled result body.now ≡ item_of kind body.now }
+    ensures payload { IfSome result (λ said. HasPayload said body.now) }
 {
-    match FrameKind::from_byte(kind) {
-        None => Ok(None),
-        Some(kind) => item(alloc, kind, body),
-    }
+    read_body(FrameKind::from_byte(kind)?, body)
 }

@@ -1,11 +1,12 @@
 //! A reader of a stream that comes in pieces.
-ghost use Rattle.std.specs.Prelude.{◌≡◌, ◌⊎◌, ◌++◌, [], Ok, Err, IfOk, IfErr, OnErr};
+ghost use Rattle.std.specs.Prelude.{◌≡◌, ◌≤◌, ◌⊎◌, [], Ok, Err, IfOk, IfErr, OnErr, length, take};
 ghost use Rattle.obj_id.specs.declared.refusals.Refusal.TheVariants.{Malformed, NoMemory};
-ghost use Rattle.private_store.specs.Frames.{stream_of};
-ghost use Rattle.wire_frames.specs.Heads.{stream_read};
-ghost use Rattle.wire_frames.specs.Reading.{failed, unfinished, fed, told, is_in_mid_frame};
+ghost use Rattle.wire_frames.specs.Finishing.{IsCompleted, IsFilled, IsWholeFrame};
+ghost use Rattle.wire_frames.specs.Heads.{IsPart};
+ghost use Rattle.wire_frames.specs.Reading.{failed, unfinished, fed, fed_by, told, is_in_mid_frame};
 
-use crate::frames::{Frames, read_frames};
+use crate::bodies::{Said, number_at};
+use crate::frames::{BEFORE_BODY, Frames, Head, is_command_length, read_frames, read_head};
 use bytes::BytesMut;
 use obj_id::Refusal;
 use private_store::Item;
@@ -23,11 +24,21 @@ pub struct Reader {
 }
 
 impl Model for Reader {
+    ghost use Rattle.wire_frames.specs.Heads.{IsPart};
     ghost use Rattle.wire_frames.specs.Reading.{Reading, reading_of};
 
     ghost Value = { Reading };
 
     ghost view = { λ r. reading_of r.failed r.rest.items };
+
+    ghost invariant = { λ r. IsPart r.rest.items };
+}
+
+/// The items that a piece gives, and whether a fault stands behind them.
+#[derive(Drop)]
+struct Gain {
+    items: Vec<Item>,
+    faulty: bool,
 }
 
 impl Reader {
@@ -47,6 +58,10 @@ impl Reader {
     /// bytes are there, or a whole frame of another form. Items that stand before a fault in the same piece are
     /// given, and the fault is answered by the next call, also of an empty piece; every later call answers it
     /// again. `NoMemory` leaves the reader as it was.
+    ///
+    /// The payload of a write is copied once on its way from the pieces, whatever the cut. What a frame that was
+    /// kept lacks is added to it, and once it is whole its bytes become the item's; every other whole frame is read
+    /// from the piece itself. No more is kept than a frame, of 65,604 bytes at most.
     pub fn feed(&mut self, alloc: Global, piece: &[u8]) -> Result<Vec<Item>, Refusal>
         ensures items { IfOk result (λ items. fed self.old piece.now ≡ told (Ok items.items) self.new) }
         ensures fault { result ≡ Err Malformed → fed self.old piece.now ≡ told (Err Malformed) self.new }
@@ -57,16 +72,16 @@ impl Reader {
         if self.failed {
             return Err(Refusal::Malformed);
         }
-        let frames = read_on(alloc, &mut self.rest, piece)?;
-        if !frames.faulty {
-            return Ok(frames.items);
+        let gain = read_on(alloc, &mut self.rest, piece)?;
+        if !gain.faulty {
+            return Ok(gain.items);
         }
         self.failed = true;
         self.rest.clear();
-        if frames.items.is_empty() {
+        if gain.items.is_empty() {
             return Err(Refusal::Malformed);
         }
-        Ok(frames.items)
+        Ok(gain.items)
     }
 
     /// Whether some bytes of a frame have come, and not all. True of a reader that has met a fault.
@@ -79,25 +94,125 @@ impl Reader {
 
 /// Reads the whole frames of what was kept and of the piece behind it, and keeps what is left. Where nothing was
 /// kept they are read from the piece itself. Want of memory leaves what was kept.
-fn read_on(alloc: Global, kept: &mut BytesMut, piece: &[u8]) -> Result<Frames, AllocError>
-    ensures stream { IfOk result (λ f. stream_of (kept.old.items ++ piece.now) ≡ stream_read f.items.items f.faulty kept.new.items) }
+fn read_on(alloc: Global, kept: &mut BytesMut, piece: &[u8]) -> Result<Gain, AllocError>
+    requires { IsPart kept.old.items }
+    ensures fed { IfOk result (λ g. fed (unfinished kept.old.items) piece.now ≡ fed_by g.items.items g.faulty kept.new.items) }
     ensures err { OnErr result (kept.new.items ≡ kept.old.items) }
 {
     if kept.is_empty() {
         let frames = read_frames(alloc, piece)?;
-        kept.extend_from_slice(&piece[frames.used..])?;
-        return Ok(frames);
+        *kept = beginning(alloc, &piece[frames.used..])?;
+        return Ok(Gain {
+            items: frames.items,
+            faulty: frames.faulty,
+        });
     }
     let length = kept.len();
-    kept.extend_from_slice(piece)?;
-    match read_frames(alloc, kept.as_slice()) {
-        Ok(frames) => {
-            kept.advance(frames.used);
-            Ok(frames)
-        }
-        Err(error) => {
-            kept.truncate(length);
-            Err(error)
-        }
+    let gain = finish_frame(alloc, kept, piece);
+    if gain.is_err() {
+        kept.truncate(length);
+    }
+    gain
+}
+
+/// Reads on where a part of a frame is kept. The piece gives what that frame lacks; once it is whole the piece is
+/// read behind it. Want of memory can leave bytes of the piece behind what was kept.
+fn finish_frame(alloc: Global, kept: &mut BytesMut, piece: &[u8]) -> Result<Gain, AllocError>
+    requires { IsPart kept.old.items }
+    ensures fed { IfOk result (λ g. fed (unfinished kept.old.items) piece.now ≡ fed_by g.items.items g.faulty kept.new.items) }
+    ensures err { OnErr result (take (length kept.old.items) kept.new.items ≡ kept.old.items) }
+{
+    let taken = complete(kept, piece)?;
+    match read_head(kept.as_slice()) {
+        Head::Cut => Ok(Gain {
+            items: Vec::new(alloc),
+            faulty: false,
+        }),
+        Head::Fault => Ok(Gain {
+            items: Vec::new(alloc),
+            faulty: true,
+        }),
+        Head::Frame(said, _) => read_behind(alloc, said, kept, &piece[taken..]),
+    }
+}
+
+/// Reads on where a whole frame is kept, and no more: its bytes become its item's, and what is behind it is read from
+/// the piece itself. Want of memory leaves what was kept.
+fn read_behind(
+    alloc: Global,
+    said: Said,
+    kept: &mut BytesMut,
+    behind: &[u8],
+) -> Result<Gain, AllocError>
+    requires { IsWholeFrame said kept.old.items }
+    ensures fed { IfOk result (λ g. fed (unfinished kept.old.items) behind.now ≡ fed_by g.items.items g.faulty kept.new.items) }
+    ensures err { OnErr result (kept.new.items ≡ kept.old.items) }
+{
+    let Frames {
+        mut items,
+        used,
+        faulty,
+    } = read_frames(alloc, behind)?;
+    items.reserve(1)?;
+    let left = beginning(alloc, &behind[used..])?;
+    let mut body = kept.freeze_to(kept.len())?;
+    body.advance(BEFORE_BODY);
+    *kept = left;
+    items.insert(0, said.shared(body))?;
+    Ok(Gain { items, faulty })
+}
+
+/// Adds to a part of a frame what the frame lacks of the piece: first what its length lacks, which says how long it
+/// is. How many bytes of the piece were taken: all, where the frame isn't whole then.
+fn complete(kept: &mut BytesMut, piece: &[u8]) -> Result<usize, AllocError>
+    requires { IsPart kept.old.items }
+    ensures ok { IfOk result (λ taken. IsCompleted kept.old.items piece.now taken kept.new.items) }
+    ensures err { OnErr result (take (length kept.old.items) kept.new.items ≡ kept.old.items) }
+{
+    let taken = fill_to(4, kept, piece)?;
+    if kept.len() < 4 {
+        return Ok(taken);
+    }
+    let size = number_at(kept.as_slice(), 0);
+    if !is_command_length(size) {
+        return Ok(taken);
+    }
+    let length = 4 + size as usize;
+    kept.reserve(length.saturating_sub(kept.len()))?;
+    Ok(taken + fill_to(length, kept, &piece[taken..])?)
+}
+
+/// Adds bytes of the piece until so many are kept, or the piece ends. How many were taken.
+fn fill_to(goal: usize, kept: &mut BytesMut, piece: &[u8]) -> Result<usize, AllocError>
+    ensures ok { IfOk result (λ taken. IsFilled goal kept.old.items piece.now taken kept.new.items) }
+    ensures err { OnErr result (kept.new.items ≡ kept.old.items) }
+{
+    let taken = goal.saturating_sub(kept.len()).min(piece.len());
+    kept.extend_from_slice(&piece[..taken])?;
+    Ok(taken)
+}
+
+/// The beginning of a frame, to be kept. It has room for all of the frame that is known, so that no growth copies what
+/// of its body is there.
+fn beginning(alloc: Global, bytes: &[u8]) -> Result<BytesMut, AllocError>
+    ensures { IfOk result (λ kept. kept.items ≡ bytes.now) }
+{
+    let mut kept = BytesMut::with_capacity(alloc, known_length(bytes))?;
+    kept.extend_from_slice(bytes)?;
+    Ok(kept)
+}
+
+/// How many bytes a frame that begins so is known to have, with its length: no more than the longest frame.
+fn known_length(bytes: &[u8]) -> usize
+    ensures { result ≤ 65604 }
+{
+    if bytes.len() < 4 {
+        return bytes.len();
+    }
+    let size = number_at(bytes, 0);
+    if is_command_length(size) {
+        4 + size as usize
+    } else {
+        4
     }
 }

@@ -1,0 +1,164 @@
+-- A part of a frame is made whole, and the stream goes on behind it.
+use Rattle.std.proofs.Common.{◌≡◌, ◌==◌, ℕ, ◌+◌, ◌-◌, ◌<◌, ◌≤◌, ◌⊎◌, Bool, true, false, List, [], ◌∷◌, ◌++◌, length, take, drop, inl, inr, refl, sym, ap, subst, ◌∙◌, arith, append_assoc, length-append, length-drop}
+use Rattle.std.proofs.lemmas.Bool.{eqb-true}
+use Rattle.std.proofs.lemmas.List.{take-append-drop}
+use Rattle.std.proofs.Math.Seq.{drop-length, take-add, take-length}
+use Rattle.private_store.proofs.Tests.{true_false}
+use Rattle.private_store.specs.declared.frames.Item.{Item}
+use Rattle.private_store.specs.Frames.{clean, malformed, Stream, stopped, after_item, is_command_length, number_at, stream_of}
+use Rattle.wire_frames.specs.Filled.{HasPayload, filled}
+use Rattle.wire_frames.specs.Finishing.{IsCompleted, IsFilled, IsWholeFrame}
+use Rattle.wire_frames.specs.Heads.{IsFrame, IsPart, body_at_head, cut_end, stream_read}
+use Rattle.wire_frames.specs.Reading.{Fed, unfinished, answer_of, fed, fed_by, reading_after, told}
+use Rattle.wire_frames.specs.declared.bodies.Said.{Said}
+use Rattle.wire_frames.proofs.Pieces.{IsKept, IsKept-reading_after, onward, stream_of-append}
+use Rattle.wire_frames.proofs.Streams.{number_at-append}
+
+pub rest_taken : (bytes : List ℕ) (n : ℕ) → take (length bytes - n) (drop n bytes) ≡ drop n bytes
+rest_taken bytes n = ap (λ k. take k (drop n bytes)) (sym (length-drop n bytes)) ∙ take-length (drop n bytes)
+
+-- ---- what a piece gives
+
+-- what a reader tells of a stream, and what it keeps
+abbrev told_of : Stream → Fed
+told_of s = told (answer_of s) (reading_after s)
+
+stream_read-told : (items : List Item) (faulty : Bool) (rest : List ℕ) → told_of (stream_read items faulty rest) ≡ fed_by items faulty rest
+stream_read-told items true rest = refl
+stream_read-told items false [] = refl
+stream_read-told items false (b ∷ bs) = refl
+
+pub fed-stream_read : (before piece : List ℕ) (items : List Item) (faulty : Bool) (rest : List ℕ)
+    → stream_of (before ++ piece) ≡ stream_read items faulty rest → fed (unfinished before) piece ≡ fed_by items faulty rest
+fed-stream_read before piece items faulty rest is = ap told_of is ∙ stream_read-told items faulty rest
+
+-- what is kept behind a piece is a part of a frame
+pub IsPart-fed : (before piece : List ℕ) (items : List Item) (faulty : Bool) (rest : List ℕ)
+    → fed (unfinished before) piece ≡ fed_by items faulty rest → faulty ≡ false → IsPart rest
+IsPart-fed before piece items false rest is sound = subst (λ f. IsKept f.reader) is (IsKept-reading_after (before ++ piece))
+IsPart-fed before piece items true rest is sound = true_false (sym sound)
+
+-- where nothing was kept
+pub fed-nothing_kept : (before piece : List ℕ) (items : List Item) (faulty : Bool) (used : ℕ) (after : List ℕ) → (length before == 0) ≡ true
+    → stream_of piece ≡ stream_read items faulty (drop used piece) → after ≡ drop used piece → fed (unfinished before) piece ≡ fed_by items faulty after
+fed-nothing_kept [] piece items faulty used after none is kept = fed-stream_read [] piece items faulty after (is ∙ ap (stream_read items faulty) (sym kept))
+fed-nothing_kept (b ∷ bs) piece items faulty used after none is kept = absurd (let e : length (b ∷ bs) ≡ 0 = eqb-true (length (b ∷ bs)) 0 none in omega (arith, e))
+
+-- ---- a part of a frame and what it lacks
+
+-- all of the piece, or a whole length
+all_or_long : (n size goal long : ℕ) → long < goal → (n ≡ size) ⊎ (goal ≤ long) → n ≡ size
+all_or_long n size goal long short (inl all) = all
+all_or_long n size goal long short (inr enough) = absurd (omega arith)
+
+pub completed-short : (before piece : List ℕ) (n : ℕ) (after : List ℕ)
+    → IsFilled 4 before piece n after → length after < 4 → IsCompleted before piece n after
+completed-short before piece n after f short = record {
+  bytes = f.bytes;
+  within = f.within;
+  all = λ _. all_or_long n (length piece) 4 (length after) short f.no_less;
+  no_more = λ _ whole. absurd (omega arith);
+}
+
+no_part : (bytes : List ℕ) → 4 ≤ length bytes → is_command_length (number_at bytes 0) ≡ false → IsPart bytes → ⊥
+no_part bytes long h (inl short) = absurd (omega arith)
+no_part bytes long h (inr (in_range, short)) = true_false (sym h ∙ in_range)
+
+pub completed-fault : (before piece : List ℕ) (n : ℕ) (after : List ℕ)
+    → IsFilled 4 before piece n after → 4 ≤ length after → is_command_length (number_at after 0) ≡ false → IsCompleted before piece n after
+completed-fault before piece n after f long h = record {
+  bytes = f.bytes;
+  within = f.within;
+  all = λ part. absurd (no_part after long h part);
+  no_more = λ in_range _. true_false (sym h ∙ in_range);
+}
+
+-- a part of a frame that has its length's bytes now has no more than the frame
+short_enough : (before after : List ℕ) → IsPart before → 4 ≤ length after → (length after ≤ 4) ⊎ (after ≡ before) → length after ≤ 4 + number_at after 0
+short_enough before after part long (inl few) = omega arith
+short_enough before after (inl short) long (inr same) = absurd (let e : length after ≡ length before = ap length same in omega (arith, e))
+short_enough before after (inr (_, short)) long (inr same) =
+    let e : length after ≡ length before = ap length same in
+    let n : number_at after 0 ≡ number_at before 0 = ap (λ b. number_at b 0) same in
+    omega (arith, e, n)
+
+short_still : (goal : ℕ) (middle after : List ℕ) → length middle ≤ goal → (length after ≤ goal) ⊎ (after ≡ middle) → length after ≤ goal
+short_still goal middle after few (inl less) = less
+short_still goal middle after few (inr same) = let e : length after ≡ length middle = ap length same in omega (arith, e)
+
+part_takes_all : (size n m : ℕ) (rest after : List ℕ) → 4 ≤ length after → number_at after 0 ≡ size
+    → (m ≡ length rest) ⊎ (4 + size ≤ length after) → IsPart after → m ≡ length rest
+part_takes_all size n m rest after long number (inl all) part = all
+part_takes_all size n m rest after long number (inr whole) (inl short) = absurd (omega arith)
+part_takes_all size n m rest after long number (inr whole) (inr (_, short)) = absurd (omega (arith, number))
+
+pub completed : (before piece : List ℕ) (n m size : ℕ) (middle after : List ℕ) → IsPart before → IsFilled 4 before piece n middle → 4 ≤ length middle
+    → size ≡ number_at middle 0 → IsFilled (4 + size) middle (drop n piece) m after → IsCompleted before piece (n + m) after
+completed before piece n m size middle after part f long number g =
+    let more = take m (drop n piece) in
+    let longer : length after ≡ length middle + length more = ap length g.bytes ∙ length-append middle more in
+    let same : number_at after 0 ≡ size = ap (λ b. number_at b 0) g.bytes ∙ number_at-append middle more long ∙ sym number in
+    let few : length middle ≤ 4 + size = subst (λ k. length middle ≤ 4 + k) (sym number) (short_enough before middle part long f.no_more) in
+    let short : length after ≤ 4 + size = short_still (4 + size) middle after few g.no_more in
+    let behind : length (drop n piece) ≡ length piece - n = length-drop n piece in
+    record {
+      bytes = g.bytes ∙ ap (λ b. b ++ more) f.bytes ∙ append_assoc before (take n piece) more ∙ ap (λ b. before ++ b) (sym (take-add n m piece));
+      within = omega (arith, f.within, g.within, behind);
+      all = λ still.
+          let e : m ≡ length (drop n piece) = part_takes_all size n m (drop n piece) after (omega (arith, longer)) same g.no_less still in
+          omega (arith, e, f.within, behind);
+      no_more = λ _ whole. omega (arith, whole, short, same);
+    }
+
+-- ---- what is read of it
+
+-- a part still: all of the piece is kept
+pub fed-cut : (before piece : List ℕ) (n : ℕ) (after : List ℕ) → IsCompleted before piece n after → IsPart after
+    → stream_of after ≡ stopped after (cut_end after) → fed (unfinished before) piece ≡ fed_by [] false after
+fed-cut before piece n after c part is =
+    let all : before ++ piece ≡ after = sym (c.bytes ∙ ap (λ k. before ++ take k piece) (c.all part) ∙ ap (λ b. before ++ b) (take-length piece)) in
+    fed-stream_read before piece [] false after (ap stream_of all ∙ is)
+
+-- the bytes and the piece, parted behind what was taken
+parted : (before piece : List ℕ) (n : ℕ) (after : List ℕ) → after ≡ before ++ take n piece → before ++ piece ≡ after ++ drop n piece
+parted before piece n after is =
+    ap (λ b. before ++ b) (sym (take-append-drop n piece)) ∙ sym (append_assoc before (take n piece) (drop n piece)) ∙ ap (λ b. b ++ drop n piece) (sym is)
+
+-- no frame, whatever follows
+pub fed-fault : (before piece : List ℕ) (n : ℕ) (after rest : List ℕ) → IsCompleted before piece n after
+    → stream_of after ≡ stopped after malformed → fed (unfinished before) piece ≡ fed_by [] true rest
+fed-fault before piece n after rest c is =
+    let behind = drop n piece in
+    fed-stream_read before piece [] true (after ++ behind)
+    (ap stream_of (parted before piece n after c.bytes) ∙ stream_of-append after behind ∙ ap (λ s. onward s behind) is)
+
+-- the frame is whole, and nothing is behind it
+pub IsWholeFrame-completed : (before piece : List ℕ) (n : ℕ) (after : List ℕ) (said : Said) (size : ℕ) → IsCompleted before piece n after
+    → IsFrame after said size → stream_of after ≡ after_item (filled said (body_at_head after size)) (stream_of (drop size after)) → IsWholeFrame said after
+IsWholeFrame-completed before piece n after said size c at is =
+    let exact : length after ≡ size = c.no_more at.in_range (omega (arith, at.number, at.whole)) ∙ sym at.number in
+    let nothing : drop size after ≡ [] = ap (λ k. drop k after) (sym exact) ∙ drop-length after in
+    let body : body_at_head after size ≡ drop 5 after =
+    ap (λ k. take (k - 5) (drop 5 after)) (sym exact) ∙ ap (λ k. take k (drop 5 after)) (sym (length-drop 5 after)) ∙ take-length (drop 5 after) in
+    record {
+      stream = is ∙ ap (λ b. after_item (filled said (body_at_head after size)) (stream_of b)) nothing ∙ ap (λ b. after_item (filled said b) (stopped [] clean)) body;
+      has_kind = omega (arith, exact, at.has_kind);
+      payload = subst (HasPayload said) body at.payload;
+    }
+
+pub fed-behind : (before piece : List ℕ) (n : ℕ) (after : List ℕ) (f : Fed) → IsCompleted before piece n after
+    → fed (unfinished after) (drop n piece) ≡ f → fed (unfinished before) piece ≡ f
+fed-behind before piece n after f c is = ap (λ b. told_of (stream_of b)) (parted before piece n after c.bytes) ∙ is
+
+after_item-stream_read : (x : Item) (items : List Item) (faulty : Bool) (rest : List ℕ)
+    → after_item x (stream_read items faulty rest) ≡ stream_read (x ∷ items) faulty rest
+after_item-stream_read x items true rest = refl
+after_item-stream_read x items false rest = refl
+
+-- a whole frame, and the frames behind it
+pub fed-whole_frame : (said : Said) (kept behind : List ℕ) (items : List Item) (faulty : Bool) (rest : List ℕ) → IsWholeFrame said kept
+    → stream_of behind ≡ stream_read items faulty rest → fed (unfinished kept) behind ≡ fed_by (filled said (drop 5 kept) ∷ items) faulty rest
+fed-whole_frame said kept behind items faulty rest whole is =
+    let x = filled said (drop 5 kept) in
+    fed-stream_read kept behind (x ∷ items) faulty rest
+    (stream_of-append kept behind ∙ ap (λ s. onward s behind) whole.stream ∙ ap (after_item x) is ∙ after_item-stream_read x items faulty rest)
