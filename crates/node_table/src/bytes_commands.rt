@@ -14,9 +14,9 @@ ghost use Rattle.spill_work.specs.Line.{WorkLine};
 ghost use Rattle.node_table.specs.Row.{copies_of};
 ghost use Rattle.node_table.specs.Shown.{IsShown, IsLent, TakesStep, only};
 
+use crate::outcome::{Erase, Outcome};
 use crate::row::JobRow;
 use bytes::Bytes;
-use crate::outcome::{Erase, Outcome};
 use obj_id::{Digest, DirectoryMessage, Location, Message, ObjectId, Place, Refusal, Reply};
 use sha2::{Digest as _, Sha256};
 use std::alloc::{AllocError, Global};

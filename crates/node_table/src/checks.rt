@@ -101,13 +101,7 @@ impl Copies {
 
     /// Why the session can't read `len` bytes of the copy: `BadSize`, `Absent`, `NotSealed`, `NotHeld`,
     /// `OutOfBounds`, or nothing.
-    pub fn read_check(
-        &self,
-        session: u32,
-        id: &ObjectId,
-        offset: u32,
-        len: u32,
-    ) -> Option<Refusal>
+    pub fn read_check(&self, session: u32, id: &ObjectId, offset: u32, len: u32) -> Option<Refusal>
         ensures { result ≡ read_check_lem self.now session id.now offset len }
     {
         if len as usize > MOST_BYTES {
