@@ -26,7 +26,10 @@ use indexmap::IndexMap;
 use job_admission::Admission;
 use node_table::JobRow;
 pub use node_table::{Erase, Outcome};
-use obj_id::{Command, DirectoryMessage, JobKey, JobNo, Message, ObjectId, Place, Quota, Refusal, Reply, Usage};
+use obj_id::{
+    Command, DirectoryMessage, JobKey, JobNo, Message, ObjectId, Place, Quota, Refusal, Reply,
+    Usage,
+};
 use private_store::Event;
 use spill_work::Works;
 use std::alloc::Global;

@@ -11,6 +11,7 @@ use std::process::Abort;
 use std::test::Fail;
 
 const KEY: JobKey = JobKey([7; 32]);
+
 const NEIGHBOURS_KEY: JobKey = JobKey([8; 32]);
 
 /// A length that no Read may carry.
