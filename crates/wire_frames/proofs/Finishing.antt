@@ -2,13 +2,13 @@
 use Rattle.std.proofs.Common.{◌≡◌, ◌==◌, ℕ, ◌+◌, ◌-◌, ◌<◌, ◌≤◌, ◌⊎◌, Bool, true, false, List, [], ◌∷◌, ◌++◌, length, take, drop, inl, inr, refl, sym, ap, subst, ◌∙◌, arith, append_assoc, length-append, length-drop}
 use Rattle.std.proofs.lemmas.Bool.{eqb-true}
 use Rattle.std.proofs.lemmas.List.{take-append-drop}
-use Rattle.std.proofs.Math.Seq.{drop-length, take-add, take-length}
+use Rattle.std.proofs.Math.Seq.{take-add, take-length}
 use Rattle.private_store.proofs.Tests.{true_false}
 use Rattle.private_store.specs.declared.frames.Item.{Item}
-use Rattle.private_store.specs.Frames.{clean, malformed, Stream, stopped, after_item, is_command_length, number_at, stream_of}
-use Rattle.wire_frames.specs.Filled.{HasPayload, filled}
+use Rattle.private_store.specs.Frames.{malformed, Stream, stopped, after_item, is_command_length, number_at, stream_of}
+use Rattle.wire_frames.specs.Filled.{filled}
 use Rattle.wire_frames.specs.Finishing.{IsCompleted, IsFilled, IsWholeFrame}
-use Rattle.wire_frames.specs.Heads.{IsFrame, IsPart, body_at_head, cut_end, stream_read}
+use Rattle.wire_frames.specs.Heads.{IsPart, stream_read}
 use Rattle.wire_frames.specs.Reading.{Fed, unfinished, answer_of, fed, fed_by, reading_after, told}
 use Rattle.wire_frames.specs.declared.bodies.Said.{Said}
 use Rattle.wire_frames.proofs.Pieces.{IsKept, IsKept-reading_after, onward, stream_of-append}
@@ -51,27 +51,9 @@ all_or_long : (n size goal long : ℕ) → long < goal → (n ≡ size) ⊎ (goa
 all_or_long n size goal long short (inl all) = all
 all_or_long n size goal long short (inr enough) = absurd (omega arith)
 
-pub completed-short : (before piece : List ℕ) (n : ℕ) (after : List ℕ)
-    → IsFilled 4 before piece n after → length after < 4 → IsCompleted before piece n after
-completed-short before piece n after f short = record {
-  bytes = f.bytes;
-  within = f.within;
-  all = λ _. all_or_long n (length piece) 4 (length after) short f.no_less;
-  no_more = λ _ whole. absurd (omega arith);
-}
-
 no_part : (bytes : List ℕ) → 4 ≤ length bytes → is_command_length (number_at bytes 0) ≡ false → IsPart bytes → ⊥
 no_part bytes long h (inl short) = absurd (omega arith)
 no_part bytes long h (inr (in_range, short)) = true_false (sym h ∙ in_range)
-
-pub completed-fault : (before piece : List ℕ) (n : ℕ) (after : List ℕ)
-    → IsFilled 4 before piece n after → 4 ≤ length after → is_command_length (number_at after 0) ≡ false → IsCompleted before piece n after
-completed-fault before piece n after f long h = record {
-  bytes = f.bytes;
-  within = f.within;
-  all = λ part. absurd (no_part after long h part);
-  no_more = λ in_range _. true_false (sym h ∙ in_range);
-}
 
 -- a part of a frame that has its length's bytes now has no more than the frame
 short_enough : (before after : List ℕ) → IsPart before → 4 ≤ length after → (length after ≤ 4) ⊎ (after ≡ before) → length after ≤ 4 + number_at after 0
@@ -86,11 +68,11 @@ short_still : (goal : ℕ) (middle after : List ℕ) → length middle ≤ goal 
 short_still goal middle after few (inl less) = less
 short_still goal middle after few (inr same) = let e : length after ≡ length middle = ap length same in omega (arith, e)
 
-part_takes_all : (size n m : ℕ) (rest after : List ℕ) → 4 ≤ length after → number_at after 0 ≡ size
+part_takes_all : (size m : ℕ) (rest after : List ℕ) → 4 ≤ length after → number_at after 0 ≡ size
     → (m ≡ length rest) ⊎ (4 + size ≤ length after) → IsPart after → m ≡ length rest
-part_takes_all size n m rest after long number (inl all) part = all
-part_takes_all size n m rest after long number (inr whole) (inl short) = absurd (omega arith)
-part_takes_all size n m rest after long number (inr whole) (inr (_, short)) = absurd (omega (arith, number))
+part_takes_all size m rest after long number (inl all) part = all
+part_takes_all size m rest after long number (inr whole) (inl short) = absurd (omega arith)
+part_takes_all size m rest after long number (inr whole) (inr (_, short)) = absurd (omega (arith, number))
 
 pub completed : (before piece : List ℕ) (n m size : ℕ) (middle after : List ℕ) → IsPart before → IsFilled 4 before piece n middle → 4 ≤ length middle
     → size ≡ number_at middle 0 → IsFilled (4 + size) middle (drop n piece) m after → IsCompleted before piece (n + m) after
@@ -105,19 +87,12 @@ completed before piece n m size middle after part f long number g =
       bytes = g.bytes ∙ ap (λ b. b ++ more) f.bytes ∙ append_assoc before (take n piece) more ∙ ap (λ b. before ++ b) (sym (take-add n m piece));
       within = omega (arith, f.within, g.within, behind);
       all = λ still.
-          let e : m ≡ length (drop n piece) = part_takes_all size n m (drop n piece) after (omega (arith, longer)) same g.no_less still in
+          let e : m ≡ length (drop n piece) = part_takes_all size m (drop n piece) after (omega (arith, longer)) same g.no_less still in
           omega (arith, e, f.within, behind);
       no_more = λ _ whole. omega (arith, whole, short, same);
     }
 
 -- ---- what is read of it
-
--- a part still: all of the piece is kept
-pub fed-cut : (before piece : List ℕ) (n : ℕ) (after : List ℕ) → IsCompleted before piece n after → IsPart after
-    → stream_of after ≡ stopped after (cut_end after) → fed (unfinished before) piece ≡ fed_by [] false after
-fed-cut before piece n after c part is =
-    let all : before ++ piece ≡ after = sym (c.bytes ∙ ap (λ k. before ++ take k piece) (c.all part) ∙ ap (λ b. before ++ b) (take-length piece)) in
-    fed-stream_read before piece [] false after (ap stream_of all ∙ is)
 
 -- the bytes and the piece, parted behind what was taken
 parted : (before piece : List ℕ) (n : ℕ) (after : List ℕ) → after ≡ before ++ take n piece → before ++ piece ≡ after ++ drop n piece
@@ -131,24 +106,6 @@ fed-fault before piece n after rest c is =
     let behind = drop n piece in
     fed-stream_read before piece [] true (after ++ behind)
     (ap stream_of (parted before piece n after c.bytes) ∙ stream_of-append after behind ∙ ap (λ s. onward s behind) is)
-
--- the frame is whole, and nothing is behind it
-pub IsWholeFrame-completed : (before piece : List ℕ) (n : ℕ) (after : List ℕ) (said : Said) (size : ℕ) → IsCompleted before piece n after
-    → IsFrame after said size → stream_of after ≡ after_item (filled said (body_at_head after size)) (stream_of (drop size after)) → IsWholeFrame said after
-IsWholeFrame-completed before piece n after said size c at is =
-    let exact : length after ≡ size = c.no_more at.in_range (omega (arith, at.number, at.whole)) ∙ sym at.number in
-    let nothing : drop size after ≡ [] = ap (λ k. drop k after) (sym exact) ∙ drop-length after in
-    let body : body_at_head after size ≡ drop 5 after =
-    ap (λ k. take (k - 5) (drop 5 after)) (sym exact) ∙ ap (λ k. take k (drop 5 after)) (sym (length-drop 5 after)) ∙ take-length (drop 5 after) in
-    record {
-      stream = is ∙ ap (λ b. after_item (filled said (body_at_head after size)) (stream_of b)) nothing ∙ ap (λ b. after_item (filled said b) (stopped [] clean)) body;
-      has_kind = omega (arith, exact, at.has_kind);
-      payload = subst (HasPayload said) body at.payload;
-    }
-
-pub fed-behind : (before piece : List ℕ) (n : ℕ) (after : List ℕ) (f : Fed) → IsCompleted before piece n after
-    → fed (unfinished after) (drop n piece) ≡ f → fed (unfinished before) piece ≡ f
-fed-behind before piece n after f c is = ap (λ b. told_of (stream_of b)) (parted before piece n after c.bytes) ∙ is
 
 after_item-stream_read : (x : Item) (items : List Item) (faulty : Bool) (rest : List ℕ)
     → after_item x (stream_read items faulty rest) ≡ stream_read (x ∷ items) faulty rest
