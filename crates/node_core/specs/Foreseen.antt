@@ -19,10 +19,10 @@ use Rattle.node_core.specs.Steps.{job_of, input_of, end_check}
 -- the most messages that a command of a job with this row, or none, sends: Create may evict each copy, and
 -- tells the directory of each
 abbrev pub most_by_command : Option Row → Command (List ℕ) → ℕ
-most_by_command row (command.Create id kind n) = option_map_or (λ r. length r.copies) row 0
-most_by_command row (command.Seal id) = 1
-most_by_command row (command.Get id) = 1
-most_by_command row _ = 0
+most_by_command own (command.Create id kind n) = option_map_or (λ row. length row.copies) own 0
+most_by_command own (command.Seal id) = 1
+most_by_command own (command.Get id) = 1
+most_by_command own _ = 0
 
 -- the most messages that the event sends
 abbrev pub most_messages : Hosted → Event → ℕ
