@@ -1,8 +1,10 @@
 -- What a command is to the job of its session.
-use Rattle.std.specs.Prelude.{◌≡◌, ℕ, ◌==◌, Bool, true, List}
+use Rattle.std.specs.Prelude.{◌≡◌, ℕ, ◌==◌, Bool, true, false, List}
 use Rattle.obj_id.specs.declared.commands.Command.{Command}
 use Rattle.obj_id.specs.declared.commands.Command.TheVariants as command
 use Rattle.private_store.specs.declared.inputs.Input.TheVariants as input
+use Rattle.private_store.specs.declared.schedules.Event.{Event}
+use Rattle.private_store.specs.declared.schedules.Event.TheVariants as event
 use Rattle.private_store.specs.Contents.{Contents}
 use Rattle.spill_work.specs.Line.{WorkLine}
 use Rattle.node_table.specs.Row.{Row}
@@ -22,3 +24,16 @@ is_own job _ = true
 abbrev pub Obeys : ℕ → ℕ → Row → WorkLine → ℕ → Command (List ℕ) → Given → Row → WorkLine → Type 0
 Obeys node job old line session c told new after =
     (contents : Contents) → old.job ≡ job → IsShown old line contents → TakesStep node old line contents (input.Call session c) told new after
+
+-- a command that takes no memory, and so is never refused for want of it
+abbrev pub takes_no_memory : Command (List ℕ) → Bool
+takes_no_memory (command.Write id offset bytes) = true
+takes_no_memory (command.Release id) = true
+takes_no_memory command.Usage = true
+takes_no_memory command.Leave = true
+takes_no_memory _ = false
+
+-- an event that takes none
+abbrev pub is_frugal : Event → Bool
+is_frugal (event.Call job session c) = takes_no_memory c
+is_frugal _ = false

@@ -1,11 +1,11 @@
 //! The commands of a session, carried out on the row of its job.
-ghost use Rattle.std.specs.Prelude.{◌≡◌, ◌≤◌, length, Some, true, false, IfOk, OnErr, IsErrOf};
+ghost use Rattle.std.specs.Prelude.{◌≡◌, ◌≤◌, length, Some, true, false, IfOk, OnErr, IsErrOf, IsOk};
 ghost use Rattle.obj_id.specs.declared.ids.JobNo.{JobNo};
 ghost use Rattle.obj_id.specs.declared.refusals.Refusal.{Refusal};
 ghost use Rattle.obj_id.specs.declared.refusals.Refusal.TheVariants.{NoMemory};
 ghost use Rattle.spill_work.specs.Line.{same_job, IsSameFor};
 ghost use Rattle.node_table.specs.Outcomes.{given_of};
-ghost use Rattle.node_core.specs.Calls.{is_own as is_own_lem, Obeys};
+ghost use Rattle.node_core.specs.Calls.{is_own as is_own_lem, takes_no_memory, Obeys};
 ghost use Rattle.node_core.specs.Steps.{is_built_command};
 ghost use Rattle.node_core.specs.Foreseen.{most_by_command};
 
@@ -16,7 +16,8 @@ use spill_work::Works;
 use std::alloc::Global;
 
 /// Carries out a command on the row of the session's job. `NotGranted` for another job's object. The error
-/// is want of memory, and then nothing has changed. Other jobs' works stay.
+/// is want of memory, and then nothing has changed; Write, Release, Usage and Leave take none. Other jobs' works
+/// stay.
 pub(crate) fn carry_out(
     alloc: Global,
     node: u32,
@@ -31,6 +32,7 @@ pub(crate) fn carry_out(
     ensures few { IfOk result (λ o. length o.messages ≤ most_by_command (Some row.old) command.now) }
     ensures others { (other : JobNo) → same_job job other ≡ false → IsSameFor other works.old works.new }
     ensures memory { (r : Refusal) → IsErrOf result r → r ≡ NoMemory }
+    ensures frugal { takes_no_memory command.now ≡ true → IsOk result }
     ensures err { OnErr result (row.new ≡ row.old) }
     ensures works { OnErr result (works.new ≡ works.old) }
 {

@@ -12,6 +12,7 @@ ghost use Rattle.private_store.specs.Commands.{usage_of};
 ghost use Rattle.private_store.specs.Private.{view_of, no_store};
 ghost use Rattle.job_admission.specs.Admissions.{largest_memory, live_at, sessions_entered, enter_check, entered};
 ghost use Rattle.node_table.specs.Outcomes.{given_of};
+ghost use Rattle.node_core.specs.Calls.{takes_no_memory, is_frugal};
 ghost use Rattle.node_core.specs.Hosted.{Shows, row_at};
 ghost use Rattle.node_core.specs.Borrowed.{borrowed_check, IsBorrowed};
 ghost use Rattle.node_core.specs.Steps.{is_built, is_built_command, Steps};
@@ -73,13 +74,14 @@ impl Node {
         }
     }
 
-    /// Steps the node by one event. `NoMemory` alone, and then nothing has changed. What it gives is as
-    /// `foresee` says.
+    /// Steps the node by one event. `NoMemory` alone, and then nothing has changed; the commands Write,
+    /// Release, Usage and Leave take no memory. What it gives is as `foresee` says.
     pub fn apply(&mut self, event: &Event) -> Result<Outcome, Refusal>
         requires { is_built event.now ≡ true }
         ensures ok { IfOk result (λ o. Steps self.old event.now (given_of o) self.new) }
         ensures foreseen { IfOk result (λ o. IsAsForeseen self.old event.now (given_of o)) }
         ensures memory { (r : Refusal) → IsErrOf result r → r ≡ NoMemory }
+        ensures frugal { is_frugal event.now ≡ true → IsOk result }
         ensures err { OnErr result (self.new ≡ self.old) }
     {
         match event {
@@ -148,6 +150,7 @@ impl Node {
         ensures ok { IfOk result (λ o. Steps self.old (event.Call job session command.now) (given_of o) self.new) }
         ensures few { IfOk result (λ o. length o.messages ≤ most_by_command (row_at self.old job) command.now) }
         ensures memory { (r : Refusal) → IsErrOf result r → r ≡ NoMemory }
+        ensures frugal { takes_no_memory command.now ≡ true → IsOk result }
         ensures err { OnErr result (self.new ≡ self.old) }
     {
         let Some(row) = self.rows.get_mut(&job) else {
