@@ -215,7 +215,7 @@ fn random_bytes(alloc: Global, random: &mut Random, count: u32) -> Result<Vec<u8
 fn changed_frames_are_read_alike_in_all_pieces(rt: HostRuntime) -> Result<(), Fail> {
     let alloc = rt.alloc();
     let mut random = Random(0x9e37_79b9_7f4a_7c15);
-    for round in 0..100u32 {
+    for round in 0..130u32 {
         let longest = random.below(300).max(1);
         let stream = mutated_frames(alloc, &mut random, 64, 8)?;
         assert!(rt;
