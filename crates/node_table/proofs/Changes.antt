@@ -1,5 +1,5 @@
 -- A change written through what a map of copies lends.
-use Rattle.std.proofs.Common.{◌≡◌, Bool, true, not, cond, [], ◌∷◌, Some, None, refl, sym, ap, ◌∙◌}
+use Rattle.std.proofs.Common.{◌≡◌, Bool, true, not, cond, [], ◌∷◌, Option, Some, None, refl, sym, ap, ◌∙◌}
 use Rattle.std.specs.Prelude.{false, is_err, OnOk, OnErr, Ok, Err}
 use Rattle.std.specs.declared.result.Result.{Result}
 use Rattle.std.specs.Option.{option_map_or}
@@ -65,6 +65,13 @@ put_back id (e ∷ es) x none = by (id_cmp id e.0) refl (put_back id es x) none
         ∙ without_entry-absent id (e ∷ es) (sym (at-lookup id (e ∷ es)) ∙ none)
     by Equal equal rest gone = cc
     by Greater greater rest gone = ap (λ o. cond (not (is_eq o)) (e ∷ without_entry (with_entry es id x) id) (without_entry (with_entry es id x) id)) greater ∙ ap (λ t. e ∷ t) (rest gone)
+
+-- what a check says of a table, by the entry that the map of the table lends, and where there is none
+pub checked_there : {X P : Type 0} (check : Option X → P) (id : ObjectId) (es now : ById X) (x : X) → es ≡ now → lookup (is_id id) es ≡ Some x → check (at now id) ≡ check (Some x)
+checked_there check id es now x seen found = ap check (ap (λ t. at t id) (sym seen) ∙ at-lookup id es ∙ found)
+
+pub checked_absent : {X P : Type 0} (check : Option X → P) (id : ObjectId) (es now : ById X) → es ≡ now → lookup (is_id id) es ≡ None → check (at now id) ≡ check None
+checked_absent check id es now seen none = ap check (ap (λ t. at t id) (sym seen) ∙ at-lookup id es ∙ none)
 
 -- what is so of a refusal, where there was one
 pub of_err : {T E P : Type 0} (r : Result T E) → OnErr r P → is_err r ≡ true → P

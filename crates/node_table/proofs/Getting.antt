@@ -1,8 +1,8 @@
 -- A row takes Get of a copy that is sealed.
-use Rattle.std.proofs.Common.{◌≡◌, ℕ, ◌+◌, true, false, ◌==◌, nat_le, [], ◌∷◌, map, Option, Some, None, is_some, option_map, refl, sym, ap, subst, ◌∙◌}
+use Rattle.std.proofs.Common.{◌≡◌, ◌≢◌, ℕ, ◌+◌, true, false, ◌==◌, nat_le, [], ◌∷◌, map, Option, Some, None, is_some, option_map, refl, sym, ap, subst, ◌∙◌}
 use Rattle.obj_id.specs.declared.ids.ObjectId.{ObjectId}
 use Rattle.obj_id.specs.declared.refusals.Refusal.{Refusal}
-use Rattle.obj_id.specs.declared.refusals.Refusal.TheVariants.{Absent, Gone, TooMany, Pending, NotSealed}
+use Rattle.obj_id.specs.declared.refusals.Refusal.TheVariants.{Absent, Gone, NoMemory, TooMany, Pending, NotSealed}
 use Rattle.obj_id.specs.declared.commands.CopyState.{CopyState}
 use Rattle.obj_id.specs.declared.commands.CopyState.TheVariants.{Created, Sealed, Restoring, Fetching, Away}
 use Rattle.obj_id.specs.declared.commands.Command.TheVariants as command
@@ -31,7 +31,8 @@ use Rattle.spill_work.specs.Line.{WorkLine}
 use Rattle.node_table.specs.Entries.{changed}
 use Rattle.node_table.specs.Kept.{Kept, held}
 use Rattle.node_table.specs.Row.{Row, copies_of, shape_of}
-use Rattle.node_table.specs.Checks.{hold_check, hold_check_of}
+use Rattle.node_table.specs.Checks.{hold_check_of}
+use Rattle.node_table.specs.Holding.{IsRowHeld, IsHoldRefusedAt}
 use Rattle.node_table.specs.Shown.{seen, is_plain, IsPlain, IsShown, only, TakesStep}
 use Rattle.node_table.proofs.ByChecks.{unless_refused, first-check, called, own}
 use Rattle.node_table.proofs.CopyTables.{at-copies_found, copies-changed}
@@ -124,19 +125,18 @@ module _ (node : ℕ) (row : Row) (line : WorkLine) (contents : Contents) (sessi
       abbrev c : Change
       c = record (replied (set_copy s id now) (reply.Got k.copy.length)) { used = Some id }
 
-      sealed_change : step row.order s (judge node (seen row line contents) x) ≡ erasing s (unless_refused s (hold_check row.copies id) c)
+      sealed_change : step row.order s (judge node (seen row line contents) x) ≡ erasing s (unless_refused s (hold_check_of k) c)
       sealed_change =
           get_at Sealed (sealed_is k.copy.state is)
-          ∙ ap (erasing s) (first-check s (nat_le most_holds (all_holds k.copy)) TooMany [] c None c (checked-nil s c)
-          ∙ sym (ap (λ (o : Option Kept). unless_refused s (elim o [ None ↦ Some Absent | Some z ↦ hold_check_of z ]) c) found))
+          ∙ ap (erasing s) (first-check s (nat_le most_holds (all_holds k.copy)) TooMany [] c None c (checked-nil s c))
 
-      pub hold_refused : (r : Refusal) → hold_check row.copies id ≡ Some r → TakesStep node row line contents x (only (reply.Refused r)) row line
+      hold_refused : (r : Refusal) → hold_check_of k ≡ Some r → TakesStep node row line contents x (only (reply.Refused r)) row line
       hold_refused r e = stays node row line contents h x (reply.Refused r) (sealed_change ∙ ap (λ o. erasing s (unless_refused s o c)) e) refl refl
 
       keeps : (z : Kept) → ((held session z).copy.offset ≡ z.copy.offset) × ((held session z).copy.length ≡ z.copy.length)
       keeps z = (refl, refl)
 
-      abbrev pub row_held : Row
+      abbrev row_held : Row
       row_held = record row { copies = changed (held session) row.copies id; order = touched id row.order }
 
       copies_is : with_entry (copies_of row.copies) id now ≡ copies_of row_held.copies
@@ -166,5 +166,18 @@ module _ (node : ℕ) (row : Row) (line : WorkLine) (contents : Contents) (sessi
         erased = sym (ap (map (key_of row.job)) (keys_with (copies_of row.copies) id now));
       }
 
-      pub hold_done : hold_check row.copies id ≡ None → TakesStep node row line contents x (only (reply.Got k.copy.length)) row_held line
+      hold_done : hold_check_of k ≡ None → TakesStep node row line contents x (only (reply.Got k.copy.length)) row_held line
       hold_done passed = moved node row line contents h x (erasing s c) (sealed_change ∙ ap (λ o. erasing s (unless_refused s o c)) passed) (only (reply.Got k.copy.length)) row_held line m refl
+
+  -- a hold was given
+  pub sealed_held : (n : ℕ) (new : Row) → IsRowHeld row session id n new → TakesStep node row line contents x (only (reply.Got n)) new line
+  sealed_held n new is =
+      subst (λ r. TakesStep node row line contents x (only (reply.Got n)) r line) (sym is.row)
+      (subst (λ m. TakesStep node row line contents x (only (reply.Got m)) (row_held is.kept is.found is.sealed) line) (sym is.length)
+      (hold_done is.kept is.found is.sealed is.passed))
+
+  -- it was refused, and not for want of memory
+  pub sealed_refused : (r : Refusal) (new : Row) → r ≢ NoMemory → IsHoldRefusedAt row.copies id r new.copies → new ≡ row → TakesStep node row line contents x (only (reply.Refused r)) new line
+  sealed_refused r new known is same =
+      subst (λ t. TakesStep node row line contents x (only (reply.Refused r)) t line) (sym same)
+      (hold_refused is.kept is.found is.sealed r (is.refused known))

@@ -9,6 +9,7 @@ pub mod Changing
 pub mod Sealing
 pub mod Orders
 pub mod Getting
+pub mod Holding
 pub mod Fetching
 pub mod Releasing
 pub mod Leaving

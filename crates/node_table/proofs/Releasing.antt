@@ -1,7 +1,6 @@
 -- A row takes Release.
-use Rattle.std.proofs.Common.{◌≡◌, ℕ, ◌-◌, true, false, cond, ◌==◌, ◌&&◌, [], map, Option, Some, None, option_map, refl, sym, ap, ◌∙◌}
+use Rattle.std.proofs.Common.{◌≡◌, ℕ, ◌-◌, true, false, cond, ◌==◌, ◌&&◌, [], map, Some, None, option_map, refl, sym, ap, ◌∙◌}
 use Rattle.std.specs.Option.{option_map_or}
-use Rattle.std.specs.Map.{lookup}
 use Rattle.obj_id.specs.declared.ids.ObjectId.{ObjectId}
 use Rattle.obj_id.specs.declared.refusals.Refusal.{Refusal}
 use Rattle.obj_id.specs.declared.refusals.Refusal.TheVariants.{Absent, NotHeld}
@@ -9,7 +8,7 @@ use Rattle.obj_id.specs.declared.commands.Command.TheVariants as command
 use Rattle.obj_id.specs.declared.commands.Reply.TheVariants as reply
 use Rattle.private_store.specs.declared.inputs.Input.{Input}
 use Rattle.private_store.specs.declared.inputs.Input.TheVariants as input
-use Rattle.private_store.specs.Tables.{ById, at}
+use Rattle.private_store.specs.Tables.{at}
 use Rattle.private_store.specs.Shape.{Copy, Shape, Change}
 use Rattle.private_store.specs.Copies.{is_idle}
 use Rattle.private_store.specs.Room.{set_copy, drop_copy}
@@ -19,9 +18,7 @@ use Rattle.private_store.specs.Contents.{Contents, judge}
 use Rattle.private_store.specs.Private.{key_of}
 use Rattle.private_store.specs.Step.{step}
 use Rattle.private_store.proofs.Checks.{checked-nil}
-use Rattle.private_store.proofs.ObjectMaps.{is_id, at-lookup}
 use Rattle.private_store.proofs.Rows.{at-put_here}
-use Rattle.private_store.proofs.Tests.{some_value}
 use Rattle.lru_evictor.proofs.Reorders.{reordered-unused}
 use Rattle.spill_work.specs.Line.{WorkLine}
 use Rattle.node_table.specs.Entries.{changed}
@@ -44,15 +41,6 @@ settled-stays store id copy found sound =
 -- other holds leave a copy plain
 pub plain-holds : (copy : Copy) (session n : ℕ) → IsPlain copy → IsPlain (with_holds copy session n)
 plain-holds copy session n p = record { state = p.state; doomed = p.doomed; backed = p.backed; fault = p.fault }
-
--- what the check of a copy that a map lends says
-pub check-found : (es now : ById Kept) (session : ℕ) (id : ObjectId) (k : Kept) (r : Option Refusal) → es ≡ now → lookup (is_id id) es ≡ Some k → cond (holds_of k.copy session == 0) (Some NotHeld) None ≡ r → release_check now session id ≡ r
-check-found es now session id k r seen found is =
-    ap (λ t. release_check t session id) (sym seen) ∙ by (at es id) (at-lookup id es ∙ found) ∙ is
-  where
-    by : (o : Option Kept) → o ≡ Some k → ◌≡◌ {A = Option Refusal} (elim o [ None ↦ Some Absent | Some k ↦ cond (holds_of k.copy session == 0) (Some NotHeld) None ]) (cond (holds_of k.copy session == 0) (Some NotHeld) None)
-    by None e = absurd cc
-    by (Some z) e = ap (λ z. cond (holds_of z.copy session == 0) (Some NotHeld) None) (some_value z k e)
 
 module _ (node : ℕ) (row : Row) (line : WorkLine) (contents : Contents) (session : ℕ) (id : ObjectId) (mine : (id.job.0 == row.job) ≡ true) (h : IsShown row line contents) where
   abbrev s : Shape

@@ -53,15 +53,16 @@ abbrev pub lend_check : ById Copy → ℕ → ObjectId → Option Refusal
 lend_check copies session id =
     elim (at copies id) [ None ↦ Some Absent | Some copy ↦ lend_check_of copy session ]
 
+abbrev pub release_check_of : Kept → ℕ → Option Refusal
+release_check_of kept session = if holds_of kept.copy session == 0 then Some NotHeld else None
+
 abbrev pub release_check : ById Kept → ℕ → ObjectId → Option Refusal
 release_check copies session id =
-    elim (at copies id) [ None ↦ Some Absent | Some kept ↦ if holds_of kept.copy session == 0 then Some NotHeld else None ]
+    elim (at copies id) [ None ↦ Some Absent | Some kept ↦ release_check_of kept session ]
 
+-- whether one more hold is too many
 abbrev pub hold_check_of : Kept → Option Refusal
 hold_check_of kept = if nat_le most_holds (all_holds kept.copy) then Some TooMany else None
-
-abbrev pub hold_check : ById Kept → ObjectId → Option Refusal
-hold_check copies id = elim (at copies id) [ None ↦ Some Absent | Some kept ↦ hold_check_of kept ]
 
 -- whether another copy is too many, or no number is left for its fetch
 abbrev pub fetch_check : ById Kept → ℕ → Option Refusal

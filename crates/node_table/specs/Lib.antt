@@ -8,3 +8,4 @@ pub mod Outcomes
 pub mod Usages
 pub mod RoomPlans
 pub mod Creating
+pub mod Holding

@@ -1,6 +1,6 @@
 //! Why a command can't be carried out.
 ghost use Rattle.std.specs.Prelude.{◌≡◌, Some, option_map};
-ghost use Rattle.node_table.specs.Checks.{write_check_of, write_check as write_check_lem, seal_check_of, seal_check as seal_check_lem, read_check_of, read_check as read_check_lem, lend_check_of, lend_check as lend_check_lem, release_check as release_check_lem, hold_check as hold_check_lem, fetch_check as fetch_check_lem, create_check as create_check_lem};
+ghost use Rattle.node_table.specs.Checks.{write_check_of, write_check as write_check_lem, seal_check_of, seal_check as seal_check_lem, read_check_of, read_check as read_check_lem, lend_check_of, lend_check as lend_check_lem, fetch_check as fetch_check_lem, create_check as create_check_lem};
 ghost use Rattle.private_store.specs.Tables.{at};
 ghost use Rattle.private_store.specs.Shape.{Fetch};
 ghost use Rattle.node_table.specs.Kept.{Kept};
@@ -123,32 +123,6 @@ impl Copies {
         }
     }
 
-    /// Why the session has no hold of the copy to give up: `Absent`, `NotHeld`, or nothing.
-    pub fn release_check(&self, session: u32, id: &ObjectId) -> Option<Refusal>
-        ensures { result ≡ release_check_lem self.now session id.now }
-    {
-        match self.get(id) {
-            None => Some(Refusal::Absent),
-            Some(copy) => {
-                if copy.holds_of(session) == 0 {
-                    Some(Refusal::NotHeld)
-                } else {
-                    None
-                }
-            }
-        }
-    }
-
-    /// Why the copy can't have one more hold: `Absent`, `TooMany`, or nothing.
-    pub fn hold_check(&self, id: &ObjectId) -> Option<Refusal>
-        ensures { result ≡ hold_check_lem self.now id.now }
-    {
-        match self.get(id) {
-            None => Some(Refusal::Absent),
-            Some(copy) => copy.hold_check(),
-        }
-    }
-
     /// Why no fetch can begin, where this was the last one's number: `TooMany`, or nothing.
     pub fn fetch_check(&self, begun: u64) -> Option<Refusal>
         ensures { result ≡ fetch_check_lem self.now begun }
@@ -157,16 +131,6 @@ impl Copies {
             return Some(Refusal::TooMany);
         }
         None
-    }
-
-    /// The length of the copy in bytes; 0 where there is none.
-    pub fn length_of(&self, id: &ObjectId) -> u32
-        ensures { (k : Kept) → at self.now id.now ≡ Some k → result ≡ k.copy.length }
-    {
-        match self.get(id) {
-            None => 0,
-            Some(copy) => copy.length(),
-        }
     }
 
     /// The number of the fetch that brings the object; 0 where none does.

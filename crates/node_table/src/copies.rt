@@ -2,11 +2,12 @@
 ghost use Rattle.std.specs.Option.{option_copied, option_map_or};
 ghost use Rattle.private_store.specs.Tables.{at, with_entry, without_entry};
 ghost use Rattle.node_table.specs.Entries.{changed, all_changed, each_changed, without_all};
-ghost use Rattle.node_table.specs.Kept.{held, released, left, sealed, spilling_if, gone_away, restoring as restoring_lem, fault_told, can_go_away, can_restore};
+ghost use Rattle.node_table.specs.Kept.{released, left, sealed, spilling_if, gone_away, restoring as restoring_lem, fault_told, can_go_away, can_restore};
 ghost use Rattle.private_store.specs.Copies.{is_created};
 ghost use Rattle.obj_id.specs.declared.refusals.Refusal.{Refusal};
-ghost use Rattle.node_table.specs.Checks.{release_check as release_check_lem};
-ghost use Rattle.std.specs.Prelude.{◌≡◌, [], true, Some, OnOk, OnErr, IsErrOf, IfOk, IfSome, IfNone, map, length, is_some};
+ghost use Rattle.node_table.specs.Checks.{release_check};
+ghost use Rattle.node_table.specs.Holding.{IsHeldAt, IsUnsealedAt, IsHoldRefusedAt};
+ghost use Rattle.std.specs.Prelude.{◌≡◌, [], true, Some, None, OnOk, OnErr, IsOk, IsErrOf, IfOk, IfErr, IfSome, IfNone, map, length, is_some};
 ghost use Rattle.node_table.specs.Usages.{item_of, total, window_bytes as window_bytes_lem, device_bytes as device_bytes_lem};
 
 use crate::copy::RowCopy;
@@ -118,27 +119,29 @@ impl Copies {
         }
     }
 
-    /// One more hold of the session on the copy. `TooMany` at 64 holds, `NoMemory` last; a refusal changes
-    /// nothing.
-    pub fn hold(&mut self, id: &ObjectId, session: u32) -> Result<(), Refusal>
-        ensures ok { OnOk result (self.new ≡ changed (held session) self.old id.now) }
-        ensures err { OnErr result (self.new ≡ self.old) }
+    /// One more hold of the session on the copy, if it is there and sealed, and its length in bytes. `None`
+    /// where it isn't. `TooMany` at 64 holds, `NoMemory` last; a refusal changes nothing.
+    pub fn hold(&mut self, id: &ObjectId, session: u32) -> Result<Option<u32>, Refusal>
+        ensures some { IfOk result (λ o. IfSome o (λ n. IsHeldAt self.old session id.now n self.new)) }
+        ensures none { IfOk result (λ o. IfNone o (IsUnsealedAt self.old id.now self.new)) }
+        ensures refused { IfErr result (λ r. IsHoldRefusedAt self.old id.now r self.new) }
     {
         let Some(copy) = self.by_id.get_mut(id) else {
-            return Ok(());
+            return Ok(None);
         };
         copy.hold(session)
     }
 
-    /// One hold of the session on the copy less. `NotHeld` where it has none, and then nothing changes.
-    /// Takes no memory.
+    /// One hold of the session on the copy less. `Absent`, `NotHeld` where it has none; a refusal changes
+    /// nothing. Takes no memory.
     pub fn release(&mut self, id: &ObjectId, session: u32) -> Result<(), Refusal>
         ensures ok { OnOk result (self.new ≡ changed (released session) self.old id.now) }
-        ensures refused { (r : Refusal) → IsErrOf result r → release_check_lem self.old session id.now ≡ Some r }
+        ensures passed { IsOk result → release_check self.old session id.now ≡ None }
+        ensures refused { (r : Refusal) → IsErrOf result r → release_check self.old session id.now ≡ Some r }
         ensures err { OnErr result (self.new ≡ self.old) }
     {
         let Some(copy) = self.by_id.get_mut(id) else {
-            return Ok(());
+            return Err(Refusal::Absent);
         };
         copy.release(session)
     }

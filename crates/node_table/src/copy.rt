@@ -1,13 +1,14 @@
 //! One copy of a row.
-ghost use Rattle.std.specs.Prelude.{◌≡◌, ◌≢◌, ◌+◌, ◌==◌, nat_le, if◌then◌else◌, true, false, Some, None, OnOk, OnErr, IsErrOf, IsOk, is_some, option_map};
+ghost use Rattle.std.specs.Prelude.{◌≡◌, ◌≢◌, ◌+◌, ◌==◌, nat_le, if◌then◌else◌, true, false, Some, None, IfOk, IfErr, IfSome, IfNone, OnOk, OnErr, IsErrOf, IsOk, is_some, option_map};
 ghost use Rattle.obj_id.specs.declared.refusals.Refusal.{Refusal};
-ghost use Rattle.obj_id.specs.declared.refusals.Refusal.TheVariants.{NoMemory, TooMany, NotHeld};
+ghost use Rattle.obj_id.specs.declared.refusals.Refusal.TheVariants.{NoMemory};
 ghost use Rattle.private_store.specs.Copies.{extent_of, is_primary, is_created, is_held};
-ghost use Rattle.private_store.specs.Commands.{holds_of as holds_of_lem, all_holds};
+ghost use Rattle.private_store.specs.Commands.{holds_of as holds_of_lem};
 ghost use Rattle.private_store.specs.Extents.{rounded};
-ghost use Rattle.private_store.specs.Limits.{most_holds};
 ghost use Rattle.node_table.specs.RoomPlans.{facts_of};
-ghost use Rattle.node_table.specs.Kept.{new_kept, fetched_kept, held, released, left, sealed, spilling, spilling_if, gone_away, restoring as restoring_lem, fault_told, can_spill, can_go_away, can_restore};
+ghost use Rattle.node_table.specs.Kept.{new_kept, fetched_kept, released, left, sealed, spilling, spilling_if, gone_away, restoring as restoring_lem, fault_told, can_spill, can_go_away, can_restore};
+ghost use Rattle.node_table.specs.Checks.{release_check_of as release_check};
+ghost use Rattle.node_table.specs.Holding.{IsHeld, IsUnsealed, IsHoldRefused};
 ghost use Rattle.node_table.specs.Usages.{is_spilling as is_spilling_lem};
 
 use fetch_core::FetchIn;
@@ -173,19 +174,25 @@ impl RowCopy {
         self.pins.holds_of(session)
     }
 
-    /// One more hold of the session. `TooMany` at 64 holds of all sessions, `NoMemory` last; a refusal
-    /// changes nothing.
-    pub fn hold(&mut self, session: u32) -> Result<(), Refusal>
-        ensures ok { OnOk result (self.new ≡ held session self.old) }
-        ensures err { OnErr result (self.new ≡ self.old) }
+    /// One more hold of the session, if it is sealed, and its length in bytes. `None` where it isn't, and then
+    /// nothing changes. `TooMany` at 64 holds of all sessions, `NoMemory` last; a refusal changes nothing.
+    pub fn hold(&mut self, session: u32) -> Result<Option<u32>, Refusal>
+        ensures some { IfOk result (λ o. IfSome o (λ n. IsHeld self.old session n self.new)) }
+        ensures none { IfOk result (λ o. IfNone o (IsUnsealed self.old self.new)) }
+        ensures refused { IfErr result (λ r. IsHoldRefused self.old r self.new) }
     {
-        self.pins.hold(session)
+        if !matches!(self.state(), CopyState::Sealed) {
+            return Ok(None);
+        }
+        self.pins.hold(session)?;
+        Ok(Some(self.length()))
     }
 
     /// One hold of the session less. `NotHeld` where it has none, and then nothing changes. Takes no memory.
     pub fn release(&mut self, session: u32) -> Result<(), Refusal>
         ensures ok { OnOk result (self.new ≡ released session self.old) }
-        ensures refused { (r : Refusal) → IsErrOf result r → (if holds_of_lem self.old.copy session == 0 then Some NotHeld else None) ≡ Some r }
+        ensures passed { IsOk result → release_check self.old session ≡ None }
+        ensures refused { (r : Refusal) → IsErrOf result r → release_check self.old session ≡ Some r }
         ensures err { OnErr result (self.new ≡ self.old) }
     {
         self.pins.release(session)
@@ -196,13 +203,6 @@ impl RowCopy {
         ensures { self.new ≡ left session self.old }
     {
         self.pins.leave(session);
-    }
-
-    /// Why there can be no more holds: `TooMany`, or nothing.
-    pub fn hold_check(&self) -> Option<Refusal>
-        ensures { result ≡ (if nat_le most_holds (all_holds self.now.copy) then Some TooMany else None) }
-    {
-        self.pins.hold_check()
     }
 
     /// It is immutable from now on, with this digest of its bytes.

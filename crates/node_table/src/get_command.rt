@@ -1,5 +1,6 @@
 //! Get: a hold on a copy that is here, and else what brings it here.
-ghost use Rattle.std.specs.Prelude.{◌≡◌, ◌==◌, ℕ, ◌≤◌, length, true, false, Some, None, IsOk, IfOk, OnErr, IsErrOf};
+ghost use Rattle.std.specs.Prelude.{◌≡◌, ◌==◌, ℕ, ◌≤◌, length, true, false, Some, None, IsOk, IfOk, IfSome, IfNone, OnErr, IsErrOf};
+ghost use Rattle.std.specs.Option.{option_map_or};
 ghost use Rattle.obj_id.specs.declared.refusals.Refusal.{Refusal};
 ghost use Rattle.obj_id.specs.declared.refusals.Refusal.TheVariants.{NoMemory};
 ghost use Rattle.obj_id.specs.declared.commands.Command.TheVariants as command;
@@ -18,28 +19,27 @@ ghost use Rattle.node_table.specs.Shown.{IsShown, TakesStep, only};
 
 use crate::outcome::{Erase, Outcome};
 use crate::row::JobRow;
+use bytes::Bytes;
 use obj_id::{CopyState, DirectoryMessage, Items, Message, ObjectId, Place, Refusal, Reply};
 use std::alloc::{AllocError, Global};
 
 impl JobRow {
     /// Get of a sealed copy: one more hold of the session, and the copy is the most recently used one.
-    /// `TooMany` at 64 holds.
-    fn get_sealed(&mut self, alloc: Global, session: u32, id: &ObjectId) -> Result<Outcome, Refusal>
-        ensures ok { IfOk result (λ o. (node : ℕ) (line : WorkLine) (contents : Contents) → (id.now.job.0 == self.old.job) ≡ true → IsShown self.old line contents
-            → (k : Kept) → at self.old.copies id.now ≡ Some k → is_sealed k.copy.state ≡ true
-            → TakesStep node self.old line contents (input.Call session (command.Get id.now)) (given_of o) self.new line) }
-        ensures few { IfOk result (λ o. length o.messages ≤ 1) }
+    /// `TooMany` at 64 holds. `None` where there is no sealed copy, and then nothing has changed.
+    fn get_sealed(&mut self, session: u32, id: &ObjectId) -> Result<Option<Reply<Bytes>>, Refusal>
+        ensures some { IfOk result (λ o. IfSome o (λ reply. (node : ℕ) (line : WorkLine) (contents : Contents) → (id.now.job.0 == self.old.job) ≡ true → IsShown self.old line contents
+            → TakesStep node self.old line contents (input.Call session (command.Get id.now)) (only reply) self.new line)) }
+        ensures none { IfOk result (λ o. IfNone o (option_map_or (λ k. is_sealed k.copy.state) (at self.old.copies id.now) false ≡ false)) }
+        ensures same { IfOk result (λ o. IfNone o (self.new ≡ self.old)) }
         ensures memory { (r : Refusal) → IsErrOf result r → r ≡ NoMemory }
         ensures err { OnErr result (self.new ≡ self.old) }
     {
-        if let Some(refusal) = self.copies().hold_check(id) {
-            return Ok(Outcome::only(alloc, Reply::Refused(refusal)));
+        match self.hold_copy(id, session) {
+            Ok(None) => Ok(None),
+            Ok(Some(length)) => Ok(Some(Reply::Got(length))),
+            Err(refusal) if refusal == Refusal::NoMemory => Err(refusal),
+            Err(refusal) => Ok(Some(Reply::Refused(refusal))),
         }
-        let length = self.copies().length_of(id);
-        if self.hold_copy(id, session).is_err() {
-            return Err(Refusal::NoMemory);
-        }
-        Ok(Outcome::only(alloc, Reply::Got(length)))
     }
 }
 
@@ -86,6 +86,26 @@ impl JobRow {
         })
     }
 
+    /// Get of what isn't here as a sealed copy: what brings it here. `NotSealed`, `Pending`, `TooMany`.
+    fn get_unsealed(&mut self, alloc: Global, node: u32, id: &ObjectId) -> Result<Outcome, Refusal>
+        requires { option_map_or (λ k. is_sealed k.copy.state) (at self.old.copies id.now) false ≡ false }
+        ensures ok { IfOk result (λ o. (session : ℕ) (line : WorkLine) (contents : Contents) → (id.now.job.0 == self.old.job) ≡ true → IsShown self.old line contents
+            → TakesStep node self.old line contents (input.Call session (command.Get id.now)) (given_of o) self.new line) }
+        ensures few { IfOk result (λ o. length o.messages ≤ 1) }
+        ensures memory { (r : Refusal) → IsErrOf result r → r ≡ NoMemory }
+        ensures err { OnErr result (self.new ≡ self.old) }
+    {
+        match self.copies().state_of(id) {
+            None => self.begin_fetch(alloc, node, id),
+            Some(CopyState::Fetching) => self.locate_again(alloc, node, id),
+            Some(CopyState::Created) => told(alloc, Refusal::NotSealed),
+            Some(CopyState::Restoring) => told(alloc, Refusal::Pending),
+            // no event that is built puts a copy there
+            Some(CopyState::Away) => told(alloc, Refusal::Pending),
+            Some(CopyState::Sealed) => unreachable!(),
+        }
+    }
+
     /// Get: a hold on a copy that is here, and else what brings it here. `NotSealed`, `Pending`,
     /// `TooMany`. The error is want of memory, and then nothing has changed.
     pub fn get(
@@ -101,15 +121,10 @@ impl JobRow {
         ensures memory { (r : Refusal) → IsErrOf result r → r ≡ NoMemory }
         ensures err { OnErr result (self.new ≡ self.old) }
     {
-        match self.copies().state_of(id) {
-            None => self.begin_fetch(alloc, node, id),
-            Some(CopyState::Sealed) => self.get_sealed(alloc, session, id),
-            Some(CopyState::Fetching) => self.locate_again(alloc, node, id),
-            Some(CopyState::Created) => told(alloc, Refusal::NotSealed),
-            Some(CopyState::Restoring) => told(alloc, Refusal::Pending),
-            // no event that is built puts a copy there
-            Some(CopyState::Away) => told(alloc, Refusal::Pending),
+        if let Some(reply) = self.get_sealed(session, id)? {
+            return Ok(Outcome::only(alloc, reply));
         }
+        self.get_unsealed(alloc, node, id)
     }
 }
 

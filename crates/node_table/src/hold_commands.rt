@@ -18,9 +18,6 @@ impl JobRow {
         ensures { (node : ℕ) (line : WorkLine) (contents : Contents) → (id.now.job.0 == self.old.job) ≡ true → IsShown self.old line contents
             → TakesStep node self.old line contents (input.Call session (command.Release id.now)) (only result) self.new line }
     {
-        if let Some(refusal) = self.copies().release_check(session, id) {
-            return Reply::Refused(refusal);
-        }
         match self.release_copy(id, session) {
             Ok(()) => Reply::Ok,
             Err(refusal) => Reply::Refused(refusal),

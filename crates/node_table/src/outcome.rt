@@ -36,7 +36,7 @@ impl Outcome {
         }
     }
 
-    /// A list of one message.
+    /// A list of one message, with room for no more: who keeps what was sent keeps no idle memory.
     pub fn one_message(
         alloc: Global,
         to: Place,
@@ -44,8 +44,8 @@ impl Outcome {
     ) -> Result<Items<(Place, Message)>, AllocError>
         ensures { IfOk result (λ messages. messages ≡ (to, message) ∷ []) }
     {
-        let mut messages = Items::new(alloc);
+        let mut messages = Vec::with_capacity(alloc, 1)?;
         messages.push((to, message))?;
-        Ok(messages)
+        Ok(Items::from_vec(messages))
     }
 }

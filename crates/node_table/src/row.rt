@@ -1,5 +1,5 @@
 //! The row of one job.
-ghost use Rattle.std.specs.Prelude.{◌≡◌, ◌||◌, ℕ, ◌+◌, ◌≤◌, nat_eq, take, drop, length, true, false, Some, None, IfOk, IfSome, IfNone, OnOk, OnErr, IsErrOf};
+ghost use Rattle.std.specs.Prelude.{◌≡◌, ◌||◌, ℕ, ◌+◌, ◌≤◌, nat_eq, take, drop, length, true, false, Some, None, IfOk, IfErr, IfSome, IfNone, OnOk, OnErr, IsOk, IsErrOf};
 ghost use Rattle.std.specs.Map.{set_value};
 ghost use Rattle.obj_id.specs.declared.works.Extent.{Extent};
 ghost use Rattle.obj_id.specs.declared.refusals.Refusal.{Refusal};
@@ -16,6 +16,7 @@ ghost use Rattle.node_table.specs.Entries.{changed, all_changed, each_changed};
 ghost use Rattle.node_table.specs.Kept.{Kept, sealed, held, released, left, spilling_if, fetched_kept};
 ghost use Rattle.node_table.specs.Checks.{release_check};
 ghost use Rattle.node_table.specs.Row.{Row, new_row, place_of, ArePlaced};
+ghost use Rattle.node_table.specs.Holding.{IsUnsealedAt, IsHoldRefusedAt, IsRowHeld};
 ghost use Rattle.node_table.specs.Creating.{placed_without, IsReplaced};
 
 use crate::copies::Copies;
@@ -159,15 +160,21 @@ impl JobRow {
         self.copies.seal(id, digest);
     }
 
-    /// One more hold of the session on the copy, which is the most recently used now. `TooMany` at 64
-    /// holds, `NoMemory` last; a refusal changes nothing.
-    pub(crate) fn hold_copy(&mut self, id: &ObjectId, session: u32) -> Result<(), Refusal>
-        ensures ok { OnOk result (self.new ≡ record self.old { copies = changed (held session) self.old.copies id.now; order = touched id.now self.old.order }) }
+    /// One more hold of the session on the copy, if it is there and sealed, which is the most recently used
+    /// now, and its length in bytes. `None` where it isn't. `TooMany` at 64 holds, `NoMemory` last; a refusal
+    /// changes nothing. Looks the copy up once.
+    pub(crate) fn hold_copy(&mut self, id: &ObjectId, session: u32) -> Result<Option<u32>, Refusal>
+        ensures some { IfOk result (λ o. IfSome o (λ n. IsRowHeld self.old session id.now n self.new)) }
+        ensures none { IfOk result (λ o. IfNone o (IsUnsealedAt self.old.copies id.now self.new.copies)) }
+        ensures same { IfOk result (λ o. IfNone o (self.new ≡ self.old)) }
+        ensures refused { IfErr result (λ r. IsHoldRefusedAt self.old.copies id.now r self.new.copies) }
         ensures err { OnErr result (self.new ≡ self.old) }
     {
-        self.copies.hold(id, session)?;
-        self.order.touch(self.job, *id);
-        Ok(())
+        let held = self.copies.hold(id, session)?;
+        if held.is_some() {
+            self.order.touch(self.job, *id);
+        }
+        Ok(held)
     }
 
     /// The last number that a fetch had.
@@ -259,10 +266,11 @@ impl JobRow {
         self.copies.leave(id, session);
     }
 
-    /// One hold of the session on the copy less. `NotHeld` where it has none, and then nothing changes.
-    /// Takes no memory.
+    /// One hold of the session on the copy less. `Absent`, `NotHeld` where it has none; a refusal changes
+    /// nothing. Takes no memory.
     pub(crate) fn release_copy(&mut self, id: &ObjectId, session: u32) -> Result<(), Refusal>
         ensures ok { OnOk result (self.new ≡ record self.old { copies = changed (released session) self.old.copies id.now }) }
+        ensures passed { IsOk result → release_check self.old.copies session id.now ≡ None }
         ensures refused { (r : Refusal) → IsErrOf result r → release_check self.old.copies session id.now ≡ Some r }
         ensures err { OnErr result (self.new ≡ self.old) }
     {

@@ -107,11 +107,14 @@ impl Messages {
     }
 
     /// Adds the messages that a step sent for the job from the place. There is room for them: this takes
-    /// no memory.
+    /// no memory. A step that sent nothing leaves nothing behind, so that most steps cost the log nothing.
     pub fn add(&mut self, job: JobNo, from: Place, posts: Items<(Place, Message)>)
         requires { has_room self.old job ≡ true }
         ensures { (other : ℕ) → sent_of (messages_of self.new.logs) other ≡ (if job.0 == other then sent_of (messages_of self.old.logs) other ++ posted from posts else sent_of (messages_of self.old.logs) other) }
     {
+        if posts.as_slice().is_empty() {
+            return;
+        }
         if let Some(log) = self.logs.get_mut(&job) {
             log.add(from, posts);
             return;

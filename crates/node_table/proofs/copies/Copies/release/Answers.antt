@@ -1,21 +1,30 @@
-use Rattle.std.proofs.Common.{Some, sym, ap, ◌∙◌}
+use Rattle.std.proofs.Common.{Option, Some, None, sym, ap, ◌∙◌}
 use Rattle.std.specs.Option.{option_copied_mut}
-use Rattle.node_table.specs.Kept.{released}
-use Rattle.node_table.proofs.Changes.{not_written, on_ok, on_err}
-use Rattle.node_table.proofs.Releasing.{check-found}
+use Rattle.obj_id.specs.declared.refusals.Refusal.TheVariants.{Absent}
+use Rattle.node_table.specs.Kept.{Kept, released}
+use Rattle.node_table.specs.Checks.{release_check_of}
+use Rattle.node_table.proofs.Changes.{on_ok, on_err, checked_there, checked_absent}
 use Rattle.node_table.proofs.copies.Copies.release.Goals as goal
 
-pub returns-in_default-clause-ok : goal.returns-in_default-clause-ok
-returns-in_default-clause-ok c = not_written (released c.args.session) c.args.id.now c.self.inside.by_id.entries c.args.self.now c.self.view_is _ (sym c.get_mut.ensures.value ∙ ap option_copied_mut c.in_default.is) (ap (λ m. m.entries) c.get_mut.follows.holds-at-none)
+pub returns-in_default-clause-refused : goal.returns-in_default-clause-refused
+returns-in_default-clause-refused c r e =
+    checked_absent (λ (o : Option Kept). elim o [ None ↦ Some Absent | Some k ↦ release_check_of k c.args.session ]) c.args.id.now c.self.inside.by_id.entries c.args.self.now c.self.view_is (sym c.get_mut.ensures.value ∙ ap option_copied_mut c.in_default.is)
+    ∙ cc
 
 pub returns-clause-ok : goal.returns-clause-ok
 returns-clause-ok c =
     on_ok (released c.args.session) c.args.id.now c.self.inside.by_id.entries c.args.self.now c.self.view_is c.release.result _ c.in-Some.copy.now c.release.new.self c.self.invariant (sym c.get_mut.ensures.value ∙ ap option_copied_mut c.in-Some.is) c.release.ensures.ok (c.get_mut.follows.holds c.release.new.self).0
 
-pub returns-clause-err : goal.returns-clause-err
-returns-clause-err c =
-    on_err (released c.args.session) c.args.id.now c.self.inside.by_id.entries c.args.self.now c.self.view_is c.release.result _ c.in-Some.copy.now c.release.new.self (sym c.get_mut.ensures.value ∙ ap option_copied_mut c.in-Some.is) c.release.ensures.err (c.get_mut.follows.holds c.release.new.self).0
+pub returns-clause-passed : goal.returns-clause-passed
+returns-clause-passed c ok =
+    checked_there (λ (o : Option Kept). elim o [ None ↦ Some Absent | Some k ↦ release_check_of k c.args.session ]) c.args.id.now c.self.inside.by_id.entries c.args.self.now c.in-Some.copy.now c.self.view_is (sym c.get_mut.ensures.value ∙ ap option_copied_mut c.in-Some.is)
+    ∙ c.release.ensures.passed ok
 
 pub returns-clause-refused : goal.returns-clause-refused
 returns-clause-refused c r e =
-    check-found c.self.inside.by_id.entries c.args.self.now c.args.session c.args.id.now c.in-Some.copy.now (Some r) c.self.view_is (sym c.get_mut.ensures.value ∙ ap option_copied_mut c.in-Some.is) (c.release.ensures.refused r e)
+    checked_there (λ (o : Option Kept). elim o [ None ↦ Some Absent | Some k ↦ release_check_of k c.args.session ]) c.args.id.now c.self.inside.by_id.entries c.args.self.now c.in-Some.copy.now c.self.view_is (sym c.get_mut.ensures.value ∙ ap option_copied_mut c.in-Some.is)
+    ∙ c.release.ensures.refused r e
+
+pub returns-clause-err : goal.returns-clause-err
+returns-clause-err c =
+    on_err (released c.args.session) c.args.id.now c.self.inside.by_id.entries c.args.self.now c.self.view_is c.release.result _ c.in-Some.copy.now c.release.new.self (sym c.get_mut.ensures.value ∙ ap option_copied_mut c.in-Some.is) c.release.ensures.err (c.get_mut.follows.holds c.release.new.self).0

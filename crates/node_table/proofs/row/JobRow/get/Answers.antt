@@ -1,44 +1,20 @@
-use Rattle.std.proofs.Common.{option_map, sym, ap, subst, ◌∙◌}
+use Rattle.std.proofs.Common.{◌≡◌, true, ◌==◌, sym, subst}
 use Rattle.obj_id.specs.declared.commands.Command.TheVariants as command
 use Rattle.private_store.specs.declared.inputs.Input.TheVariants as input
-use Rattle.private_store.specs.Tables.{at}
-use Rattle.private_store.specs.Copies.{is_created, is_sealed}
-use Rattle.private_store.specs.Kept.{is_fetching}
-use Rattle.node_table.specs.Kept.{Kept}
-use Rattle.node_table.specs.Shown.{TakesStep}
-use Rattle.node_table.proofs.Getting.{each_ok, some_at, created_told, pending_told}
+use Rattle.private_store.specs.Contents.{Contents}
+use Rattle.spill_work.specs.Line.{WorkLine}
+use Rattle.node_table.specs.Outcomes.{given_of}
+use Rattle.node_table.specs.Shown.{IsShown, TakesStep}
+use Rattle.node_table.proofs.Getting.{each_ok}
 use Rattle.node_table.proofs.row.JobRow.get.Goals as goal
 
-pub returns-in-None-clause-ok : goal.returns-in-None-clause-ok
-returns-in-None-clause-ok c = each_ok c.begin_fetch.result (λ o told line contents mine h. told c.args.session line contents mine h) c.begin_fetch.ensures.ok
+pub returns-in-Some-clause-ok : goal.returns-in-Some-clause-ok
+returns-in-Some-clause-ok c line contents mine h =
+    subst (λ told. TakesStep c.args.node c.args.self.now line contents (input.Call c.args.session (command.Get c.args.id.now)) told c.get_sealed.new.self line) (sym c.only.ensures)
+    ((rw c.in-Some.is at c.in_ok-reply.ensures.some) c.args.node line contents mine h)
 
-pub returns-in-Some-Sealed-clause-ok : goal.returns-in-Some-Sealed-clause-ok
-returns-in-Some-Sealed-clause-ok c =
-    let k = some_at c.args.self.now.copies c.args.id.now c.in-Some-Sealed.field-0 (ap (λ t. option_map (λ (k : Kept). k.copy.state) (at t c.args.id.now)) (sym c.copies.ensures.copies) ∙ sym c.state_of.ensures ∙ c.in-Some-Sealed.is) in
-    each_ok c.get_sealed.result (λ o told line contents mine h. told c.args.node line contents mine h k.0 k.1 (ap is_sealed (k.2 ∙ c.in-Some-Sealed.field-0-is))) c.get_sealed.ensures.ok
-
-pub returns-in-Some-Fetching-clause-ok : goal.returns-in-Some-Fetching-clause-ok
-returns-in-Some-Fetching-clause-ok c =
-    let k = some_at c.args.self.now.copies c.args.id.now c.in-Some-Fetching.field-0 (ap (λ t. option_map (λ (k : Kept). k.copy.state) (at t c.args.id.now)) (sym c.copies.ensures.copies) ∙ sym c.state_of.ensures ∙ c.in-Some-Fetching.is) in
-    each_ok c.locate_again.result (λ o told line contents mine h. told c.args.session line contents mine h k.0 k.1 (ap is_fetching (k.2 ∙ c.in-Some-Fetching.field-0-is))) c.locate_again.ensures.ok
-
-pub returns-in-Some-Created-clause-ok : goal.returns-in-Some-Created-clause-ok
-returns-in-Some-Created-clause-ok c =
-    let k = some_at c.args.self.now.copies c.args.id.now c.in-Some-Created.field-0 (ap (λ t. option_map (λ (k : Kept). k.copy.state) (at t c.args.id.now)) (sym c.copies.ensures.copies) ∙ sym c.state_of.ensures ∙ c.in-Some-Created.is) in
-    each_ok c.told.result (λ o said line contents mine h.
-    subst (λ t. TakesStep c.args.node c.args.self.now line contents (input.Call c.args.session (command.Get c.args.id.now)) t c.args.self.now line) (sym said)
-    (created_told c.args.node c.args.self.now line contents c.args.session c.args.id.now mine h k.0 k.1 (k.2 ∙ c.in-Some-Created.field-0-is))) c.told.ensures.ok
-
-pub returns-in-Some-Restoring-clause-ok : goal.returns-in-Some-Restoring-clause-ok
-returns-in-Some-Restoring-clause-ok c =
-    let k = some_at c.args.self.now.copies c.args.id.now c.in-Some-Restoring.field-0 (ap (λ t. option_map (λ (k : Kept). k.copy.state) (at t c.args.id.now)) (sym c.copies.ensures.copies) ∙ sym c.state_of.ensures ∙ c.in-Some-Restoring.is) in
-    each_ok c.told-in-Some-Restoring.result (λ o said line contents mine h.
-    subst (λ t. TakesStep c.args.node c.args.self.now line contents (input.Call c.args.session (command.Get c.args.id.now)) t c.args.self.now line) (sym said)
-    (pending_told c.args.node c.args.self.now line contents c.args.session c.args.id.now mine h k.0 k.1 (ap is_created (k.2 ∙ c.in-Some-Restoring.field-0-is)) (ap is_sealed (k.2 ∙ c.in-Some-Restoring.field-0-is)) (ap is_fetching (k.2 ∙ c.in-Some-Restoring.field-0-is)))) c.told-in-Some-Restoring.ensures.ok
-
-pub returns-in-Some-Away-clause-ok : goal.returns-in-Some-Away-clause-ok
-returns-in-Some-Away-clause-ok c =
-    let k = some_at c.args.self.now.copies c.args.id.now c.in-Some-Away.field-0 (ap (λ t. option_map (λ (k : Kept). k.copy.state) (at t c.args.id.now)) (sym c.copies.ensures.copies) ∙ sym c.state_of.ensures ∙ c.in-Some-Away.is) in
-    each_ok c.told-in-Some-Away.result (λ o said line contents mine h.
-    subst (λ t. TakesStep c.args.node c.args.self.now line contents (input.Call c.args.session (command.Get c.args.id.now)) t c.args.self.now line) (sym said)
-    (pending_told c.args.node c.args.self.now line contents c.args.session c.args.id.now mine h k.0 k.1 (ap is_created (k.2 ∙ c.in-Some-Away.field-0-is)) (ap is_sealed (k.2 ∙ c.in-Some-Away.field-0-is)) (ap is_fetching (k.2 ∙ c.in-Some-Away.field-0-is)))) c.told-in-Some-Away.ensures.ok
+pub returns-clause-ok : goal.returns-clause-ok
+returns-clause-ok c =
+    each_ok c.get_unsealed.result (λ o told. subst (λ row. (line : WorkLine) (contents : Contents) → (c.args.id.now.job.0 == row.job) ≡ true → IsShown row line contents
+    → TakesStep c.args.node row line contents (input.Call c.args.session (command.Get c.args.id.now)) (given_of o) c.get_unsealed.new.self line)
+    (rw c.in_default.is at c.in_ok-reply.ensures.same) (told c.args.session)) c.get_unsealed.ensures.ok

@@ -1,7 +1,10 @@
-use Rattle.std.proofs.Common.{refl}
+use Rattle.std.proofs.Common.{refl, sym, ◌∙◌}
 use Rattle.node_table.specs.Kept.{held}
 use Rattle.node_table.proofs.Places.{now_placed}
+use Rattle.node_table.proofs.Holding.{copies_held}
 use Rattle.node_table.proofs.row.JobRow.hold_copy.Goals as goal
 
-pub invariant_of-self-2 : goal.invariant_of-self-2
-invariant_of-self-2 c = now_placed c.self.inside.window.placed c.self.inside.copies c.self.invariant (held c.args.session) (λ z. refl) c.args.id.now c.hold.new.self c.in_ok-hold.ensures.ok
+pub invariant_of-self-then-is_some : goal.invariant_of-self-then-is_some
+invariant_of-self-then-is_some c =
+    now_placed c.self.inside.window.placed c.self.inside.copies c.self.invariant (held c.args.session) (λ z. refl) c.args.id.now c.hold.new.self
+    (copies_held c.self.inside.copies c.hold.new.self c.args.session c.args.id.now c.in_ok-held.held (sym c.is_some.ensures ∙ c.if-is_some.true) c.in_ok-held.ensures.some)
