@@ -51,7 +51,7 @@ length-task task job index h lj li = omega (arith, h, length-append (task ++ job
 pub bytes-drop : (bytes : List ℕ) (n : ℕ) → ((k : ℕ) → get_or bytes k 0 < 256) → (k : ℕ) → get_or (drop n bytes) k 0 < 256
 bytes-drop bytes n h k = let same = get_or-drop n bytes k 0 in omega (arith, h (n + k), same)
 
-bytes-take : (bytes : List ℕ) (n : ℕ) → ((k : ℕ) → get_or bytes k 0 < 256) → (k : ℕ) → get_or (take n bytes) k 0 < 256
+pub bytes-take : (bytes : List ℕ) (n : ℕ) → ((k : ℕ) → get_or bytes k 0 < 256) → (k : ℕ) → get_or (take n bytes) k 0 < 256
 bytes-take bytes n h =
     let P : List ℕ → Type 0 = λ xs. (k : ℕ) → get_or xs k 0 < 256 in
     bytes-front (take n bytes) (drop n bytes) (subst P (sym (take-append-drop n bytes)) h)

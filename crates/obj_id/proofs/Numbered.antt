@@ -53,18 +53,6 @@ numbered-task_number task is short =
     sym (take-append-drop 12 task.0) ∙ (λ i. zeros i ++ sym number i) in
     λ i. record { 0 = bytes i }
 
--- eight bytes are read
-pub from_be_bytes-take : (xs : List ℕ) → from_be_bytes w64 (take 8 xs) ≡ from_be_bytes w64 xs
-from_be_bytes-take [] = refl
-from_be_bytes-take (a ∷ []) = refl
-from_be_bytes-take (a ∷ b ∷ []) = refl
-from_be_bytes-take (a ∷ b ∷ c ∷ []) = refl
-from_be_bytes-take (a ∷ b ∷ c ∷ d ∷ []) = refl
-from_be_bytes-take (a ∷ b ∷ c ∷ d ∷ e ∷ []) = refl
-from_be_bytes-take (a ∷ b ∷ c ∷ d ∷ e ∷ f ∷ []) = refl
-from_be_bytes-take (a ∷ b ∷ c ∷ d ∷ e ∷ f ∷ g ∷ []) = refl
-from_be_bytes-take (a ∷ b ∷ c ∷ d ∷ e ∷ f ∷ g ∷ h ∷ xs) = refl
-
 -- a task's number has 64 bits
 pub task_number-lt : (task : TaskNo) → IsTask task → task_number task < 2 ^ 64
 unfolding task_number

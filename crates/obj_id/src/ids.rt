@@ -1,12 +1,76 @@
 //! Tasks, jobs and objects, by name.
-ghost use Rattle.std.specs.Prelude.{◌≡◌, ◌++◌, ◌≤◌, IfOk, IfErr};
+ghost use Rattle.std.specs.Prelude.{◌≡◌, ◌++◌, ◌≤◌, take, drop, IfOk, IfErr};
+ghost use Rattle.std.specs.Int.{from_be_bytes, w32, w64};
+ghost use Rattle.std.specs.Cmp.Rules.{comparing};
+ghost use Rattle.std.proofs.Common.{rules, refl};
+ghost use Rattle.std.specs.Ordering.{nat_cmp};
+ghost use Rattle.std.specs.Cmp.Lexicographic.{slice_cmp, lists_agrees};
+ghost use Rattle.obj_id.specs.Ids.{task_cmp};
 
 use crate::Refusal;
+use std::cmp::Ordering;
 use std::marker::Model;
 
-/// The task that made an object: 20 bytes, all of them allowed.
-#[derive(Clone, Copy, Debug, PartialEq, Eq, PartialOrd, Ord, Hash)]
+/// The task that made an object: 20 bytes, all of them allowed. Tasks are ordered as their bytes.
+#[derive(Clone, Copy, Debug, PartialEq, Eq, PartialOrd, Hash)]
 pub struct TaskNo(pub [u8; 20]);
+
+impl Ord for TaskNo {
+    ghost cmp = { task_cmp };
+
+    ghost total = { Prim.search (comparing, rules) };
+
+    ghost matches_partial_cmp = { λ x y. lists_agrees (λ a b. refl) x.0 y.0 };
+
+    ghost matches_eq = { Prim.search (comparing, rules) };
+
+    fn cmp(&self, other: &TaskNo) -> Ordering {
+        compare(self.0, other.0)
+    }
+}
+
+/// The order of 20 bytes, several at once: the ids of a job are mostly of few tasks, so that most of their
+/// bytes are the same.
+fn compare(ours: [u8; 20], others: [u8; 20]) -> Ordering
+    ensures { result ≡ slice_cmp nat_cmp ours others }
+{
+    let (first, other_first) = (front(&ours), front(&others));
+    if first != other_first {
+        return first.cmp(&other_first);
+    }
+    let (second, other_second) = (middle(&ours), middle(&others));
+    if second != other_second {
+        return second.cmp(&other_second);
+    }
+    back(&ours).cmp(&back(&others))
+}
+
+/// The first 8 bytes as a number, with the highest byte first.
+fn front(bytes: &[u8; 20]) -> u64
+    ensures { result ≡ from_be_bytes w64 (take 8 bytes.now) }
+{
+    let mut front = [0; 8];
+    front.copy_from_slice(&bytes[..8]);
+    u64::from_be_bytes(front)
+}
+
+/// The 4 bytes between the first 8 and the last 8 as a number, with the highest byte first.
+fn middle(bytes: &[u8; 20]) -> u32
+    ensures { result ≡ from_be_bytes w32 (take 4 (drop 8 bytes.now)) }
+{
+    let mut middle = [0; 4];
+    middle.copy_from_slice(&bytes[8..12]);
+    u32::from_be_bytes(middle)
+}
+
+/// The last 8 bytes as a number, with the highest byte first.
+pub(crate) fn back(bytes: &[u8; 20]) -> u64
+    ensures { result ≡ from_be_bytes w64 (drop 12 bytes.now) }
+{
+    let mut back = [0; 8];
+    back.copy_from_slice(&bytes[12..]);
+    u64::from_be_bytes(back)
+}
 
 /// A job's number. 0 is the number of no job.
 #[derive(Clone, Copy, Debug, PartialEq, Eq, PartialOrd, Ord, Hash)]

@@ -7,6 +7,7 @@ ghost use Rattle.obj_id.specs.Texts.{IsIdText, IsOtherText, IsOwnText, IsShortTa
 ghost use Rattle.obj_id.specs.declared.ids.ObjectId.{ObjectId};
 ghost use Rattle.obj_id.specs.declared.ids.TaskNo.{TaskNo};
 
+use crate::ids::back;
 use crate::numbers::{read_u32, read_u64};
 use crate::{JobNo, ObjectId, Refusal, TaskNo};
 use hex::FromHex;
@@ -207,9 +208,7 @@ impl TaskNo {
     fn number(&self) -> u64
         ensures { result ≡ task_number self.now }
     {
-        let mut number = [0; 8];
-        number.copy_from_slice(&self.0[12..]);
-        u64::from_be_bytes(number)
+        back(&self.0)
     }
 }
 
