@@ -1,21 +1,21 @@
 -- A change written through what a map of copies lends.
-use Rattle.std.proofs.Common.{◌≡◌, Bool, true, not, cond, [], ◌∷◌, Option, Some, None, refl, sym, ap, ◌∙◌}
+use Rattle.std.proofs.Common.{◌≡◌, Bool, true, not, cond, List, [], ◌∷◌, Option, Some, None, refl, sym, ap, ◌∙◌}
 use Rattle.std.specs.Prelude.{false, is_err, OnOk, OnErr, Ok, Err}
 use Rattle.std.specs.declared.result.Result.{Result}
 use Rattle.std.specs.Option.{option_map_or}
-use Rattle.std.specs.List.Sorted.{IsStrictlySortedBy}
-use Rattle.std.specs.Map.{keys_of, lookup, set_value}
+use Rattle.std.specs.Map.{lookup, set_value}
 use Rattle.std.proofs.lemmas.Map.Steps.{set_value_same}
 use Rattle.obj_id.specs.declared.ids.ObjectId.{ObjectId}
-use Rattle.obj_id.specs.Ids.{id_cmp}
+use Rattle.obj_id.specs.Ids.{id_cmp, id_eq}
 use Rattle.std.specs.Ordering.{is_eq}
 use Rattle.std.specs.declared.cmp.Ordering.{Ordering}
 use Rattle.std.specs.declared.cmp.Ordering.TheVariants.{Less, Equal, Greater}
 use Rattle.std.specs.FinMap.Entries.{by_order}
 use Rattle.obj_id.proofs.SameIds.{same_id-itself}
 use Rattle.private_store.specs.Tables.{ById, at, with_entry, without_entry}
-use Rattle.private_store.proofs.ObjectMaps.{is_id, at-lookup, with_entry-set, without_entry-absent}
-use Rattle.node_table.specs.Entries.{changed}
+use Rattle.private_store.proofs.ObjectMaps.{at-lookup, without_entry-absent}
+use Rattle.node_table.specs.Entries.{by_rising_id, changed}
+use Rattle.node_table.proofs.Rising.{at-rising, set-rising}
 
 module _ {X : Type 0} (f : X → X) (id : ObjectId) (es : ById X) where
   -- the entry is there
@@ -25,33 +25,30 @@ module _ {X : Type 0} (f : X → X) (id : ObjectId) (es : ById X) where
   pub changed-absent : at es id ≡ None → changed f es id ≡ es
   changed-absent none = ap (λ o. option_map_or (λ y. with_entry es id (f y)) o es) none
 
-  pub set-changed : (x y : X) → IsStrictlySortedBy id_cmp (keys_of es) → lookup (is_id id) es ≡ Some x → y ≡ f x → set_value (is_id id) es y ≡ changed f es id
-  set-changed x y sorted found is =
-      ap (set_value (is_id id) es) is ∙ with_entry-set id es x (f x) sorted found ∙ sym (changed-found x (at-lookup id es ∙ found))
-
 -- what is written through a loan of the entry is the table changed, as its holder sees it
-module _ {X : Type 0} (f : X → X) (id : ObjectId) (es now : ById X) (seen : es ≡ now) where
-  pub not_written : (new : ById X) → lookup (is_id id) es ≡ None → new ≡ es → new ≡ changed f now id
-  not_written new none same = same ∙ sym (changed-absent f id es (at-lookup id es ∙ none)) ∙ ap (λ t. changed f t id) seen
+module _ {X : Type 0} (f : X → X) (id : ObjectId) (es : List (ObjectId × X)) (now : ById X) (seen : by_rising_id es ≡ now) where
+  pub not_written : (new : List (ObjectId × X)) → lookup (id_eq id) es ≡ None → new ≡ es → by_rising_id new ≡ changed f now id
+  not_written new none same = ap by_rising_id same ∙ sym (changed-absent f id (by_rising_id es) (at-rising es id ∙ none)) ∙ ap (λ t. changed f t id) seen
 
-  pub written : (new : ById X) (x y : X) → IsStrictlySortedBy id_cmp (keys_of es) → lookup (is_id id) es ≡ Some x → y ≡ f x → new ≡ set_value (is_id id) es y → new ≡ changed f now id
-  written new x y sorted found is set = set ∙ set-changed f id es x y sorted found is ∙ ap (λ t. changed f t id) seen
+  pub written : (new : List (ObjectId × X)) (x y : X) → lookup (id_eq id) es ≡ Some x → y ≡ f x → new ≡ set_value (id_eq id) es y → by_rising_id new ≡ changed f now id
+  written new x y found is set =
+      ap by_rising_id (set ∙ ap (set_value (id_eq id) es) is) ∙ set-rising id es x (f x) found ∙ sym (changed-found f id (by_rising_id es) x (at-rising es id ∙ found)) ∙ ap (λ t. changed f t id) seen
 
   -- where the write was refused, and left what it was lent
-  pub unwritten : (new : ById X) (x y : X) → lookup (is_id id) es ≡ Some x → y ≡ x → new ≡ set_value (is_id id) es y → new ≡ now
-  unwritten new x y found is set = set ∙ ap (set_value (is_id id) es) is ∙ set_value_same (is_id id) es x found ∙ seen
+  pub unwritten : (new : List (ObjectId × X)) (x y : X) → lookup (id_eq id) es ≡ Some x → y ≡ x → new ≡ set_value (id_eq id) es y → by_rising_id new ≡ now
+  unwritten new x y found is set = ap by_rising_id (set ∙ ap (set_value (id_eq id) es) is ∙ set_value_same (id_eq id) es x found) ∙ seen
 
-  pub on_ok : {T E : Type 0} (r : Result T E) (new : ById X) (x y : X) → IsStrictlySortedBy id_cmp (keys_of es) → lookup (is_id id) es ≡ Some x → OnOk r (y ≡ f x) → new ≡ set_value (is_id id) es y → OnOk r (new ≡ changed f now id)
-  on_ok (Ok v) new x y sorted found is set = written new x y sorted found is set
-  on_ok (Err e) new x y sorted found is set = tt
+  pub on_ok : {T E : Type 0} (r : Result T E) (new : List (ObjectId × X)) (x y : X) → lookup (id_eq id) es ≡ Some x → OnOk r (y ≡ f x) → new ≡ set_value (id_eq id) es y → OnOk r (by_rising_id new ≡ changed f now id)
+  on_ok (Ok v) new x y found is set = written new x y found is set
+  on_ok (Err e) new x y found is set = tt
 
-  pub on_err : {T E : Type 0} (r : Result T E) (new : ById X) (x y : X) → lookup (is_id id) es ≡ Some x → OnErr r (y ≡ x) → new ≡ set_value (is_id id) es y → OnErr r (new ≡ now)
+  pub on_err : {T E : Type 0} (r : Result T E) (new : List (ObjectId × X)) (x y : X) → lookup (id_eq id) es ≡ Some x → OnErr r (y ≡ x) → new ≡ set_value (id_eq id) es y → OnErr r (by_rising_id new ≡ now)
   on_err (Ok v) new x y found is set = tt
   on_err (Err e) new x y found is set = unwritten new x y found is set
 
 -- a test of an entry, where it is there
-pub tested : {X : Type 0} (test : X → Bool) (id : ObjectId) (es now : ById X) (x : X) → es ≡ now → lookup (is_id id) es ≡ Some x → option_map_or test (at now id) true ≡ true → test x ≡ true
-tested test id es now x seen found h = ap (λ o. option_map_or test o true) (sym (at-lookup id es ∙ found)) ∙ ap (λ t. option_map_or test (at t id) true) seen ∙ h
+pub tested : {X : Type 0} (test : X → Bool) (id : ObjectId) (es : List (ObjectId × X)) (now : ById X) (x : X) → by_rising_id es ≡ now → lookup (id_eq id) es ≡ Some x → option_map_or test (at now id) true ≡ true → test x ≡ true
+tested test id es now x seen found h = ap (λ o. option_map_or test o true) (sym (at-rising es id ∙ found)) ∙ ap (λ t. option_map_or test (at t id) true) seen ∙ h
 
 -- an entry put where there was none, and taken out again
 pub put_back : {X : Type 0} (id : ObjectId) (es : ById X) (x : X) → at es id ≡ None → without_entry (with_entry es id x) id ≡ es
@@ -67,11 +64,11 @@ put_back id (e ∷ es) x none = by (id_cmp id e.0) refl (put_back id es x) none
     by Greater greater rest gone = ap (λ o. cond (not (is_eq o)) (e ∷ without_entry (with_entry es id x) id) (without_entry (with_entry es id x) id)) greater ∙ ap (λ t. e ∷ t) (rest gone)
 
 -- what a check says of a table, by the entry that the map of the table lends, and where there is none
-pub checked_there : {X P : Type 0} (check : Option X → P) (id : ObjectId) (es now : ById X) (x : X) → es ≡ now → lookup (is_id id) es ≡ Some x → check (at now id) ≡ check (Some x)
-checked_there check id es now x seen found = ap check (ap (λ t. at t id) (sym seen) ∙ at-lookup id es ∙ found)
+pub checked_there : {X P : Type 0} (check : Option X → P) (id : ObjectId) (es : List (ObjectId × X)) (now : ById X) (x : X) → by_rising_id es ≡ now → lookup (id_eq id) es ≡ Some x → check (at now id) ≡ check (Some x)
+checked_there check id es now x seen found = ap check (ap (λ t. at t id) (sym seen) ∙ at-rising es id ∙ found)
 
-pub checked_absent : {X P : Type 0} (check : Option X → P) (id : ObjectId) (es now : ById X) → es ≡ now → lookup (is_id id) es ≡ None → check (at now id) ≡ check None
-checked_absent check id es now seen none = ap check (ap (λ t. at t id) (sym seen) ∙ at-lookup id es ∙ none)
+pub checked_absent : {X P : Type 0} (check : Option X → P) (id : ObjectId) (es : List (ObjectId × X)) (now : ById X) → by_rising_id es ≡ now → lookup (id_eq id) es ≡ None → check (at now id) ≡ check None
+checked_absent check id es now seen none = ap check (ap (λ t. at t id) (sym seen) ∙ at-rising es id ∙ none)
 
 -- what is so of a refusal, where there was one
 pub of_err : {T E P : Type 0} (r : Result T E) → OnErr r P → is_err r ≡ true → P

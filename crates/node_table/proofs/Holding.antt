@@ -1,43 +1,41 @@
 -- A hold that was asked for of a copy that the map of the copies lends, as the whole map sees it.
-use Rattle.std.proofs.Common.{◌≡◌, ℕ, Some, None, ap, ◌∙◌}
+use Rattle.std.proofs.Common.{◌≡◌, ℕ, List, Some, None, ap, ◌∙◌}
 use Rattle.std.specs.Prelude.{true, false, is_some, IfOk, IfErr, IfSome, IfNone, Ok, Err, Option}
 use Rattle.std.specs.declared.result.Result.{Result}
 use Rattle.std.specs.Option.{option_map_or}
-use Rattle.std.specs.List.Sorted.{IsStrictlySortedBy}
-use Rattle.std.specs.Map.{keys_of, lookup, set_value}
+use Rattle.std.specs.Map.{lookup, set_value}
 use Rattle.obj_id.specs.declared.ids.ObjectId.{ObjectId}
 use Rattle.obj_id.specs.declared.refusals.Refusal.{Refusal}
-use Rattle.obj_id.specs.Ids.{id_cmp}
+use Rattle.obj_id.specs.Ids.{id_eq}
 use Rattle.private_store.specs.Tables.{ById, at}
 use Rattle.private_store.specs.Copies.{is_sealed}
-use Rattle.private_store.proofs.ObjectMaps.{is_id}
 use Rattle.private_store.proofs.Tests.{true_false}
-use Rattle.node_table.specs.Entries.{changed}
+use Rattle.node_table.specs.Entries.{by_rising_id, changed}
 use Rattle.node_table.specs.Kept.{Kept, held}
 use Rattle.node_table.specs.Holding.{IsHeld, IsUnsealed, IsHoldRefused, IsHeldAt, IsUnsealedAt, IsHoldRefusedAt}
 use Rattle.node_table.proofs.Changes.{written, unwritten, checked_there, checked_absent}
 
-module _ (session : ℕ) (id : ObjectId) (es now : ById Kept) (seen : es ≡ now) (x y : Kept) (found : lookup (is_id id) es ≡ Some x) (new : ById Kept) (set : new ≡ set_value (is_id id) es y) where
+module _ (session : ℕ) (id : ObjectId) (es : List (ObjectId × Kept)) (now : ById Kept) (seen : by_rising_id es ≡ now) (x y : Kept) (found : lookup (id_eq id) es ≡ Some x) (new : List (ObjectId × Kept)) (set : new ≡ set_value (id_eq id) es y) where
   there : at now id ≡ Some x
   there = checked_there (λ (o : Option Kept). o) id es now x seen found
 
-  pub held_at : (r : Result (Option ℕ) Refusal) → IsStrictlySortedBy id_cmp (keys_of es) → IfOk r (λ o. IfSome o (λ n. IsHeld x session n y)) → IfOk r (λ o. IfSome o (λ n. IsHeldAt now session id n new))
-  held_at (Ok (Some n)) sorted h = record { kept = x; found = there; sealed = h.sealed; passed = h.passed; length = h.length; copies = written (held session) id es now seen new x y sorted found h.copy set }
-  held_at (Ok None) sorted h = tt
-  held_at (Err e) sorted h = tt
+  pub held_at : (r : Result (Option ℕ) Refusal) → IfOk r (λ o. IfSome o (λ n. IsHeld x session n y)) → IfOk r (λ o. IfSome o (λ n. IsHeldAt now session id n (by_rising_id new)))
+  held_at (Ok (Some n)) h = record { kept = x; found = there; sealed = h.sealed; passed = h.passed; length = h.length; copies = written (held session) id es now seen new x y found h.copy set }
+  held_at (Ok None) h = tt
+  held_at (Err e) h = tt
 
-  pub unsealed_at : (r : Result (Option ℕ) Refusal) → IfOk r (λ o. IfNone o (IsUnsealed x y)) → IfOk r (λ o. IfNone o (IsUnsealedAt now id new))
+  pub unsealed_at : (r : Result (Option ℕ) Refusal) → IfOk r (λ o. IfNone o (IsUnsealed x y)) → IfOk r (λ o. IfNone o (IsUnsealedAt now id (by_rising_id new)))
   unsealed_at (Ok (Some n)) h = tt
   unsealed_at (Ok None) h = record { unsealed = ap (λ (o : Option Kept). option_map_or (λ k. is_sealed k.copy.state) o false) there ∙ h.unsealed; same = unwritten (held session) id es now seen new x y found h.same set }
   unsealed_at (Err e) h = tt
 
-  pub refused_at : (r : Result (Option ℕ) Refusal) → IfErr r (λ refusal. IsHoldRefused x refusal y) → IfErr r (λ refusal. IsHoldRefusedAt now id refusal new)
+  pub refused_at : (r : Result (Option ℕ) Refusal) → IfErr r (λ refusal. IsHoldRefused x refusal y) → IfErr r (λ refusal. IsHoldRefusedAt now id refusal (by_rising_id new))
   refused_at (Ok o) h = tt
   refused_at (Err e) h = record { kept = x; found = there; sealed = h.sealed; refused = h.refused; same = unwritten (held session) id es now seen new x y found h.same set }
 
 -- where there is no copy
-pub none_at : (id : ObjectId) (es now new : ById Kept) → es ≡ now → lookup (is_id id) es ≡ None → new ≡ es → IsUnsealedAt now id new
-none_at id es now new seen none same = record { unsealed = checked_absent (λ (o : Option Kept). option_map_or (λ k. is_sealed k.copy.state) o false) id es now seen none; same = same ∙ seen }
+pub none_at : (id : ObjectId) (es : List (ObjectId × Kept)) (now : ById Kept) (new : List (ObjectId × Kept)) → by_rising_id es ≡ now → lookup (id_eq id) es ≡ None → new ≡ es → IsUnsealedAt now id (by_rising_id new)
+none_at id es now new seen none same = record { unsealed = checked_absent (λ (o : Option Kept). option_map_or (λ k. is_sealed k.copy.state) o false) id es now seen none; same = ap by_rising_id same ∙ seen }
 
 -- the copies after a hold that was given
 pub copies_held : (old new : ById Kept) (session : ℕ) (id : ObjectId) (o : Option ℕ) → is_some o ≡ true → IfSome o (λ n. IsHeldAt old session id n new) → new ≡ changed (held session) old id

@@ -1,6 +1,7 @@
 mod Changes
 pub mod CopyTables
 pub mod Places
+pub mod Rising
 pub mod Stepping
 pub mod ByChecks
 pub mod Passed
@@ -23,3 +24,4 @@ pub mod Replacing
 pub mod Creating
 pub mod Asking
 pub mod Lending
+pub mod Listed

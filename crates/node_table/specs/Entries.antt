@@ -1,8 +1,13 @@
--- A change of one entry of a table by object, or of each.
-use Rattle.std.specs.Prelude.{not, List, map, filter, fold}
+-- Entries by object: a table of them, and a change of one of its entries, or of each.
+use Rattle.std.specs.Prelude.{not, List, [], ◌∷◌, map, filter, fold}
 use Rattle.std.specs.Option.{option_map_or}
 use Rattle.obj_id.specs.declared.ids.ObjectId.{ObjectId}
 use Rattle.private_store.specs.Tables.{ById, at, with_entry, is_among}
+
+-- the entries by rising id, however they stand; of two of one id the first counts
+abbrev pub by_rising_id : {X : Type 0} → List (ObjectId × X) → ById X
+by_rising_id [] = []
+by_rising_id (e ∷ es) = with_entry (by_rising_id es) e.0 e.1
 
 -- the entry of the id changed, if there is one
 abbrev pub changed : {X : Type 0} → (X → X) → ById X → ObjectId → ById X

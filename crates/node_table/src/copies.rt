@@ -11,30 +11,26 @@ ghost use Rattle.std.specs.Prelude.{◌≡◌, [], true, Some, None, OnOk, OnErr
 ghost use Rattle.node_table.specs.Usages.{item_of, total, window_bytes as window_bytes_lem, device_bytes as device_bytes_lem};
 
 use crate::copy::RowCopy;
+use indexmap::IndexMap;
 use obj_id::{Digest, Items, ObjectId, OwnItem, Refusal};
 use std::alloc::{AllocError, Global};
-use std::collections::BTreeMap;
 use std::marker::Model;
 
 /// The copies of a job. A contract sees them by rising id.
 #[derive(Drop)]
 pub struct Copies {
-    by_id: BTreeMap<ObjectId, RowCopy>,
+    // in no order, so that a look-up costs the same whatever their number
+    by_id: IndexMap<ObjectId, RowCopy>,
 }
 
 impl Model for Copies {
     ghost use Rattle.private_store.specs.Tables.{ById};
+    ghost use Rattle.node_table.specs.Entries.{by_rising_id};
     ghost use Rattle.node_table.specs.Kept.{Kept};
 
     ghost Value = { ById Kept };
 
-    ghost view = { λ c. c.by_id.entries };
-
-    ghost use Rattle.std.specs.List.Sorted.{IsStrictlySortedBy};
-    ghost use Rattle.std.specs.Map.{keys_of};
-    ghost use Rattle.obj_id.specs.Ids.{id_cmp};
-
-    ghost invariant = { λ c. IsStrictlySortedBy id_cmp (keys_of c.by_id.entries) };
+    ghost view = { λ c. by_rising_id c.by_id.entries };
 }
 
 impl Copies {
@@ -43,7 +39,7 @@ impl Copies {
         ensures { result ≡ [] }
     {
         Copies {
-            by_id: BTreeMap::new(alloc),
+            by_id: IndexMap::new(alloc),
         }
     }
 
@@ -61,15 +57,16 @@ impl Copies {
         self.by_id.get(id)
     }
 
-    /// The copies as List shows them, by rising id. Takes a walk over them, and memory for each.
+    /// The copies as List shows them, by rising id. Takes a walk over them, a sort, and memory for each.
     pub fn items(&self, alloc: Global) -> Result<Items<OwnItem>, AllocError>
         ensures { IfOk result (λ items. items ≡ map item_of self.now) }
     {
-        let mut items = Items::new(alloc);
+        let mut items = Vec::new(alloc);
         for (id, copy) in &self.by_id {
             items.push(copy.item(id))?;
         }
-        Ok(items)
+        items.sort_unstable_by_key(|item| item.id);
+        Ok(Items::from_vec(items))
     }
 
     /// The bytes that they take in the window, or `u64::MAX` where they are more. Takes a walk over them.
@@ -107,7 +104,7 @@ impl Copies {
     pub fn remove(&mut self, id: &ObjectId)
         ensures { self.new ≡ without_entry self.old id.now }
     {
-        self.by_id.remove(id);
+        self.by_id.swap_remove(id);
     }
 
     /// The copies of these ids go, as far as they are there. Takes no memory.

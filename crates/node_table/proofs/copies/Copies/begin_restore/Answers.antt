@@ -9,7 +9,7 @@ returns-in_default c = not_written (restoring c.args.offset) c.args.id.now c.sel
 
 pub returns : goal.returns
 returns c =
-    written (restoring c.args.offset) c.args.id.now c.self.inside.by_id.entries c.args.self.now c.self.view_is _ c.in-Some.copy.now c.begin_restore.new.self c.self.invariant (sym c.get_mut.ensures.value ∙ ap option_copied_mut c.in-Some.is) c.begin_restore.ensures (c.get_mut.follows.holds c.begin_restore.new.self).0
+    written (restoring c.args.offset) c.args.id.now c.self.inside.by_id.entries c.args.self.now c.self.view_is _ c.in-Some.copy.now c.begin_restore.new.self (sym c.get_mut.ensures.value ∙ ap option_copied_mut c.in-Some.is) c.begin_restore.ensures (c.get_mut.follows.holds c.begin_restore.new.self).0
 
 pub begin_restore-requires : goal.begin_restore-requires
 begin_restore-requires c = tested can_restore c.args.id.now c.self.inside.by_id.entries c.args.self.now c.in-Some.copy.now c.self.view_is (sym c.get_mut.ensures.value ∙ ap option_copied_mut c.in-Some.is) c.requires

@@ -9,4 +9,4 @@ returns-in_default c = not_written spilling_if c.args.id.now c.self.inside.by_id
 
 pub returns : goal.returns
 returns c =
-    written spilling_if c.args.id.now c.self.inside.by_id.entries c.args.self.now c.self.view_is _ c.in-Some.copy.now c.begin_spill_if.new.self c.self.invariant (sym c.get_mut.ensures.value ∙ ap option_copied_mut c.in-Some.is) c.begin_spill_if.ensures (c.get_mut.follows.holds c.begin_spill_if.new.self).0
+    written spilling_if c.args.id.now c.self.inside.by_id.entries c.args.self.now c.self.view_is _ c.in-Some.copy.now c.begin_spill_if.new.self (sym c.get_mut.ensures.value ∙ ap option_copied_mut c.in-Some.is) c.begin_spill_if.ensures (c.get_mut.follows.holds c.begin_spill_if.new.self).0

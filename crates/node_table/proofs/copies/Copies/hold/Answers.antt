@@ -9,7 +9,7 @@ returns-in_default-clause-none c =
 
 pub returns-clause-some : goal.returns-clause-some
 returns-clause-some c =
-    held_at c.args.session c.args.id.now c.self.inside.by_id.entries c.args.self.now c.self.view_is c.in-Some.copy.now c.hold.new.self (sym c.get_mut.ensures.value ∙ ap option_copied_mut c.in-Some.is) _ (c.get_mut.follows.holds c.hold.new.self).0 c.hold.result c.self.invariant c.hold.ensures.some
+    held_at c.args.session c.args.id.now c.self.inside.by_id.entries c.args.self.now c.self.view_is c.in-Some.copy.now c.hold.new.self (sym c.get_mut.ensures.value ∙ ap option_copied_mut c.in-Some.is) _ (c.get_mut.follows.holds c.hold.new.self).0 c.hold.result c.hold.ensures.some
 
 pub returns-clause-none : goal.returns-clause-none
 returns-clause-none c =

@@ -9,4 +9,4 @@ returns-in_default c = not_written (left c.args.session) c.args.id.now c.self.in
 
 pub returns : goal.returns
 returns c =
-    written (left c.args.session) c.args.id.now c.self.inside.by_id.entries c.args.self.now c.self.view_is _ c.in-Some.copy.now c.leave.new.self c.self.invariant (sym c.get_mut.ensures.value ∙ ap option_copied_mut c.in-Some.is) c.leave.ensures (c.get_mut.follows.holds c.leave.new.self).0
+    written (left c.args.session) c.args.id.now c.self.inside.by_id.entries c.args.self.now c.self.view_is _ c.in-Some.copy.now c.leave.new.self (sym c.get_mut.ensures.value ∙ ap option_copied_mut c.in-Some.is) c.leave.ensures (c.get_mut.follows.holds c.leave.new.self).0

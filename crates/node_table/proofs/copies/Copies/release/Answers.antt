@@ -13,7 +13,7 @@ returns-in_default-clause-refused c r e =
 
 pub returns-clause-ok : goal.returns-clause-ok
 returns-clause-ok c =
-    on_ok (released c.args.session) c.args.id.now c.self.inside.by_id.entries c.args.self.now c.self.view_is c.release.result _ c.in-Some.copy.now c.release.new.self c.self.invariant (sym c.get_mut.ensures.value ∙ ap option_copied_mut c.in-Some.is) c.release.ensures.ok (c.get_mut.follows.holds c.release.new.self).0
+    on_ok (released c.args.session) c.args.id.now c.self.inside.by_id.entries c.args.self.now c.self.view_is c.release.result _ c.in-Some.copy.now c.release.new.self (sym c.get_mut.ensures.value ∙ ap option_copied_mut c.in-Some.is) c.release.ensures.ok (c.get_mut.follows.holds c.release.new.self).0
 
 pub returns-clause-passed : goal.returns-clause-passed
 returns-clause-passed c ok =

@@ -10,7 +10,7 @@ returns-in_default c = not_written (sealed c.args.digest) c.args.id.now c.self.i
 
 pub returns : goal.returns
 returns c =
-    written (sealed c.args.digest) c.args.id.now c.self.inside.by_id.entries c.args.self.now c.self.view_is _ c.in-Some.copy.now c.seal.new.self c.self.invariant (sym c.get_mut.ensures.value ∙ ap option_copied_mut c.in-Some.is) c.seal.ensures (c.get_mut.follows.holds c.seal.new.self).0
+    written (sealed c.args.digest) c.args.id.now c.self.inside.by_id.entries c.args.self.now c.self.view_is _ c.in-Some.copy.now c.seal.new.self (sym c.get_mut.ensures.value ∙ ap option_copied_mut c.in-Some.is) c.seal.ensures (c.get_mut.follows.holds c.seal.new.self).0
 
 pub seal-requires : goal.seal-requires
 seal-requires c = tested (λ (k : Kept). is_created k.copy.state) c.args.id.now c.self.inside.by_id.entries c.args.self.now c.in-Some.copy.now c.self.view_is (sym c.get_mut.ensures.value ∙ ap option_copied_mut c.in-Some.is) c.requires

@@ -9,4 +9,4 @@ returns-in_default c = not_written fault_told c.args.id.now c.self.inside.by_id.
 
 pub returns : goal.returns
 returns c =
-    written fault_told c.args.id.now c.self.inside.by_id.entries c.args.self.now c.self.view_is _ c.in-Some.copy.now c.take_fault.new.self c.self.invariant (sym c.get_mut.ensures.value ∙ ap option_copied_mut c.in-Some.is) c.take_fault.ensures.copy (c.get_mut.follows.holds c.take_fault.new.self).0
+    written fault_told c.args.id.now c.self.inside.by_id.entries c.args.self.now c.self.view_is _ c.in-Some.copy.now c.take_fault.new.self (sym c.get_mut.ensures.value ∙ ap option_copied_mut c.in-Some.is) c.take_fault.ensures.copy (c.get_mut.follows.holds c.take_fault.new.self).0
