@@ -45,8 +45,8 @@ pub none_listed : (es left : List (ObjectId × Kept)) (now : ById Kept) (done : 
     → IsPermutation (map item_of now) (done ++ map item_of left)
 none_listed es left now done none all distinct seen =
     subst (λ t. IsPermutation (map item_of t) (done ++ map item_of left)) seen
-      (subst (λ xs. IsPermutation (map item_of (by_rising_id es)) xs) (sym (λ i. none i ++ map item_of (all i)))
-        (IsPermutation-sym (map item_of es) (map item_of (by_rising_id es)) (IsPermutation-map item_of es (by_rising_id es) (rising-all es distinct))))
+    (subst (λ xs. IsPermutation (map item_of (by_rising_id es)) xs) (sym (λ i. none i ++ map item_of (all i)))
+    (IsPermutation-sym (map item_of es) (map item_of (by_rising_id es)) (IsPermutation-map item_of es (by_rising_id es) (rising-all es distinct))))
 
 pub next_listed : (now : ById Kept) (done new : List OwnItem) (left rest : List (ObjectId × Kept)) (e : ObjectId × Kept) (item : OwnItem) → left ≡ e ∷ rest → item ≡ item_of e → new ≡ done ++ item ∷ []
     → IsPermutation (map item_of now) (done ++ map item_of left) → IsPermutation (map item_of now) (new ++ map item_of rest)
@@ -101,11 +101,11 @@ rises [] up distinct = tt
 rises (i ∷ is) up distinct =
     let ids : List ObjectId = ids_of_items (i ∷ is) in
     sorted_from_all_adjacent id_cmp-IsTotalOrder ids i.id (λ k lt.
-      let within : k + 1 < length (i ∷ is) = subst (λ n. k + 1 < n) (length-map (i ∷ is) (λ (x : OwnItem). x.id)) lt in
-      let one : get_or ids k i.id ≡ (get_or (i ∷ is) k i).id = get_or-map (λ (x : OwnItem). x.id) (i ∷ is) k i i.id (omega (arith, within)) in
-      let next : get_or ids (k + 1) i.id ≡ (get_or (i ∷ is) (k + 1) i).id = get_or-map (λ (x : OwnItem). x.id) (i ∷ is) (k + 1) i i.id within in
-      less (get_or ids k i.id) (get_or ids (k + 1) i.id) ((λ j. is_lt (id_cmp (next j) (one j))) ∙ up k i (omega arith) within)
-        (apart_from_distinct id_eq ids k (k + 1) i.id distinct (omega arith) lt))
+    let within : k + 1 < length (i ∷ is) = subst (λ n. k + 1 < n) (length-map (i ∷ is) (λ (x : OwnItem). x.id)) lt in
+    let one : get_or ids k i.id ≡ (get_or (i ∷ is) k i).id = get_or-map (λ (x : OwnItem). x.id) (i ∷ is) k i i.id (omega (arith, within)) in
+    let next : get_or ids (k + 1) i.id ≡ (get_or (i ∷ is) (k + 1) i).id = get_or-map (λ (x : OwnItem). x.id) (i ∷ is) (k + 1) i i.id within in
+    less (get_or ids k i.id) (get_or ids (k + 1) i.id) ((λ j. is_lt (id_cmp (next j) (one j))) ∙ up k i (omega arith) within)
+    (apart_from_distinct id_eq ids k (k + 1) i.id distinct (omega arith) lt))
 
 both_true : (a b : Bool) → T a → T b → T (a && b)
 both_true true b h k = k
@@ -137,9 +137,9 @@ listed now any items in_order walked sorted up =
     let moved = IsPermutation-map (λ (i : OwnItem). (i.id, i)) (map item_of now) items (IsPermutation-trans (map item_of now) any items walked sorted) in
     let of_table = subst (IsDistinct id_eq) (sym (ids-items now)) (distinct_from_sorted now in_order) in
     let distinct = IsDistinct-IsPermutation id_eq id_eq_equiv.symm (ids_of_items (map item_of now)) (ids_of_items items)
-      (IsPermutation-map (λ (i : OwnItem). i.id) (map item_of now) items (IsPermutation-trans (map item_of now) any items walked sorted)) of_table in
+    (IsPermutation-map (λ (i : OwnItem). i.id) (map item_of now) items (IsPermutation-trans (map item_of now) any items walked sorted)) of_table in
     let same = same_entries id_cmp id_cmp-IsTotalOrder id_cmp-IsAntisymmetric (keyed items) (keyed (map item_of now)) (keyed-sorted items (rises items up distinct)) (subst T (sym (sorted-items now)) in_order) (λ q.
-      at-distinct (keyed items) q
-      ∙ same_found q (keyed (map item_of now)) (keyed items) moved (subst (IsDistinct id_eq) (sym (keys-keyed (map item_of now))) of_table) (subst (IsDistinct id_eq) (sym (keys-keyed items)) distinct)
-      ∙ sym (at-distinct (keyed (map item_of now)) q)) in
+    at-distinct (keyed items) q
+    ∙ same_found q (keyed (map item_of now)) (keyed items) moved (subst (IsDistinct id_eq) (sym (keys-keyed (map item_of now))) of_table) (subst (IsDistinct id_eq) (sym (keys-keyed items)) distinct)
+    ∙ sym (at-distinct (keyed (map item_of now)) q)) in
     sym (keyed-back items) ∙ ap (map (λ e. e.1)) same ∙ keyed-back (map item_of now)

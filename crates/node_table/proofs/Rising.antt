@@ -41,15 +41,15 @@ module _ {X : Type 0} (id : ObjectId) (es new : List (ObjectId × X)) where
   pub with-rising : (x : X) → ((q : ObjectId) → lookup (id_eq q) new ≡ cond (id_eq id q) (Some x) (lookup (id_eq q) es)) → by_rising_id new ≡ with_entry (by_rising_id es) id x
   with-rising x now =
       rising-is new _ (is_sorted-put id_cmp id_cmp-IsTotalOrder id x (by_rising_id es) (rising-sorted es)) (λ q.
-        now q ∙ ap (λ o. cond (id_eq id q) (Some x) o) (sym (at-rising es q)) ∙ ap (λ b. cond b (Some x) (at (by_rising_id es) q)) (sym (same_id-id_eq id q) ∙ same_id-flip id q)
-        ∙ sym (find-put id_cmp id_cmp-IsTotalOrder q id x (by_rising_id es)))
+      now q ∙ ap (λ o. cond (id_eq id q) (Some x) o) (sym (at-rising es q)) ∙ ap (λ b. cond b (Some x) (at (by_rising_id es) q)) (sym (same_id-id_eq id q) ∙ same_id-flip id q)
+      ∙ sym (find-put id_cmp id_cmp-IsTotalOrder q id x (by_rising_id es)))
 
   -- an entry is gone
   pub without-rising : ((q : ObjectId) → lookup (id_eq q) new ≡ cond (id_eq id q) None (lookup (id_eq q) es)) → by_rising_id new ≡ without_entry (by_rising_id es) id
   without-rising now =
       rising-is new _ (is_sorted-where_key id_cmp (λ k. not (same_id id k)) (by_rising_id es) (rising-sorted es)) (λ q.
-        now q ∙ ap (λ o. cond (id_eq id q) None o) (sym (at-rising es q)) ∙ turned (id_eq id q) _ ∙ ap (λ b. cond (not b) (at (by_rising_id es) q) None) (sym (same_id-id_eq id q))
-        ∙ sym (find-where_key id_cmp (λ k. not (same_id id k)) q (λ k tied. ap (λ i. not (same_id id i)) (sym (id_cmp-IsAntisymmetric q k tied))) (by_rising_id es)))
+      now q ∙ ap (λ o. cond (id_eq id q) None o) (sym (at-rising es q)) ∙ turned (id_eq id q) _ ∙ ap (λ b. cond (not b) (at (by_rising_id es) q) None) (sym (same_id-id_eq id q))
+      ∙ sym (find-where_key id_cmp (λ k. not (same_id id k)) q (λ k tied. ap (λ i. not (same_id id i)) (sym (id_cmp-IsAntisymmetric q k tied))) (by_rising_id es)))
     where
       turned : (b : Bool) (o : Option X) → cond b None o ≡ cond (not b) o None
       turned true o = refl
@@ -95,7 +95,7 @@ module _ {X : Type 0} where
   rising-all (e ∷ es) distinct =
       let absent = lookup-none (id_eq e.0) es (none_past_head id_eq_equiv e.0 e es distinct (id_eq-itself e.0)) in
       IsPermutation-trans (e ∷ es) (e ∷ by_rising_id es) (with_entry (by_rising_id es) e.0 e.1) (IsPermutation-cons e es (by_rising_id es) (rising-all es (IsDistinct-tail id_eq e.0 (keys_of es) distinct)))
-        (new_entry (by_rising_id es) e.0 e.1 (at-rising es e.0 ∙ absent))
+      (new_entry (by_rising_id es) e.0 e.1 (at-rising es e.0 ∙ absent))
 
   pub total-rising : (f : ObjectId × X → ℕ) (es : List (ObjectId × X)) → IsDistinct id_eq (keys_of es) → sum_by f (by_rising_id es) ≡ sum_by f es
   total-rising f es distinct = sum_by-IsPermutation f es (by_rising_id es) (rising-all es distinct)

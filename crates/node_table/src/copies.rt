@@ -91,7 +91,8 @@ impl Copies {
         bytes
     }
 
-    /// The copy under its id, in place of what was there. A failure changes nothing.
+    /// The copy under its id, in place of what was there. Where the map is full, it moves to a larger one. A
+    /// failure changes nothing.
     pub fn insert(&mut self, id: ObjectId, copy: RowCopy) -> Result<(), AllocError>
         ensures ok { OnOk result (self.new ≡ with_entry self.old id copy) }
         ensures err { OnErr result (self.new ≡ self.old) }

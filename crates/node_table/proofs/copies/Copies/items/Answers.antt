@@ -19,4 +19,4 @@ pub returns : goal.returns
 returns c =
     c.from_vec.ensures
     ∙ listed c.args.self.now c.loop-id.items.items c.sort_unstable_by_key.new.self.items (subst (λ t. T (is_sorted id_cmp t)) c.self.view_is (rising-sorted c.self.inside.by_id.entries))
-      (all_listed c.args.self.now c.loop-id.items.items c.loop-id.id-iterator c.in-None.ensures.steps.0 c.loop-id.invariant) c.sort_unstable_by_key.ensures.permutation (c.sort_unstable_by_key.ensures.sorted (λ (i : OwnItem). i.id) (always_returns_same _ (λ a r. r ≡ a.0.now.id) _ (λ a r q k. search rules)))
+    (all_listed c.args.self.now c.loop-id.items.items c.loop-id.id-iterator c.in-None.ensures.steps.0 c.loop-id.invariant) c.sort_unstable_by_key.ensures.permutation (c.sort_unstable_by_key.ensures.sorted (λ (i : OwnItem). i.id) (always_returns_same _ (λ a r. r ≡ a.0.now.id) _ (λ a r q k. search rules)))
