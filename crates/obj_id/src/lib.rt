@@ -7,6 +7,7 @@ mod commands;
 mod ids;
 mod items;
 mod laws;
+pub mod limits;
 mod messages;
 pub mod numbers;
 mod refusals;
