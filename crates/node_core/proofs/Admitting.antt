@@ -35,7 +35,8 @@ use Rattle.job_admission.proofs.AllKept.{admit_passed}
 use Rattle.node_table.specs.Row.{Row, new_row}
 use Rattle.node_table.specs.Shown.{seen, only, IsShown}
 use Rattle.node_core.specs.Hosted.{Hosted, AreHosted, IsRowView, IsBare, IsViewBy, Shows, bare}
-use Rattle.node_core.specs.Steps.{IsStepOf, Steps, answered}
+use Rattle.node_core.specs.Steps.{answered}
+use Rattle.node_core.specs.OneJob.{IsStepOf, StepsOne}
 use Rattle.node_core.proofs.Views.{itself, another}
 
 -- ---- the numbers
@@ -167,10 +168,10 @@ module _ (number : ℕ) (a b : Admissions) (line : WorkLine) (job : JobNo) (quot
   module _ (updated : (q : JobNo) → lookup (same_job q) new ≡ cond (same_job job q) (Some (new_row job.0 quota)) (lookup (same_job q) old))
       (lives : lives_of b.live ≡ window_admitted a.memory job.0 quota.window (lives_of a.live)) where
     abbrev before : Hosted
-    before = record { number = number; admissions = a; works = line; rows = old }
+    before = record { number = number; admissions = a; works = line; hands = []; rows = old }
 
     abbrev after : Hosted
-    after = record { number = number; admissions = b; works = line; rows = new }
+    after = record { number = number; admissions = b; works = line; hands = []; rows = new }
 
     good : is_quota quota ≡ true
     good = (admit_passed a job quota passed).1
@@ -207,7 +208,7 @@ module _ (number : ℕ) (a b : Admissions) (line : WorkLine) (job : JobNo) (quot
             subst (λ n. Shows after n (view_step number view (input.Begin quota)).view) (sym same) (own_shows view (subst (λ n. Shows before n view) same h))
         by false e = other_shows q view e h
 
-    pub admit_steps : Steps before (event.Admit job quota key) (only reply.Ok) after
+    pub admit_steps : StepsOne before (event.Admit job quota key) (only reply.Ok) after
     admit_steps = record {
       number = refl;
       views = views;
@@ -215,4 +216,7 @@ module _ (number : ℕ) (a b : Admissions) (line : WorkLine) (job : JobNo) (quot
       operator = sym (ap answered passed);
       admissions = is;
       lives = lives;
+      line = refl;
+      none = refl;
+      none_new = refl;
     }

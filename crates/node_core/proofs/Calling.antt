@@ -1,6 +1,6 @@
 -- A command on the row of its job: what its answer says, and that another job's object is refused.
 use Rattle.std.proofs.Common.{◌≡◌, ℕ, ◌==◌, false, List, Ok, Err, refl, sym, ap, subst, ◌∙◌}
-use Rattle.std.specs.Prelude.{IfOk, IfErr, OnErr}
+use Rattle.std.specs.Prelude.{IfOk, IfErr, OnOk, OnErr}
 use Rattle.std.specs.declared.result.Result.{Result}
 use Rattle.obj_id.specs.declared.ids.ObjectId.{ObjectId}
 use Rattle.obj_id.specs.declared.commands.Command.{Command}
@@ -59,6 +59,10 @@ module _ (node : ℕ) (row : Row) (line : WorkLine) (session : ℕ) (contents : 
 pub if_ok : {X : Type 0} {E : Type 0} {P Q : X → Type 0} (r : Result X E) → IfOk r P → ((x : X) → P x → Q x) → IfOk r Q
 if_ok (Ok x) h k = k x h
 if_ok (Err e) h k = tt
+
+pub if_ok_on : {X : Type 0} {E : Type 0} {P R : X → Type 0} {Q : Type 0} (r : Result X E) → IfOk r P → OnOk r Q → ((x : X) → P x → Q → R x) → IfOk r R
+if_ok_on (Ok x) h q k = k x h q
+if_ok_on (Err e) h q k = tt
 
 pub both_err : {X : Type 0} {E : Type 0} {P Q R : Type 0} (r : Result X E) → OnErr r P → OnErr r Q → (P → Q → R) → OnErr r R
 both_err (Ok x) h i k = tt

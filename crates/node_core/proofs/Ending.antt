@@ -31,7 +31,8 @@ use Rattle.node_table.proofs.CopyTables.{sorted-copies}
 use Rattle.node_table.proofs.Creating.{unbacked}
 use Rattle.node_core.proofs.Others.{other_view, not_same}
 use Rattle.node_core.specs.Hosted.{Hosted, AreHosted, IsRowView, IsBare, IsViewBy, Shows, bare}
-use Rattle.node_core.specs.Steps.{IsStepOf, Steps, answered}
+use Rattle.node_core.specs.Steps.{answered}
+use Rattle.node_core.specs.OneJob.{IsStepOf, StepsOne}
 use Rattle.node_core.proofs.Views.{itself, another, view_is}
 
 -- ---- the numbers
@@ -117,10 +118,10 @@ module _ (number : ℕ) (a b : Admissions) (line after_line : WorkLine) (job : J
     (updated : (q : JobNo) → lookup (same_job q) new ≡ cond (same_job job q) None (lookup (same_job q) old))
     (lives : lives_of b.live ≡ filter (λ live. not (job_is job.0 live)) (lives_of a.live)) where
   abbrev before : Hosted
-  before = record { number = number; admissions = a; works = line; rows = old }
+  before = record { number = number; admissions = a; works = line; hands = []; rows = old }
 
   abbrev after : Hosted
-  after = record { number = number; admissions = b; works = after_line; rows = new }
+  after = record { number = number; admissions = b; works = after_line; hands = []; rows = new }
 
   listed : list_any (same_job job) (keys_of a.live) ≡ true
   listed = sym (is_some-lookup (same_job job) a.live) ∙ is_live
@@ -174,7 +175,7 @@ module _ (number : ℕ) (a b : Admissions) (line after_line : WorkLine) (job : J
   abbrev pub given : Given
   given = record { reply = reply.Ok; posts = to_directory (EndJob number); erased = [] }
 
-  pub end_steps : Steps before (event.JobEnd job) given after
+  pub end_steps : StepsOne before (event.JobEnd job) given after
   end_steps = record {
     number = refl;
     views = views;
@@ -184,4 +185,7 @@ module _ (number : ℕ) (a b : Admissions) (line after_line : WorkLine) (job : J
     operator = sym (ap (λ t. answered (cond t None (Some NotAdmitted))) is_live);
     admissions = is;
     lives = lives;
+    line = drops.works;
+    none = refl;
+    none_new = refl;
   }

@@ -1,8 +1,10 @@
 mod SameJob
 mod Others
+mod Lines
 mod Views
 mod Calling
 mod Admitting
 mod Ending
 mod Asking
 mod Entering
+mod AllJobs

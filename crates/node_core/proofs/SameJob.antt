@@ -16,7 +16,7 @@ use Rattle.private_store.specs.Change.{refused, done, checked, needing, sending,
 use Rattle.private_store.specs.Commands.{get, created, restore, restoring, get_away, get_fetching, get_copy, begin_pull, begin_fetch, at_each, leave_one, with_holds, holds_of}
 use Rattle.private_store.specs.Contents.{brief}
 use Rattle.private_store.specs.Step.{owned, commanded}
-use Rattle.node_core.specs.Steps.{is_built_command}
+use Rattle.node_core.specs.Built.{is_built_command}
 
 -- a change after which the store is the same job's
 pub record SameJob (store : Shape) (c : Change) : Type 0 where

@@ -27,7 +27,10 @@ use Rattle.node_table.specs.Shown.{seen, Given, only}
 use Rattle.node_table.proofs.ByChecks.{called}
 use Rattle.node_core.specs.Hosted.{Hosted, IsRowView, IsBare, IsViewBy, Shows, bare, bare_shape}
 use Rattle.node_core.specs.Calls.{Obeys}
-use Rattle.node_core.specs.Steps.{is_built_command, IsStepOf, Steps}
+use Rattle.node_core.specs.Built.{is_built_command}
+use Rattle.node_core.specs.OneJob.{IsStepOf, StepsOne}
+use Rattle.node_table.specs.Asked.{HasAsked}
+use Rattle.node_core.proofs.Lines.{asked_nothing}
 use Rattle.node_core.proofs.SameJob.{built_same}
 
 pub itself : (job : JobNo) → same_job job job ≡ true
@@ -44,10 +47,10 @@ view_is row line job view h =
 
 module _ (number : ℕ) (a : Admissions) (line : WorkLine) (job : JobNo) (session : ℕ) (c : Command (List ℕ)) where
   abbrev pub with_rows : List (JobNo × Row) → Hosted
-  with_rows rows = record { number = number; admissions = a; works = line; rows = rows }
+  with_rows rows = record { number = number; admissions = a; works = line; hands = []; rows = rows }
 
   abbrev pub with_all : List (JobNo × Row) → WorkLine → Hosted
-  with_all rows works = record { number = number; admissions = a; works = works; rows = rows }
+  with_all rows works = record { number = number; admissions = a; works = works; hands = []; rows = rows }
 
   abbrev pub x : Input
   x = input.Call session c
@@ -58,6 +61,7 @@ module _ (number : ℕ) (a : Admissions) (line : WorkLine) (job : JobNo) (sessio
       (found : lookup (same_job job) old ≡ Some row)
       (updated : (q : JobNo) → lookup (same_job q) new ≡ cond (same_job job q) (Some after) (lookup (same_job q) old))
       (built : is_built_command c ≡ true)
+      (line_after : HasAsked line job works)
       (obeys : Obeys number job.0 row line session c told after works)
       (others : (other : JobNo) → same_line_job job other ≡ false → IsSameFor other line works) where
     row_view : (view : View) → Shows (with_rows old) job.0 view → IsRowView row line job.0 view
@@ -99,7 +103,7 @@ module _ (number : ℕ) (a : Admissions) (line : WorkLine) (job : JobNo) (sessio
             subst (λ n. Shows (with_all new works) n (view_step number view x).view) (sym same) (own_shows view (subst (λ n. Shows (with_rows old) n view) same h))
         by false e = other_shows q view e h
 
-    pub call_steps : Steps (with_rows old) (event.Call job session c) told (with_all new works)
+    pub call_steps : StepsOne (with_rows old) (event.Call job session c) told (with_all new works)
     call_steps = record {
       number = refl;
       views = views;
@@ -107,6 +111,9 @@ module _ (number : ℕ) (a : Admissions) (line : WorkLine) (job : JobNo) (sessio
       operator = refl;
       admissions = refl;
       lives = refl;
+      line = line_after;
+      none = refl;
+      none_new = refl;
     }
 
   -- ---- on a job that isn't live
@@ -150,7 +157,7 @@ module _ (number : ℕ) (a : Admissions) (line : WorkLine) (job : JobNo) (sessio
             subst (Shows (with_rows rows) q) (sym (stays_bare view (no_row view (subst (λ n. Shows (with_rows rows) n view) same h)))) h
         by false e = h
 
-    pub refused_steps : Steps (with_rows rows) (event.Call job session c) (only (reply.Refused NotAdmitted)) (with_rows rows)
+    pub refused_steps : StepsOne (with_rows rows) (event.Call job session c) (only (reply.Refused NotAdmitted)) (with_rows rows)
     refused_steps = record {
       number = refl;
       views = same_views;
@@ -158,4 +165,7 @@ module _ (number : ℕ) (a : Admissions) (line : WorkLine) (job : JobNo) (sessio
       operator = refl;
       admissions = refl;
       lives = refl;
+      line = asked_nothing line job;
+      none = refl;
+      none_new = refl;
     }

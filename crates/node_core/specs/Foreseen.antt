@@ -12,9 +12,9 @@ use Rattle.private_store.specs.declared.schedules.Event.TheVariants as event
 use Rattle.private_store.specs.Contents.{View, brief, judge}
 use Rattle.job_admission.specs.Admissions.{admit_check}
 use Rattle.node_table.specs.Row.{Row}
-use Rattle.node_table.specs.Shown.{Given}
 use Rattle.node_core.specs.Hosted.{Hosted, row_at, Shows}
-use Rattle.node_core.specs.Steps.{job_of, input_of, end_check}
+use Rattle.node_core.specs.OneJob.{input_of}
+use Rattle.node_core.specs.Steps.{Given, job_of_event, end_check}
 
 -- the most messages that a command of a job with this row, or none, sends: Create may evict each copy, and
 -- tells the directory of each
@@ -44,4 +44,4 @@ judged_of node _ = None
 -- the event gave what was foreseen
 pub record IsAsForeseen (old : Hosted) (e : Event) (given : Given) : Type 0 where
   pub few : length given.posts ≤ most_messages old e
-  pub judged : (view : View) → Shows old (job_of e) view → option_map (judge old.number view) (input_of e given.reply) ≡ judged_of old e
+  pub judged : (view : View) → Shows old (job_of_event e) view → option_map (judge old.number view) (input_of e given.reply) ≡ judged_of old e

@@ -7,6 +7,7 @@ use Rattle.private_store.specs.Jobs.{same_job}
 use Rattle.private_store.specs.Shape.{Life, Shape, not_begun, unbegun}
 use Rattle.private_store.specs.Events.{is_live}
 use Rattle.private_store.specs.Contents.{View}
+use Rattle.private_store.specs.Hands.{Hand}
 use Rattle.private_store.specs.Private.{no_contents}
 use Rattle.spill_work.specs.Line.{WorkLine, works_of, used_by}
 use Rattle.job_admission.specs.Admissions.{Admissions}
@@ -19,6 +20,8 @@ pub record Hosted : Type 0 where
   pub admissions : Admissions
   -- of all jobs
   pub works : WorkLine
+  -- the standing hands, oldest first
+  pub hands : List Hand
   -- of the live jobs, in the order of their admission
   pub rows : List (JobNo × Row)
 
@@ -66,3 +69,7 @@ IsViewBy greatest line job view None = IsBare greatest line job view
 -- the node shows this view of the job
 pub record Shows (node : Hosted) (job : ℕ) (view : View) : Type 0 where
   pub by_row : IsViewBy node.admissions.greatest node.works job view (row_at node (record { 0 = job }))
+
+-- and one of each job
+abbrev pub ShowsAll : Hosted → (ℕ → View) → Type 0
+ShowsAll node v = (job : ℕ) → Shows node job (v job)

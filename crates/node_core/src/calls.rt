@@ -1,12 +1,13 @@
 //! The commands of a session, carried out on the row of its job.
-ghost use Rattle.std.specs.Prelude.{◌≡◌, ◌≤◌, length, Some, true, false, IfOk, OnErr, IsErrOf, IsOk};
+ghost use Rattle.std.specs.Prelude.{◌≡◌, ◌≤◌, length, Some, true, false, IfOk, OnOk, OnErr, IsErrOf, IsOk};
 ghost use Rattle.obj_id.specs.declared.ids.JobNo.{JobNo};
 ghost use Rattle.obj_id.specs.declared.refusals.Refusal.{Refusal};
 ghost use Rattle.obj_id.specs.declared.refusals.Refusal.TheVariants.{NoMemory};
 ghost use Rattle.spill_work.specs.Line.{same_job, IsSameFor};
+ghost use Rattle.node_table.specs.Asked.{HasAsked};
 ghost use Rattle.node_table.specs.Outcomes.{given_of};
 ghost use Rattle.node_core.specs.Calls.{is_own as is_own_lem, takes_no_memory, Obeys};
-ghost use Rattle.node_core.specs.Steps.{is_built_command};
+ghost use Rattle.node_core.specs.Built.{is_built_command};
 ghost use Rattle.node_core.specs.Foreseen.{most_by_command};
 
 use bytes::Bytes;
@@ -16,8 +17,8 @@ use spill_work::Works;
 use std::alloc::Global;
 
 /// Carries out a command on the row of the session's job. `NotGranted` for another job's object. The error
-/// is want of memory, and then nothing has changed; Write, Release, Usage and Leave take none. Other jobs' works
-/// stay.
+/// is want of memory, and then nothing has changed; Write, Release, Usage and Leave take none. Works that it asks for
+/// come last in the line, and those before them stay.
 pub(crate) fn carry_out(
     alloc: Global,
     node: u32,
@@ -30,6 +31,7 @@ pub(crate) fn carry_out(
     requires { is_built_command command.now ≡ true }
     ensures ok { IfOk result (λ o. Obeys node job.0 row.old works.old session command.now (given_of o) row.new works.new) }
     ensures few { IfOk result (λ o. length o.messages ≤ most_by_command (Some row.old) command.now) }
+    ensures line { OnOk result (HasAsked works.old job works.new) }
     ensures others { (other : JobNo) → same_job job other ≡ false → IsSameFor other works.old works.new }
     ensures memory { (r : Refusal) → IsErrOf result r → r ≡ NoMemory }
     ensures frugal { takes_no_memory command.now ≡ true → IsOk result }
@@ -54,7 +56,14 @@ pub(crate) fn carry_out(
             row.leave(session);
             Reply::Ok
         }
-        _ => return Err(Refusal::NoMemory),
+        Command::Unpin(..)
+        | Command::Borrow(..)
+        | Command::GiveUp(..)
+        | Command::Delete(_)
+        | Command::EndTask(_)
+        | Command::Grant(..)
+        | Command::Withdraw(..)
+        | Command::Peek(..) => unreachable!(),
     };
     Ok(Outcome::only(alloc, reply))
 }
@@ -70,6 +79,15 @@ fn is_own(job: JobNo, command: &Command<Bytes>) -> bool
         | Command::Get(id)
         | Command::Read(id, _, _)
         | Command::Release(id) => id.job().0 == job.0,
-        _ => true,
+        Command::List | Command::Usage | Command::Leave => true,
+        // not built
+        Command::Unpin(..)
+        | Command::Borrow(..)
+        | Command::GiveUp(..)
+        | Command::Delete(_)
+        | Command::EndTask(_)
+        | Command::Grant(..)
+        | Command::Withdraw(..)
+        | Command::Peek(..) => true,
     }
 }

@@ -2,7 +2,7 @@
 ghost use Rattle.std.specs.Prelude.{◌≡◌, true};
 ghost use Rattle.private_store.specs.Contents.{brief as brief_lem};
 ghost use Rattle.node_core.specs.Hosted.{row_at};
-ghost use Rattle.node_core.specs.Steps.{is_built};
+ghost use Rattle.node_core.specs.Built.{is_built};
 ghost use Rattle.node_core.specs.Foreseen.{most_by_command as most_by_command_lem, most_messages as most_messages_lem, judged_of};
 
 use crate::Node;

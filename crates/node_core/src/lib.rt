@@ -11,22 +11,28 @@ ghost use Rattle.private_store.specs.Contents.{View};
 ghost use Rattle.private_store.specs.Commands.{usage_of};
 ghost use Rattle.private_store.specs.Private.{view_of, no_store};
 ghost use Rattle.job_admission.specs.Admissions.{largest_memory, live_at, sessions_entered, enter_check, entered};
-ghost use Rattle.node_table.specs.Outcomes.{given_of};
+ghost use Rattle.node_table.specs.Outcomes.{given_of as row_given_of};
+ghost use Rattle.private_store.specs.declared.schedules.NodeEvent.TheVariants as node_event;
 ghost use Rattle.node_core.specs.Calls.{takes_no_memory, is_frugal};
 ghost use Rattle.node_core.specs.Hosted.{Shows, row_at};
 ghost use Rattle.node_core.specs.Borrowed.{borrowed_check, IsBorrowed};
-ghost use Rattle.node_core.specs.Steps.{is_built, is_built_command, Steps};
-ghost use Rattle.node_core.specs.Foreseen.{most_by_command, IsAsForeseen};
+ghost use Rattle.node_core.specs.Built.{is_built, is_built_command};
+ghost use Rattle.node_core.specs.Steps.{Steps};
+ghost use Rattle.node_core.specs.OneJob.{StepsOne};
+ghost use Rattle.node_core.specs.Outcomes.{given_of};
+ghost use Rattle.node_core.specs.Foreseen.{most_by_command, most_messages, IsAsForeseen};
 
 mod calls;
 mod foreseen;
+mod outcome;
 
 use bytes::Bytes;
 pub use foreseen::Foreseen;
 use indexmap::IndexMap;
 use job_admission::Admission;
 use node_table::JobRow;
-pub use node_table::{Erase, Outcome};
+pub use node_table::Erase;
+pub use outcome::{Note, Outcome};
 use obj_id::{
     Command, DirectoryMessage, JobKey, JobNo, Message, ObjectId, Place, Quota, Refusal, Reply,
     Usage,
@@ -48,11 +54,12 @@ pub struct Node {
 }
 
 impl Model for Node {
+    ghost use Rattle.std.specs.Prelude.{[]};
     ghost use Rattle.node_core.specs.Hosted.{Hosted, AreHosted};
 
     ghost Value = { Hosted };
 
-    ghost view = { λ n. record { number = n.number; admissions = n.admission; works = n.works; rows = n.rows.entries } };
+    ghost view = { λ n. record { number = n.number; admissions = n.admission; works = n.works; hands = []; rows = n.rows.entries } };
 
     ghost invariant = { λ n. AreHosted n.admission n.rows.entries };
 }
@@ -63,6 +70,8 @@ impl Node {
         requires { memory ≤ largest_memory }
         ensures number { result.number ≡ number }
         ensures admissions { result.admissions ≡ record { memory = memory; greatest = 0; live = [] } }
+        ensures works { result.works ≡ record { works = []; used = [] } }
+        ensures hands { result.hands ≡ [] }
         ensures shows { (job : ℕ) → Shows result job (view_of (no_store job)) }
     {
         Node {
@@ -74,12 +83,28 @@ impl Node {
         }
     }
 
-    /// Steps the node by one event. `NoMemory` alone, and then nothing has changed; the commands Write,
-    /// Release, Usage and Leave take no memory. What it gives is as `foresee` says.
+    /// Steps the node by one event of a schedule.
+    ///
+    /// For every job number, live or not, the view that the node shows of the job afterwards is what the private steps
+    /// make of the view before, on the list of inputs that the event is to that job. `NoMemory` alone, and then nothing
+    /// has changed; the commands Write, Release, Usage and Leave take no memory. What it gives is as `foresee` says.
     pub fn apply(&mut self, event: &Event) -> Result<Outcome, Refusal>
         requires { is_built event.now ≡ true }
-        ensures ok { IfOk result (λ o. Steps self.old event.now (given_of o) self.new) }
+        ensures ok { IfOk result (λ o. Steps self.old (node_event.Own event.now) (given_of o) self.new) }
         ensures foreseen { IfOk result (λ o. IsAsForeseen self.old event.now (given_of o)) }
+        ensures memory { (r : Refusal) → IsErrOf result r → r ≡ NoMemory }
+        ensures frugal { is_frugal event.now ≡ true → IsOk result }
+        ensures err { OnErr result (self.new ≡ self.old) }
+    {
+        let outcome = self.step_one(event)?;
+        Ok(Outcome::of_row(self.alloc, outcome))
+    }
+
+    /// The same, where the event is an input of its own job alone, as all are that are built.
+    fn step_one(&mut self, event: &Event) -> Result<node_table::Outcome, Refusal>
+        requires { is_built event.now ≡ true }
+        ensures ok { IfOk result (λ o. StepsOne self.old event.now (row_given_of o) self.new) }
+        ensures few { IfOk result (λ o. length o.messages ≤ most_messages self.old event.now) }
         ensures memory { (r : Refusal) → IsErrOf result r → r ≡ NoMemory }
         ensures frugal { is_frugal event.now ≡ true → IsOk result }
         ensures err { OnErr result (self.new ≡ self.old) }
@@ -88,7 +113,7 @@ impl Node {
             Event::Admit(job, quota, key) => self.admit(*job, *quota, *key),
             Event::JobEnd(job) => self.end_job(*job),
             Event::Call(job, session, command) => self.call(*job, *session, command),
-            _ => Err(Refusal::NoMemory),
+            Event::Requota(..) | Event::Take | Event::Finish(..) => unreachable!(),
         }
     }
 
@@ -145,9 +170,9 @@ impl Node {
         job: JobNo,
         session: u32,
         command: &Command<Bytes>,
-    ) -> Result<Outcome, Refusal>
+    ) -> Result<node_table::Outcome, Refusal>
         requires { is_built_command command.now ≡ true }
-        ensures ok { IfOk result (λ o. Steps self.old (event.Call job session command.now) (given_of o) self.new) }
+        ensures ok { IfOk result (λ o. StepsOne self.old (event.Call job session command.now) (row_given_of o) self.new) }
         ensures few { IfOk result (λ o. length o.messages ≤ most_by_command (row_at self.old job) command.now) }
         ensures memory { (r : Refusal) → IsErrOf result r → r ≡ NoMemory }
         ensures frugal { takes_no_memory command.now ≡ true → IsOk result }
@@ -155,7 +180,7 @@ impl Node {
     {
         let Some(row) = self.rows.get_mut(&job) else {
             let reply = Reply::Refused(Refusal::NotAdmitted);
-            return Ok(Outcome::only(self.alloc, reply));
+            return Ok(node_table::Outcome::only(self.alloc, reply));
         };
         calls::carry_out(
             self.alloc,
@@ -169,14 +194,14 @@ impl Node {
     }
 
     /// The operator admits a job. All growth comes before the first change.
-    fn admit(&mut self, job: JobNo, quota: Quota, key: JobKey) -> Result<Outcome, Refusal>
-        ensures ok { IfOk result (λ o. Steps self.old (event.Admit job quota key) (given_of o) self.new) }
+    fn admit(&mut self, job: JobNo, quota: Quota, key: JobKey) -> Result<node_table::Outcome, Refusal>
+        ensures ok { IfOk result (λ o. StepsOne self.old (event.Admit job quota key) (row_given_of o) self.new) }
         ensures silent { IfOk result (λ o. o.messages ≡ []) }
         ensures memory { (r : Refusal) → IsErrOf result r → r ≡ NoMemory }
         ensures err { OnErr result (self.new ≡ self.old) }
     {
         if let Some(refusal) = self.admission.admit_check(job, quota) {
-            return Ok(Outcome::only(self.alloc, Reply::Refused(refusal)));
+            return Ok(node_table::Outcome::only(self.alloc, Reply::Refused(refusal)));
         }
         let Ok(row) = JobRow::new(self.alloc, job, quota) else {
             return Err(Refusal::NoMemory);
@@ -186,26 +211,30 @@ impl Node {
             return Err(Refusal::NoMemory);
         };
         match self.rows.insert(job, row) {
-            Ok(_) => Ok(Outcome::only(self.alloc, Reply::Ok)),
+            Ok(_) => Ok(node_table::Outcome::only(self.alloc, Reply::Ok)),
             Err(_) => Err(Refusal::NoMemory),
         }
     }
 
     /// The operator ends a job: nothing is left of it here, and the directory is told.
-    fn end_job(&mut self, job: JobNo) -> Result<Outcome, Refusal>
-        ensures ok { IfOk result (λ o. Steps self.old (event.JobEnd job) (given_of o) self.new) }
+    fn end_job(&mut self, job: JobNo) -> Result<node_table::Outcome, Refusal>
+        ensures ok { IfOk result (λ o. StepsOne self.old (event.JobEnd job) (row_given_of o) self.new) }
         ensures few { IfOk result (λ o. length o.messages ≤ 1) }
         ensures memory { (r : Refusal) → IsErrOf result r → r ≡ NoMemory }
         ensures err { OnErr result (self.new ≡ self.old) }
     {
-        let message = Message::ToDirectory(DirectoryMessage::EndJob(self.number));
-        let messages = Outcome::one_message(self.alloc, Place::Directory, message)?;
-        if let Err(refusal) = self.admission.finish_job(job) {
-            return Ok(Outcome::only(self.alloc, Reply::Refused(refusal)));
+        if !self.admission.is_live(job) {
+            let reply = Reply::Refused(Refusal::NotAdmitted);
+            return Ok(node_table::Outcome::only(self.alloc, reply));
         }
+        let message = Message::ToDirectory(DirectoryMessage::EndJob(self.number));
+        let messages = node_table::Outcome::one_message(self.alloc, Place::Directory, message)?;
+        let Ok(()) = self.admission.finish_job(job) else {
+            unreachable!()
+        };
         self.works.drop_job(job);
         self.rows.shift_remove(&job);
-        Ok(Outcome {
+        Ok(node_table::Outcome {
             reply: Reply::Ok,
             messages,
             erase: Erase::NoKey,

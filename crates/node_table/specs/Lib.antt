@@ -9,3 +9,4 @@ pub mod Usages
 pub mod RoomPlans
 pub mod Creating
 pub mod Holding
+pub mod Asked

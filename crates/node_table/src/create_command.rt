@@ -8,6 +8,7 @@ ghost use Rattle.private_store.specs.declared.inputs.Input.TheVariants as input;
 ghost use Rattle.private_store.specs.Contents.{Contents};
 ghost use Rattle.private_store.specs.Room.{make_room};
 ghost use Rattle.spill_work.specs.Line.{WorkLine, same_job, IsSameFor};
+ghost use Rattle.node_table.specs.Asked.{HasAsked};
 ghost use Rattle.node_table.specs.Checks.{create_check as create_check_lem};
 ghost use Rattle.node_table.specs.Creating.{removals as removals_lem};
 ghost use Rattle.node_table.specs.Outcomes.{given_of};
@@ -28,8 +29,9 @@ use std::alloc::{AllocError, Global};
 impl JobRow {
     /// Create: a copy of zeros to be written, of `len` bytes, where the window has room or room is made:
     /// by evicting the job's least recently used copies that may go, and else by asking for the writes of
-    /// those that may be spilled, which is told `Pending`. `BadSize`, `Exists`, `TooMany`, `Pending`,
-    /// `Full`, `Busy`. The error is want of memory, and then nothing has changed. Other jobs' works stay.
+    /// those that may be spilled, which is answered `Pending`. `BadSize`, `Exists`, `TooMany`, `Pending`,
+    /// `Full`, `Busy`. The error is want of memory, and then nothing has changed. The works that it asks for come
+    /// last in the line, and those before them stay.
     /// It sends no more messages than the job has copies.
     pub fn create(
         &mut self,
@@ -43,6 +45,7 @@ impl JobRow {
         ensures ok { IfOk result (λ o. (session : ℕ) (contents : Contents) → (id.now.job.0 == self.old.job) ≡ true → IsShown self.old works.old contents
             → TakesStep node self.old works.old contents (input.Call session (command.Create id.now kind len)) (given_of o) self.new works.new) }
         ensures few { IfOk result (λ o. length o.messages ≤ length self.old.copies) }
+        ensures line { OnOk result (HasAsked works.old id.now.job works.new) }
         ensures others { (other : JobNo) → same_job id.now.job other ≡ false → IsSameFor other works.old works.new }
         ensures memory { (r : Refusal) → IsErrOf result r → r ≡ NoMemory }
         ensures err { OnErr result (self.new ≡ self.old) }
@@ -110,6 +113,7 @@ impl JobRow {
             → AsksWrites (make_room self.old.order (shape_of self.old works.old) n) (shape_of self.old works.old) ids.now
             → TakesStep node self.old works.old contents (input.Call session (command.Create id kind n)) (given_of o) self.new works.new) }
         ensures silent { IfOk result (λ o. o.messages ≡ []) }
+        ensures line { OnOk result (HasAsked works.old job works.new) }
         ensures others { (other : JobNo) → same_job job other ≡ false → IsSameFor other works.old works.new }
         ensures memory { (r : Refusal) → IsErrOf result r → r ≡ NoMemory }
         ensures err { OnErr result (self.new ≡ self.old) }

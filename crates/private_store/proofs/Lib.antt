@@ -19,6 +19,7 @@ pub mod DeviceKept
 pub mod StepsKept
 pub mod Stamped
 pub mod Runs
+pub mod StepInputs
 pub mod ExampleWords
 pub mod ExamplesOfRoom
 pub mod ExamplesOfDevices

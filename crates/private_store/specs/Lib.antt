@@ -14,6 +14,7 @@ pub mod Directory
 pub mod Cluster
 pub mod Hands
 pub mod Trace
+pub mod NodeInputs
 pub mod Shared
 pub mod Replay
 pub mod Frames

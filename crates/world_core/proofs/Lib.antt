@@ -3,8 +3,11 @@ mod Logging
 mod NoWant
 mod Places
 mod Stores
-mod Inputs
-mod Jobs
-mod Nodes
+mod Clusters
+mod Lines
+mod Happenings
+mod Entries
 mod Stepping
+mod Idling
+mod Turning
 mod Running

@@ -1,127 +1,228 @@
--- A world after one step more.
-use Rattle.std.proofs.Common.{◌≡◌, ◌≢◌, ℕ, true, false, ◌==◌, ◌+◌, ◌<◌, nat_lt, ◌||◌, ◌&&◌, inl, inr, List, [], ◌∷◌, ◌++◌, length, Some, slice_get, slice_set, refl, sym, ap, subst, ◌∙◌, ⊎_elim, arith}
-use Rattle.std.specs.Prelude.{nat_le}
-use Rattle.std.specs.List.{list_any}
+-- A world after one event more at a node.
+use Rattle.std.proofs.Common.{◌≡◌, ◌≢◌, ℕ, Bool, true, false, cond, ◌==◌, ◌<◌, ◌||◌, List, [], ◌∷◌, ◌++◌, append-nil, length, map, filter, reverse, Option, Some, None, option_to_list, slice_get, slice_set, refl, sym, ap, subst, ◌∙◌, ⊎_elim}
+use Rattle.std.specs.Prelude.{nat_le, not}
+use Rattle.std.specs.Option.{option_map_or}
+use Rattle.std.specs.List.{list_any, cons_option}
 use Rattle.std.proofs.lemmas.Bool.{cases_eq}
-use Rattle.std.proofs.lemmas.Bool.Decides.{nat_tests}
-use Rattle.std.proofs.lemmas.Grind.{common_steps}
-use Rattle.obj_id.specs.declared.ids.JobNo.{JobNo}
+use Rattle.std.proofs.lemmas.List.{reverse-append}
+use Rattle.std.proofs.lemmas.List.Elements.{filter-append, filter_map-append}
+use Rattle.obj_id.specs.declared.ids.ObjectId.{ObjectId}
+use Rattle.obj_id.specs.declared.messages.Place.TheVariants.{Node}
+use Rattle.private_store.specs.declared.inputs.Input.{Input}
+use Rattle.private_store.specs.declared.inputs.Input.TheVariants as input
+use Rattle.private_store.specs.declared.schedules.Traced.{Traced}
+use Rattle.private_store.specs.Contents.{View, bytes_at}
+use Rattle.private_store.specs.Private.{Store, view_of, view_from, store_from, private_outcome}
+use Rattle.private_store.specs.Cluster.{Cluster, Sent, posted, told_from, no_cluster, private_run}
+use Rattle.private_store.specs.Cluster.{Told as ToldTo}
+use Rattle.private_store.specs.Trace.{hands_at, is_out, out_after, granted_bytes, inputs_until, cluster_until, reply_of, replies_of, is_answered}
+use Rattle.private_store.specs.Shared.{is_admission, waiting}
+use Rattle.private_store.specs.Shared as shared
+use Rattle.private_store.proofs.Tests.{some_value}
+use Rattle.private_store.proofs.Runs.{inputs_now, told_from-append}
+use Rattle.private_store.proofs.Stamped.{view_of_run}
+use Rattle.job_admission.specs.Admissions.{Admissions, place_for, live_at}
+use Rattle.std.specs.Map.{set_value}
+use Rattle.private_store.specs.Jobs.{same_job}
+use Rattle.private_store.specs.declared.schedules.Event.TheVariants as event
 use Rattle.obj_id.specs.declared.commands.Reply.{Reply}
 use Rattle.obj_id.specs.declared.commands.Reply.TheVariants as reply
-use Rattle.obj_id.specs.declared.refusals.Refusal.TheVariants.{NoMemory}
-use Rattle.private_store.specs.declared.inputs.Input.{Input}
-use Rattle.private_store.specs.declared.schedules.Event.{Event}
-use Rattle.private_store.specs.declared.schedules.Step.{Step}
-use Rattle.private_store.specs.declared.schedules.Step.TheVariants.{At}
-use Rattle.private_store.specs.declared.schedules.StepAnswer.TheVariants.{Told}
-use Rattle.private_store.specs.declared.schedules.Traced.{Traced}
-use Rattle.private_store.specs.Private.{Store, view_of, private_step, private_outcome}
-use Rattle.private_store.specs.Cluster.{Cluster, Sent, at_node, moved_at}
-use Rattle.private_store.specs.Trace.{hands_at, hands_step, is_no_memory, inputs_until, cluster_until}
-use Rattle.private_store.specs.Shared.{is_admission, answers_due}
-use Rattle.private_store.specs.Shared as shared
-use Rattle.private_store.proofs.Tests.{some_value, true_false, both_left, both_right}
-use Rattle.private_store.proofs.Stamped.{view_of_step}
-use Rattle.job_admission.specs.Admissions.{lives_of}
-use Rattle.node_core.specs.Hosted.{Hosted, Shows}
-use Rattle.node_core.specs.Steps.{is_built, job_of, input_of, view_after, lives_after, IsGiven}
+use Rattle.private_store.specs.declared.schedules.NodeEvent.TheVariants.{Own, Arrive}
+use Rattle.owner_directory.specs.Locations.{locations_of}
 use Rattle.world_core.specs.Logs.{sent_of}
+use Rattle.private_store.specs.declared.schedules.NodeEvent.{NodeEvent}
+use Rattle.private_store.specs.NodeInputs.{JobInput, Before, wants_memory, own_here, own_due, inputs_to, hands_after}
+use Rattle.node_core.specs.Hosted.{Hosted, Shows, ShowsAll}
+use Rattle.node_core.specs.Steps.{Given, StepsFrom, IsGiven, before_of, is_taken, job_of, line_left, asked_now, admissions_after, lives_after}
+use Rattle.world_core.specs.Worlds.{Hosting, untaken, IsNodeAfter, IsJobAfter, IsAfter}
 use Rattle.world_core.specs.Moves.{Moves}
-use Rattle.world_core.specs.Worlds.{Hosting, is_built_step, IsNodeAfter, IsJobAfter, IsAfter, IsNew, AreNew}
-use Rattle.world_core.proofs.Inputs.{Turn, stays, moves, turn, cluster_after, inputs_none, hands_none}
-use Rattle.world_core.proofs.Jobs.{input_found, job_after, job_after_none}
-use Rattle.world_core.proofs.Nodes.{lives_here, lives_there, lives_none, memory_stays, greatest_here, admission_there, admission_none, told_no_memory, due}
-use Rattle.world_core.proofs.Places.{length-slice_set, slice_get-slice_set, slice_get-slice_set_other, found_within, slice_get-push}
-use Rattle.world_core.proofs.Numbers.{is_less}
-use Rattle.world_core.proofs.Stores.{AreSound, cluster_AreSound, store_found, no_cluster_at}
+use Rattle.private_store.specs.NodeInputs.{before_at}
+use Rattle.world_core.proofs.Entries.{IsEntry}
+use Rattle.world_core.proofs.Lines.{is_taken_queued, untaken_queued}
+use Rattle.world_core.proofs.Clusters.{posts_from, own_of, own_posts, IsMovedBy, moved_by}
+use Rattle.world_core.proofs.Places.{length-slice_set, slice_get-slice_set, slice_get-slice_set_other}
+use Rattle.world_core.proofs.Numbers.{same_number}
+use Rattle.world_core.proofs.Stores.{AreSound, cluster_AreSound, store_found}
 
-module _ (nodes memory place : ℕ) (e : Event) (told : Reply (List ℕ)) (old new : Hosting) (history : List Traced)
-    (h : IsAfter nodes memory old history) (b : is_built e ≡ true) (within : place < nodes) (m : Moves old place e told new) where
-  abbrev entry : Traced
-  entry = record { step = At place e; answer = Told m.given.reply }
+-- ---- replies
 
-  at_place : IsNodeAfter nodes memory place m.before history
-  at_place = h.each_node place m.before m.found
+one : (o : Option ToldTo) → cons_option o [] ≡ option_to_list o
+one None = refl
+one (Some t) = refl
 
-  -- the job's store at the place
-  abbrev cluster : ℕ → Cluster
+-- the replies of a job with one more step are those of its private run on one step's inputs more
+pub replies_more : (nodes job : ℕ) (entry : Traced) (history : List Traced)
+    → filter is_answered (replies_of job (reverse history)) ≡ private_run job nodes (inputs_until nodes job history)
+    → filter is_answered (option_to_list (reply_of job entry.step entry.answer)) ≡ told_from (cluster_until nodes job history) (inputs_now nodes job entry history)
+    → filter is_answered (replies_of job (reverse (entry ∷ history))) ≡ private_run job nodes (inputs_until nodes job (entry ∷ history))
+replies_more nodes job entry history before now =
+    ap (filter is_answered) (ap (replies_of job) (reverse-append (entry ∷ []) history) ∙ filter_map-append (λ e. reply_of job e.step e.answer) (reverse history) (entry ∷ []) ∙ ap (λ l. replies_of job (reverse history) ++ l) (one (reply_of job entry.step entry.answer)))
+    ∙ filter-append is_answered (replies_of job (reverse history)) (option_to_list (reply_of job entry.step entry.answer))
+    ∙ ap (λ l. l ++ filter is_answered (option_to_list (reply_of job entry.step entry.answer))) before
+    ∙ ap (λ l. private_run job nodes (inputs_until nodes job history) ++ l) now
+    ∙ sym (told_from-append (no_cluster job nodes) (inputs_until nodes job history) (inputs_now nodes job entry history))
+
+-- ---- admissions
+
+-- the admissions after keep the node's memory
+pub memory_stays : (a : Admissions) (e : NodeEvent) (told : Reply (List ℕ)) → (admissions_after a e told).memory ≡ a.memory
+memory_stays a (Own (event.Admit job quota key)) reply.Ok =
+    elim (place_for a quota.window) as (λ o. (option_map_or (λ offset. record a { greatest = job.0; live = a.live ++ (job, record { quota = quota; key = key; offset = offset; entered = 0 }) ∷ [] }) o a).memory ≡ a.memory) [ None ↦ refl | Some offset ↦ refl ]
+memory_stays a (Own (event.Requota job quota)) reply.Ok =
+    elim (live_at a job) as (λ o. (option_map_or (λ live. record a { live = set_value (same_job job) a.live (record live { quota = quota }) }) o a).memory ≡ a.memory) [ None ↦ refl | Some live ↦ refl ]
+memory_stays a (Own (event.JobEnd job)) reply.Ok = refl
+memory_stays a _ _ = refl
+
+-- ---- the own input's job
+
+abbrev IsOfJob : ℕ → Option JobInput → Type 0
+IsOfJob job None = Unit {0}
+IsOfJob job (Some x) = job ≡ x.job
+
+unless_of : (job : ℕ) (x : Input) (t u : Bool) → IsOfJob job (cond t None (cond u (Some (record { job = job; input = x })) None))
+unless_of job x true u = tt
+unless_of job x false true = refl
+unless_of job x false false = tt
+
+own_is_of : (b : Before) (e : NodeEvent) (told : Reply (List ℕ)) → IsOfJob (job_of e) (own_here b e told)
+own_is_of b (Own (event.Admit job quota key)) reply.Ok = refl
+own_is_of b (Own (event.Admit job quota key)) _ = tt
+own_is_of b (Own (event.Requota job quota)) reply.Ok = refl
+own_is_of b (Own (event.Requota job quota)) _ = tt
+own_is_of b (Own (event.JobEnd job)) reply.Ok = refl
+own_is_of b (Own (event.JobEnd job)) _ = tt
+own_is_of b (Own event.Take) told = tt
+own_is_of b (Own (event.Finish job number a)) told = unless_of job.0 (input.Answer number a) (wants_memory told) (b.out job.0 number)
+own_is_of b (Own (event.Call job session c)) told = unless_of job.0 (input.Call session c) (wants_memory told) true
+own_is_of b (Arrive job a) told = unless_of job.0 (input.Arrive a) (wants_memory told) true
+
+pub own_same : (b : Before) (e : NodeEvent) (told : Reply (List ℕ)) → wants_memory told ≡ false → own_due b e told ≡ own_here b e told
+own_same b (Own (event.Finish job number a)) told n = sym (ap (λ t. cond t None (cond (b.out job.0 number) (Some (record { job = job.0; input = input.Answer number a })) None)) n)
+own_same b (Own (event.Call job session c)) told n = sym (ap (λ t. cond t None (Some (record { job = job.0; input = input.Call session c }))) n)
+own_same b (Arrive job a) told n = sym (ap (λ t. cond t None (Some (record { job = job.0; input = input.Arrive a }))) n)
+own_same b (Own (event.Admit job quota key)) told n = refl
+own_same b (Own (event.Requota job quota)) told n = refl
+own_same b (Own (event.JobEnd job)) told n = refl
+own_same b (Own event.Take) told n = refl
+
+-- ---- what a node's step is over
+
+-- the stores at a place, as its node shows them
+module _ (nodes memory place : ℕ) (old : Hosting) (history : List Traced) (h : IsAfter nodes memory old history) (within : place < nodes)
+    (before : Hosted) (found : slice_get old.nodes place ≡ Some before) where
+  abbrev pub cluster : ℕ → Cluster
   cluster job = cluster_until nodes job history
 
-  sound : (job : ℕ) → AreSound nodes (cluster job).stores
+  pub at_place : IsNodeAfter nodes memory place before history
+  at_place = h.each_node place before found
+
+  pub sound : (job : ℕ) → AreSound nodes (cluster job).stores
   sound job = cluster_AreSound nodes job (inputs_until nodes job history)
 
-  here : (job : ℕ) → (store : Store) × (slice_get (cluster job).stores place ≡ Some store)
+  pub here : (job : ℕ) → (store : Store) × (slice_get (cluster job).stores place ≡ Some store)
   here job = store_found nodes (cluster job).stores place (sound job) within
 
-  shown : (job : ℕ) → Shows m.before job (view_of (here job).0)
+  abbrev pub view_at : ℕ → View
+  view_at job = view_of (here job).0
+
+  pub shown : ShowsAll before view_at
   shown job = at_place.shows job (here job).0 (here job).1
 
-  given_is : (job : ℕ) → job_of e ≡ job → IsGiven place (view_of (here job).0) (input_of e m.given.reply) m.given
-  given_is job j =
-      subst (λ n. IsGiven n (view_of (here job).0) (input_of e m.given.reply) m.given) at_place.number
-      (m.steps.told (view_of (here job).0) (subst (λ k. Shows m.before k (view_of (here job).0)) (sym j) (shown job)))
+  bytes_are : (id : ObjectId) → bytes_at (here id.job.0).0.contents.bytes id ≡ granted_bytes nodes place (λ other. inputs_until nodes other history) id
+  bytes_are id = sym (ap (λ o. option_map_or (λ (store : Store). bytes_at store.contents.bytes id) o []) (here id.job.0).1)
 
-  answered : is_no_memory (Told m.given.reply) ≡ false
-  answered =
-      told_no_memory place m.before.admissions (view_of (here (job_of e)).0) e m.given b m.steps.operator
-      ((sound (job_of e)).each place (here (job_of e)).0 (here (job_of e)).1).wants (given_is (job_of e) refl)
+  -- the trace and the node know the same of what was before
+  pub before_same : before_of before view_at ≡ before_at nodes place history
+  before_same = λ i. record { out = λ job number. at_place.out job number i; bytes = λ id. bytes_are id i; hands = at_place.hands i }
 
-  turned_to : (job : ℕ) → Turn nodes place job e m.given.reply history
-  turned_to job = turn nodes place job e m.given.reply history b at_place.hands answered
+module _ (nodes memory place : ℕ) (e : NodeEvent) (given : Given) (old new : Hosting) (history : List Traced) (entry : Traced)
+    (h : IsAfter nodes memory old history) (within : place < nodes) (m : Moves old place e given new) (n : wants_memory given.reply ≡ false)
+    (k : IsEntry nodes memory place e given.reply (view_at nodes memory place old history h within m.before m.found) m.before.works.works m.before.admissions history entry) where
+  abbrev v : ℕ → View
+  v = view_at nodes memory place old history h within m.before m.found
+
+  abbrev store : ℕ → Store
+  store job = (here nodes memory place old history h within m.before m.found job).0
+
+  there_is : (job : ℕ) → slice_get (cluster_until nodes job history).stores place ≡ Some (store job)
+  there_is job = (here nodes memory place old history h within m.before m.found job).1
+
+  abbrev b : Before
+  b = before_at nodes place history
+
+  b_same : before_of m.before v ≡ b
+  b_same = before_same nodes memory place old history h within m.before m.found
+
+  p : IsNodeAfter nodes memory place m.before history
+  p = h.each_node place m.before m.found
+
+  s : StepsFrom m.before v e given m.after
+  s = m.steps.each v (shown nodes memory place old history h within m.before m.found)
+
+  abbrev xs : ℕ → List Input
+  xs job = inputs_to b e given.reply job
+
+  moved : (job : ℕ) → IsMovedBy (cluster_until nodes job history) place (store job) (xs job) (cluster_until nodes job (entry ∷ history))
+  moved job = subst (IsMovedBy (cluster_until nodes job history) place (store job) (xs job)) (sym (k.moves job)) (moved_by (cluster_until nodes job history) place (store job) (xs job) (there_is job))
 
   -- ---- views
 
-  view_here : (job : ℕ) → Shows m.after job (view_after place job (view_of (here job).0) e m.given.reply)
-  view_here job = subst (λ n. Shows m.after job (view_after n job (view_of (here job).0) e m.given.reply)) at_place.number (m.steps.views job (view_of (here job).0) (shown job))
+  view_is : (job : ℕ) → view_from m.before.number (v job) (inputs_to (before_of m.before v) e given.reply job) ≡ view_of (store_from place (store job) (xs job))
+  view_is job =
+      (λ i. view_from (p.number i) (v job) (inputs_to (b_same i) e given.reply job))
+      ∙ sym (view_of_run place (store job) (xs job) ((sound nodes memory place old history h within m.before m.found job).each place (store job) (there_is job)).stamped)
 
-  moved_to : (job : ℕ) (x : Input) → cluster_until nodes job (entry ∷ history) ≡ (moved_at (cluster job) place (here job).0 (private_outcome place (here job).0 x)).cluster → (store : Store)
-      → slice_get (cluster_until nodes job (entry ∷ history)).stores place ≡ Some store → store ≡ private_step place (here job).0 x
-  moved_to job x moved store f =
-      some_value store (private_step place (here job).0 x)
-      (sym f ∙ ap (λ (k : Cluster). slice_get k.stores place) moved ∙ slice_get-slice_set (cluster job).stores place (here job).0 (private_step place (here job).0 x) (here job).1)
+  shows_here : (job : ℕ) (after : Store) → slice_get (cluster_until nodes job (entry ∷ history)).stores place ≡ Some after → Shows m.after job (view_of after)
+  shows_here job after f =
+      let same : after ≡ store_from place (store job) (xs job) = some_value after (store_from place (store job) (xs job)) (sym f ∙ (moved job).here) in
+      subst (λ s. Shows m.after job (view_of s)) (sym same) (subst (Shows m.after job) (view_is job) (s.views job))
 
-  shows_here : (job : ℕ) (store : Store) → slice_get (cluster_until nodes job (entry ∷ history)).stores place ≡ Some store → Shows m.after job (view_of store)
-  shows_here job store f = by (turned_to job)
-    where
-      by : Turn nodes place job e m.given.reply history → Shows m.after job (view_of store)
-      by (stays own now view) =
-          let same : store ≡ (here job).0 = some_value store (here job).0 (sym f ∙ ap (λ (k : Cluster). slice_get k.stores place) (cluster_after nodes job entry history [] now) ∙ (here job).1) in
-          subst (λ s. Shows m.after job (view_of s)) (sym same) (subst (Shows m.after job) (view (view_of (here job).0)) (view_here job))
-      by (moves x j i now view) =
-          let moved = cluster_after nodes job entry history (at_node place x ∷ []) now ∙ ap (λ o. o.cluster) (input_found (cluster job) place x (here job).0 (here job).1) in
-          let stamped = ((sound job).each place (here job).0 (here job).1).stamped in
-          subst (λ s. Shows m.after job (view_of s)) (sym (moved_to job x moved store f))
-          (subst (Shows m.after job) (view (view_of (here job).0) ∙ sym (view_of_step place (here job).0 x stamped)) (view_here job))
+  -- ---- works
 
-  store_there : (job other : ℕ) → place ≢ other → slice_get (cluster_until nodes job (entry ∷ history)).stores other ≡ slice_get (cluster job).stores other
-  store_there job other apart = by (turned_to job)
-    where
-      by : Turn nodes place job e m.given.reply history → slice_get (cluster_until nodes job (entry ∷ history)).stores other ≡ slice_get (cluster job).stores other
-      by (stays own now view) = ap (λ (k : Cluster). slice_get k.stores other) (cluster_after nodes job entry history [] now)
-      by (moves x j i now view) =
-          ap (λ (k : Cluster). slice_get k.stores other) (cluster_after nodes job entry history (at_node place x ∷ []) now ∙ ap (λ o. o.cluster) (input_found (cluster job) place x (here job).0 (here job).1))
-          ∙ slice_get-slice_set_other (cluster job).stores place other (private_step place (here job).0 x) (λ same. apart (sym same))
+  asked_same : asked_now m.before.number v (own_here (before_of m.before v) e given.reply) ≡ asked_now place v (own_here b e given.reply)
+  asked_same = λ i. asked_now (p.number i) v (own_here (b_same i) e given.reply)
+
+  line_is : m.after.works.works ≡ line_left m.before.works.works e given.reply ++ asked_now place v (own_here b e given.reply)
+  line_is = s.line ∙ ap (λ l. line_left m.before.works.works e given.reply ++ l) asked_same
+
+  taken_more : (o : Option JobInput) (job number : ℕ) → is_taken (line_left m.before.works.works e given.reply ++ asked_now place v o) job number ≡ is_taken (line_left m.before.works.works e given.reply) job number
+  taken_more None job number = ap (λ l. is_taken l job number) (append-nil (line_left m.before.works.works e given.reply))
+  taken_more (Some x) job number = is_taken_queued (line_left m.before.works.works e given.reply) x.job _ job number
+
+  untaken_more : (o : Option JobInput) → untaken (line_left m.before.works.works e given.reply ++ asked_now place v o)
+      ≡ untaken (line_left m.before.works.works e given.reply) ++ option_map_or (λ x. map (λ w. record { job = x.job; number = w.number }) (private_outcome place (store x.job) x.input).works) o []
+  untaken_more None = ap untaken (append-nil (line_left m.before.works.works e given.reply)) ∙ sym (append-nil (untaken (line_left m.before.works.works e given.reply)))
+  untaken_more (Some x) = untaken_queued (line_left m.before.works.works e given.reply) x.job (private_outcome place (store x.job) x.input).works
 
   -- ---- nodes
 
   node_here : IsNodeAfter nodes memory place m.after (entry ∷ history)
   node_here = record {
-    number = m.steps.number ∙ at_place.number;
-    size = ap (λ a. a.memory) m.steps.admissions ∙ memory_stays m.before.admissions e m.given.reply ∙ at_place.size;
-    lives = m.steps.lives ∙ (λ i. lives_after (at_place.size i) (at_place.lives i) e m.given.reply) ∙ lives_here memory place (shared.lives_after memory place history) e m.given.reply b;
-    greatest = λ job z. greatest_here place m.before.admissions e m.given.reply job _ b m.steps.operator (at_place.greatest job z) ∙ ap (λ a. nat_le job a.greatest) (sym m.steps.admissions);
+    number = m.steps.number ∙ p.number;
+    size = ap (λ a. a.memory) m.steps.admissions ∙ memory_stays m.before.admissions e given.reply ∙ p.size;
+    lives = m.steps.lives ∙ (λ i. lives_after (p.size i) (p.lives i) e given.reply) ∙ k.lives.lives_here (shared.lives_after memory place history);
+    greatest = λ job z. k.lives.greatest job _ (p.greatest job z) ∙ ap (λ a. nat_le job a.greatest) (sym m.steps.admissions);
     shows = shows_here;
-    hands = ap (λ hands. hands_step place hands (At place e) (Told m.given.reply)) at_place.hands ∙ hands_none place place e m.given.reply b;
+    hands = m.steps.hands ∙ ap (λ hands. hands_after hands e given.reply) p.hands ∙ sym k.tables.hands_here;
+    waiting = ap untaken line_is ∙ untaken_more (own_here b e given.reply)
+        ∙ (λ i. k.tables.left_here i ++ sym k.tables.asked_here i)
+        ∙ ap (λ w. filter (λ asked. not (shared.leaves place asked entry.step entry.answer)) w ++ shared.asked_by nodes place history entry) p.waiting;
+    out = λ job number. ap (λ l. is_taken l job number) line_is ∙ taken_more (own_here b e given.reply) job number ∙ k.tables.out_here job number
+        ∙ ap (λ was. out_after place job number was entry.step entry.answer) (p.out job number);
   }
 
   node_there : (other : ℕ) (node : Hosted) → place ≢ other → IsNodeAfter nodes memory other node history → IsNodeAfter nodes memory other node (entry ∷ history)
-  node_there other node apart k = record {
-    number = k.number;
-    size = k.size;
-    lives = k.lives ∙ sym (lives_there memory place other (shared.lives_after memory other history) e m.given.reply b apart);
-    greatest = λ job z. ap (λ t. t || list_any (λ entry. is_admission other job entry.step entry.answer) history) (admission_there place other e m.given.reply job apart) ∙ k.greatest job z;
-    shows = λ job store f. k.shows job store (sym (store_there job other apart) ∙ f);
-    hands = ap (λ hands. hands_step other hands (At place e) (Told m.given.reply)) k.hands ∙ hands_none other place e m.given.reply b;
+  node_there other node apart q = record {
+    number = q.number;
+    size = q.size;
+    lives = q.lives ∙ sym (k.lives.lives_there other apart (shared.lives_after memory other history));
+    greatest = λ job z. ap (λ t. t || list_any (λ entry. is_admission other job entry.step entry.answer) history) (k.lives.admission_there other job apart) ∙ q.greatest job z;
+    shows = λ job store f. q.shows job store (sym ((moved job).there other apart) ∙ f);
+    hands = q.hands ∙ sym (k.tables.hands_there other apart (hands_at other history));
+    waiting = q.waiting ∙ sym (k.tables.left_there other apart (waiting nodes other history))
+        ∙ sym (append-nil (filter (λ asked. not (shared.leaves other asked entry.step entry.answer)) (waiting nodes other history)))
+        ∙ ap (λ l. filter (λ asked. not (shared.leaves other asked entry.step entry.answer)) (waiting nodes other history) ++ l) (sym (k.tables.asked_there other apart));
+    out = λ job number. q.out job number ∙ sym (k.tables.out_there other apart job number (is_out other job number history));
   }
 
   node_after : (other : ℕ) (node : Hosted) → slice_get new.nodes other ≡ Some node → IsNodeAfter nodes memory other node (entry ∷ history)
@@ -133,107 +234,46 @@ module _ (nodes memory place : ℕ) (e : Event) (told : Reply (List ℕ)) (old n
       node_there other node apart (h.each_node other node (sym (slice_get-slice_set_other old.nodes place other m.after (λ same. apart (sym same))) ∙ ap (λ ns. slice_get ns other) (sym m.nodes) ∙ f)))
       (cases_eq place other)
 
-  -- ---- the world
+  -- ---- jobs
 
-  job_is : (job : ℕ) → IsJobAfter nodes job (sent_of new.messages job) (entry ∷ history)
+  given_is : IsGiven place v (own_here b e given.reply) given
+  given_is =
+      subst (λ o. IsGiven place v o given) (own_same b e given.reply n)
+      (subst (λ n. IsGiven n v (own_due b e given.reply) given) p.number (subst (λ c. IsGiven m.before.number v (own_due c e given.reply) given) b_same s.told))
+
+  sent_by : (job : ℕ) (sent : List Sent) (o : Option JobInput) → IsOfJob (job_of e) o → IsGiven place v o given
+      → cond (job_of e == job) (sent ++ posted (Node place) given.posts) sent ≡ sent ++ posted (Node place) (posts_from place (store job) (own_of job o))
+  sent_by job sent None of g = nothing (job_of e == job)
+    where
+      nothing : (t : Bool) → cond t (sent ++ posted (Node place) given.posts) sent ≡ sent ++ []
+      nothing true = ap (λ posts. sent ++ posted (Node place) posts) g.posts
+      nothing false = sym (append-nil sent)
+  sent_by job sent (Some x) of g = ap (λ n. cond (n == job) (sent ++ posted (Node place) given.posts) sent) of ∙ by (x.job == job) refl
+    where
+      by : (t : Bool) → (x.job == job) ≡ t → cond t (sent ++ posted (Node place) given.posts) sent ≡ sent ++ posted (Node place) (posts_from place (store job) (cond t (x.input ∷ []) []))
+      by false is = sym (append-nil sent)
+      by true is =
+          let same = same_number x.job job is in
+          ap (λ posts. sent ++ posted (Node place) posts)
+          (g.posts ∙ ap (λ j. (private_outcome place (store j) x.input).posts) same ∙ sym (append-nil (private_outcome place (store job) x.input).posts))
+
+  job_is : (job : ℕ) → IsJobAfter nodes job (sent_of new.messages job) (locations_of new.tables (record { 0 = job })) (entry ∷ history)
   job_is job =
-      subst (λ sent. IsJobAfter nodes job sent (entry ∷ history)) (sym (m.sent job))
-      (job_after nodes job place e m.given history (sent_of old.messages job) (h.each_job job) b at_place.hands answered (here job).0 (here job).1 (given_is job) (turned_to job))
+      let j = h.each_job job in
+      record {
+        messages = m.sent job
+            ∙ sent_by job (sent_of old.messages job) (own_here b e given.reply) (own_is_of b e given.reply) given_is
+            ∙ (λ i. j.messages i ++ posted (Node place) (sym (own_posts place job b e given.reply (store job)) i))
+            ∙ sym (moved job).sent;
+        locations = ap (λ t. locations_of t (record { 0 = job })) m.tables ∙ j.locations ∙ sym (moved job).locations;
+        replies = replies_more nodes job entry history j.replies (k.replies job);
+      }
 
-  after_given : IsAfter nodes memory new (entry ∷ history)
-  after_given = record {
+  -- the world after the event
+  pub after_event : IsAfter nodes memory new (entry ∷ history)
+  after_event = record {
     count = ap length m.nodes ∙ length-slice_set old.nodes place m.after ∙ h.count;
     each_node = node_after;
     each_job = job_is;
-    due = λ i. due nodes memory place history m.before.admissions at_place.lives at_place.size at_place.greatest e m.given.reply b m.steps.operator answered i ∷ h.due i;
+    due = λ i. k.due i ∷ h.due i;
   }
-
-  -- the world after the step
-  pub after_step : IsAfter nodes memory new (record { step = At place e; answer = Told told } ∷ history)
-  after_step = subst (λ r. IsAfter nodes memory new (record { step = At place e; answer = Told r } ∷ history)) m.reply after_given
-
-  -- whose answer isn't want of memory
-  pub step_answered : is_no_memory (Told told) ≡ false
-  step_answered = subst (λ r. is_no_memory (Told r) ≡ false) m.reply answered
-
--- the world after a step for which there was no memory
-pub after_none : (nodes memory place : ℕ) (e : Event) (world : Hosting) (history : List Traced) → IsAfter nodes memory world history → is_built e ≡ true → place < nodes
-    → hands_at place history ≡ [] → IsAfter nodes memory world (record { step = At place e; answer = Told (reply.Refused NoMemory) } ∷ history)
-after_none nodes memory place e world history h b within none = record {
-  count = h.count;
-  each_node = λ other node f.
-      let k = h.each_node other node f in
-      record {
-        number = k.number;
-        size = k.size;
-        lives = k.lives ∙ sym (lives_none memory place other (shared.lives_after memory other history) e b);
-        greatest = λ job z. ap (λ t. t || list_any (λ entry. is_admission other job entry.step entry.answer) history) (admission_none place other e job) ∙ k.greatest job z;
-        shows = λ job store at_other. k.shows job store (sym (ap (λ (c : Cluster). slice_get c.stores other) (cluster_after nodes job (record { step = At place e; answer = Told (reply.Refused NoMemory) }) history [] (inputs_none nodes place e history b none job))) ∙ at_other);
-        hands = k.hands;
-      };
-  each_job = λ job. job_after_none nodes job place e history (sent_of world.messages job) (h.each_job job) b none;
-  due = ap (λ answers. Told (reply.Refused NoMemory) ∷ answers) h.due;
-}
-
--- ---- the same of a step as it is given
-
-module _ (step : Step) (place : ℕ) (e : Event) (old : Hosting) (is : step ≡ At place e) (built : is_built_step (length old.nodes) step ≡ true)
-    (nodes memory : ℕ) (history : List Traced) (h : IsAfter nodes memory old history) where
-  at_is : nat_lt place (length old.nodes) && is_built e ≡ true
-  at_is = ap (is_built_step (length old.nodes)) (sym is) ∙ built
-
-  event_built : is_built e ≡ true
-  event_built = both_right (nat_lt place (length old.nodes)) (is_built e) at_is
-
-  inside : place < length old.nodes
-  inside = is_less place (length old.nodes) (both_left (nat_lt place (length old.nodes)) (is_built e) at_is)
-
-  within_nodes : place < nodes
-  within_nodes = subst (λ n. place < n) h.count inside
-
-  pub world_after : (told : Reply (List ℕ)) (new : Hosting) → Moves old place e told new → IsAfter nodes memory new (record { step = step; answer = Told told } ∷ history)
-  world_after told new m =
-      subst (λ s. IsAfter nodes memory new (record { step = s; answer = Told told } ∷ history)) (sym is)
-      (after_step nodes memory place e told old new history h event_built within_nodes m)
-
-  pub world_answered : {B : Type 0} (told : Reply (List ℕ)) (new : Hosting) → Moves old place e told new → is_no_memory (Told told) ≡ true → B
-  world_answered told new m n = true_false (sym (step_answered nodes memory place e told old new history h event_built within_nodes m) ∙ n)
-
-  pub world_after_none : (new : Hosting) → new ≡ old → IsAfter nodes memory new (record { step = step; answer = Told (reply.Refused NoMemory) } ∷ history)
-  world_after_none new same =
-      let node = found_within old.nodes place inside in
-      subst (λ w. IsAfter nodes memory w (record { step = step; answer = Told (reply.Refused NoMemory) } ∷ history)) (sym same)
-      (subst (λ s. IsAfter nodes memory old (record { step = s; answer = Told (reply.Refused NoMemory) } ∷ history)) (sym is)
-      (after_none nodes memory place e old history h event_built within_nodes (h.each_node place node.0 node.1).hands))
-
--- ---- a new world
-
-pub AreNew-push : (memory many : ℕ) (nodes : List Hosted) (node : Hosted) → AreNew memory many nodes → IsNew memory many node → AreNew memory (many + 1) (nodes ++ node ∷ [])
-AreNew-push memory many nodes node h k = record {
-  count = grind (arith, common_steps, h.count);
-  each = λ place x f. elim (slice_get-push nodes node place x f) [
-    | inl there ↦ h.each place x there
-    | inr last ↦ subst (IsNew memory place) (sym last.1) (subst (λ n. IsNew memory n node) (sym (last.0 ∙ h.count)) k)
-  ];
-}
-
-none_yet : (job : ℕ) → (job == 0) ≡ false → false ≡ nat_le job 0
-none_yet job z = grind (arith, nat_tests)
-
-new_node : (nodes memory place : ℕ) (node : Hosted) → IsNew memory place node → IsNodeAfter nodes memory place node []
-new_node nodes memory place node k = record {
-  number = k.number;
-  size = ap (λ a. a.memory) k.admissions;
-  lives = ap (λ a. lives_of a.live) k.admissions;
-  greatest = λ job z. none_yet job z ∙ ap (λ a. nat_le job a.greatest) (sym k.admissions);
-  shows = λ job store f. subst (λ s. Shows node job (view_of s)) (sym (no_cluster_at job nodes place store f)) (k.shows job);
-  hands = refl;
-}
-
-pub new_world : (nodes memory : ℕ) (hosted : List Hosted) (messages : List (JobNo × List Sent)) → AreNew memory nodes hosted → messages ≡ [] → IsAfter nodes memory (record { nodes = hosted; messages = messages }) []
-new_world nodes memory hosted messages h nothing = record {
-  count = h.count;
-  each_node = λ place node f. new_node nodes memory place node (h.each place node f);
-  each_job = λ job. record { messages = ap (λ m. sent_of m job) nothing; locations = refl; replies = refl };
-  due = refl;
-}

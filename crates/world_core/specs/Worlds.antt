@@ -1,5 +1,5 @@
--- A world of nodes, and what it shows after a history: a trace so far, newest first.
-use Rattle.std.specs.Prelude.{◌≡◌, ℕ, ◌==◌, nat_le, nat_lt, Bool, false, ◌&&◌, List, [], length, map, reverse, filter, slice_get, Some}
+-- A world of nodes and a directory, and what it shows after a history: a trace so far, newest first.
+use Rattle.std.specs.Prelude.{◌≡◌, ℕ, ◌==◌, nat_le, nat_lt, Bool, false, not, ◌&&◌, List, [], length, map, reverse, filter, slice_get, Some}
 use Rattle.std.specs.List.{list_any}
 use Rattle.obj_id.specs.declared.ids.JobNo.{JobNo}
 use Rattle.private_store.specs.declared.schedules.Step.{Step}
@@ -7,33 +7,44 @@ use Rattle.private_store.specs.declared.schedules.Step.TheVariants.{At, Deliver}
 use Rattle.private_store.specs.declared.schedules.Traced.{Traced}
 use Rattle.private_store.specs.Private.{Store, view_of, no_store}
 use Rattle.private_store.specs.Cluster.{Sent, private_run}
-use Rattle.private_store.specs.Trace.{hands_at, inputs_until, cluster_until, replies_of, is_answered}
-use Rattle.private_store.specs.Shared.{lives_after, is_admission, answers_due}
+use Rattle.private_store.specs.Trace.{hands_at, is_out, inputs_until, cluster_until, replies_of, is_answered}
+use Rattle.private_store.specs.Shared.{AskedWork, waiting, lives_after, is_admission, answers_due}
+use Rattle.spill_work.specs.declared.queue.Queued.{Queued}
 use Rattle.job_admission.specs.Admissions.{largest_memory, lives_of}
-use Rattle.node_core.specs.Hosted.{Hosted, Shows}
-use Rattle.node_core.specs.Steps.{is_built}
 use Rattle.world_core.specs.declared.Shape.{Shape}
+use Rattle.owner_directory.specs.Locations.{Rows, Locations, locations_of}
 use Rattle.world_core.specs.Logs.{sent_of}
+use Rattle.node_core.specs.Hosted.{Hosted, Shows}
+use Rattle.node_core.specs.Built.{is_built}
+use Rattle.node_core.specs.Steps.{is_taken}
 
 -- what a contract sees of a world
 pub record Hosting : Type 0 where
   -- by number
   pub nodes : List Hosted
+  -- by job, the directory's locations
+  pub tables : Rows
   -- by job, all messages ever sent, oldest first
   pub messages : List (JobNo × List Sent)
-
--- the nodes of the largest world
-abbrev pub most_nodes : ℕ
-most_nodes = 8
-
--- a node at least, and none with more than the largest memory
-abbrev pub is_shape : Shape → Bool
-is_shape shape = nat_le 1 shape.nodes && nat_le shape.nodes most_nodes && nat_le shape.memory largest_memory
 
 -- the steps that are built: an event that is built, at one of the nodes
 abbrev pub is_built_step : ℕ → Step → Bool
 is_built_step nodes (At place e) = nat_lt place nodes && is_built e
 is_built_step nodes (Deliver job from to m damage) = false
+
+-- ---- a node's line of works, as the trace tells it
+
+abbrev pub is_waiting : Queued → Bool
+is_waiting work = not work.taken
+
+abbrev pub asked_of : Queued → AskedWork
+asked_of work = record { job = work.asked.job.0; number = work.asked.number }
+
+-- the works that nobody has taken
+abbrev pub untaken : List Queued → List AskedWork
+untaken works = map asked_of (filter is_waiting works)
+
+-- ---- after a history
 
 -- a node after a history
 pub record IsNodeAfter (nodes memory place : ℕ) (node : Hosted) (history : List Traced) : Type 0 where
@@ -46,14 +57,17 @@ pub record IsNodeAfter (nodes memory place : ℕ) (node : Hosted) (history : Lis
       → list_any (λ entry. is_admission place job entry.step entry.answer) history ≡ nat_le job node.admissions.greatest
   -- it shows of every job number the job's private store at this place
   pub shows : (job : ℕ) (store : Store) → slice_get (cluster_until nodes job history).stores place ≡ Some store → Shows node job (view_of store)
-  -- nothing is granted
-  pub hands : hands_at place history ≡ []
+  -- its hands are those that stand
+  pub hands : node.hands ≡ hands_at place history
+  -- of its works, in the order asked, the untaken ones wait, and the taken ones are out
+  pub waiting : untaken node.works.works ≡ waiting nodes place history
+  pub out : (job number : ℕ) → is_taken node.works.works job number ≡ is_out place job number history
 
--- a job, with all that it sent, after a history
-pub record IsJobAfter (nodes job : ℕ) (sent : List Sent) (history : List Traced) : Type 0 where
-  -- its messages are those of its private cluster, whose directory knows nothing yet
+-- a job, with all that it sent and the directory's locations, after a history
+pub record IsJobAfter (nodes job : ℕ) (sent : List Sent) (table : Locations) (history : List Traced) : Type 0 where
+  -- its messages and locations are those of its private cluster
   pub messages : sent ≡ (cluster_until nodes job history).sent
-  pub locations : (cluster_until nodes job history).locations ≡ []
+  pub locations : table ≡ (cluster_until nodes job history).locations
   -- its replies, but for want of memory, are those of its private cluster
   pub replies : filter is_answered (replies_of job (reverse history)) ≡ private_run job nodes (inputs_until nodes job history)
 
@@ -61,7 +75,7 @@ pub record IsJobAfter (nodes job : ℕ) (sent : List Sent) (history : List Trace
 pub record IsAfter (nodes memory : ℕ) (world : Hosting) (history : List Traced) : Type 0 where
   pub count : length world.nodes ≡ nodes
   pub each_node : (place : ℕ) (node : Hosted) → slice_get world.nodes place ≡ Some node → IsNodeAfter nodes memory place node history
-  pub each_job : (job : ℕ) → IsJobAfter nodes job (sent_of world.messages job) history
+  pub each_job : (job : ℕ) → IsJobAfter nodes job (sent_of world.messages job) (locations_of world.tables (record { 0 = job })) history
   -- what was answered is what was due
   pub due : map (λ entry. entry.answer) history ≡ answers_due nodes memory history
 
@@ -69,9 +83,19 @@ pub record IsAfter (nodes memory : ℕ) (world : Hosting) (history : List Traced
 pub record IsNew (memory place : ℕ) (node : Hosted) : Type 0 where
   pub number : node.number ≡ place
   pub admissions : node.admissions ≡ record { memory = memory; greatest = 0; live = [] }
+  pub works : node.works.works ≡ []
+  pub hands : node.hands ≡ []
   pub shows : (job : ℕ) → Shows node job (view_of (no_store job))
 
 -- so many of them, by number
 pub record AreNew (memory many : ℕ) (nodes : List Hosted) : Type 0 where
   pub count : length nodes ≡ many
   pub each : (place : ℕ) (node : Hosted) → slice_get nodes place ≡ Some node → IsNew memory place node
+
+-- the nodes of the largest world
+abbrev pub most_nodes : ℕ
+most_nodes = 8
+
+-- a node at least, and none with more than the largest memory
+abbrev pub is_shape : Shape → Bool
+is_shape shape = nat_le 1 shape.nodes && nat_le shape.nodes most_nodes && nat_le shape.memory largest_memory

@@ -1,6 +1,6 @@
 //! Which steps are built.
 ghost use Rattle.std.specs.Prelude.{◌≡◌};
-ghost use Rattle.node_core.specs.Steps.{is_built as is_built_lem, is_built_command as is_built_command_lem};
+ghost use Rattle.node_core.specs.Built.{is_built as is_built_lem, is_built_command as is_built_command_lem};
 ghost use Rattle.world_core.specs.Worlds.{is_built_step as is_built_step_lem};
 
 use bytes::Bytes;

@@ -7,9 +7,10 @@ ghost use Rattle.obj_id.specs.declared.refusals.Refusal.{Refusal};
 ghost use Rattle.obj_id.specs.declared.refusals.Refusal.TheVariants.{NoMemory};
 ghost use Rattle.private_store.specs.declared.schedules.Traced.{Traced};
 ghost use Rattle.private_store.specs.Trace.{is_no_memory};
-ghost use Rattle.node_core.specs.Steps.{is_built, job_of as job_of_lem};
+ghost use Rattle.node_core.specs.Built.{is_built};
+ghost use Rattle.node_core.specs.Steps.{job_of_event};
 ghost use Rattle.world_core.specs.Worlds.{is_shape, is_built_step as is_built_step_lem, AreNew, IsAfter};
-ghost use Rattle.world_core.specs.Moves.{Moves};
+ghost use Rattle.world_core.specs.Moves.{Happens};
 
 mod built;
 mod messages;
@@ -40,12 +41,13 @@ pub struct World {
 }
 
 impl Model for World {
+    ghost use Rattle.std.specs.Prelude.{[]};
     ghost use Rattle.world_core.specs.Logs.{messages_of};
     ghost use Rattle.world_core.specs.Worlds.{Hosting};
 
     ghost Value = { Hosting };
 
-    ghost view = { λ w. record { nodes = w.nodes.items; messages = messages_of w.messages.logs } };
+    ghost view = { λ w. record { nodes = w.nodes.items; tables = []; messages = messages_of w.messages.logs } };
 }
 
 impl World {
@@ -84,7 +86,7 @@ impl World {
     fn apply(&mut self, place: u32, event: &Event) -> Result<Reply<Bytes>, Refusal>
         requires place { place < length self.old.nodes }
         requires built { is_built event.now ≡ true }
-        ensures ok { IfOk result (λ reply. Moves self.old place event.now reply self.new) }
+        ensures ok { IfOk result (λ reply. Happens self.old place event.now reply self.new) }
         ensures err { OnErr result (self.new ≡ self.old) }
     {
         let job = job_of(event);
@@ -115,7 +117,7 @@ fn new_nodes(alloc: Global, shape: Shape) -> Result<Vec<Node>, AllocError>
 
 /// The job that an event is of: 0 for what is of none.
 fn job_of(event: &Event) -> JobNo
-    ensures { result.0 ≡ job_of_lem event.now }
+    ensures { result.0 ≡ job_of_event event.now }
 {
     match event {
         Event::Admit(job, _, _) => *job,

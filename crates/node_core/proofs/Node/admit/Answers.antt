@@ -6,7 +6,7 @@ use Rattle.private_store.specs.Jobs.{same_job}
 use Rattle.private_store.specs.declared.schedules.Event.TheVariants as event
 use Rattle.node_table.specs.Row.{Row, new_row}
 use Rattle.node_core.specs.Hosted.{Hosted}
-use Rattle.node_core.specs.Steps.{Steps}
+use Rattle.node_core.specs.OneJob.{StepsOne}
 use Rattle.node_core.proofs.Admitting.{absent, admitted_hosted, admit_steps}
 use Rattle.node_core.proofs.Node.admit.Goals as goal
 
@@ -28,9 +28,9 @@ returns-in-Ok-insert-clause-ok c =
     let same : c.reserve.new.self.entries ≡ rows = c.reserve.ensures.entries in
     let passed = sym c.admit_check.ensures ∙ c.in_default.is in
     let e = event.Admit c.args.job c.args.quota c.args.key in
-    let after : Hosted = record { number = c.self.inside.number; admissions = c.admit.new.self; works = c.self.inside.works; rows = new } in
-    subst (λ given. Steps c.args.self.now e given after) (sym c.only-in-Ok-insert.ensures)
-    (subst (λ old. Steps old e _ after) c.self.view_is
+    let after : Hosted = record { number = c.self.inside.number; admissions = c.admit.new.self; works = c.self.inside.works; hands = []; rows = new } in
+    subst (λ given. StepsOne c.args.self.now e given after) (sym c.only-in-Ok-insert.ensures)
+    (subst (λ old. StepsOne old e _ after) c.self.view_is
     (admit_steps c.self.inside.number c.self.inside.admission c.admit.new.self c.self.inside.works c.args.job c.args.quota c.args.key rows new c.self.invariant passed c.in-Ok-admit.ensures.ok
     (λ q. c.in-Ok-insert.ensures.updates.0 q
     ∙ ap (λ (r : Row). cond (same_job c.args.job q) (Some r) (lookup (same_job q) c.reserve.new.self.entries)) c.in-Ok.ensures

@@ -5,8 +5,8 @@ use Rattle.std.proofs.lemmas.Map.Steps.{set_value_same}
 use Rattle.private_store.specs.Jobs.{same_job}
 use Rattle.private_store.specs.declared.schedules.Event.TheVariants as event
 use Rattle.node_table.specs.Outcomes.{given_of}
-use Rattle.node_core.specs.Steps.{Steps}
-use Rattle.node_core.proofs.Calling.{if_ok, both_err}
+use Rattle.node_core.specs.OneJob.{StepsOne}
+use Rattle.node_core.proofs.Calling.{if_ok_on, both_err}
 use Rattle.node_core.proofs.Views.{with_rows, with_all, call_steps, refused_steps}
 use Rattle.node_core.proofs.Node.call.Goals as goal
 
@@ -16,8 +16,8 @@ returns-in_default-clause-ok c =
     let same = ap (λ r. r.entries) c.get_mut.follows.holds-at-none in
     let none = ap (lookup (same_job c.args.job)) same ∙ sym c.get_mut.ensures.value ∙ ap option_copied_mut c.in_default.is in
     let all = with_rows c.self.inside.number c.self.inside.admission c.self.inside.works c.args.job c.args.session c.args.command.now in
-    subst (λ given. Steps c.args.self.now (event.Call c.args.job c.args.session c.args.command.now) given (all rows)) (sym c.only.ensures)
-    (subst (λ old. Steps old (event.Call c.args.job c.args.session c.args.command.now) _ (all rows)) (ap all same ∙ c.self.view_is)
+    subst (λ given. StepsOne c.args.self.now (event.Call c.args.job c.args.session c.args.command.now) given (all rows)) (sym c.only.ensures)
+    (subst (λ old. StepsOne old (event.Call c.args.job c.args.session c.args.command.now) _ (all rows)) (ap all same ∙ c.self.view_is)
     (refused_steps c.self.inside.number c.self.inside.admission c.self.inside.works c.args.job c.args.session c.args.command.now rows none))
 
 pub returns-clause-ok : goal.returns-clause-ok
@@ -26,10 +26,10 @@ returns-clause-ok c =
     let new = (c.get_mut.follows.lender c.carry_out.new.row).entries in
     let found = sym c.get_mut.ensures.value ∙ ap option_copied_mut c.in-Some.is in
     let wrote = c.get_mut.follows.holds c.carry_out.new.row in
-    if_ok c.carry_out.result c.carry_out.ensures.ok (λ o h.
-    subst (λ old. Steps old (event.Call c.args.job c.args.session c.args.command.now) (given_of o) (with_all c.self.inside.number c.self.inside.admission c.self.inside.works c.args.job c.args.session c.args.command.now new c.carry_out.new.works)) c.self.view_is
+    if_ok_on c.carry_out.result c.carry_out.ensures.ok c.carry_out.ensures.line (λ o h line.
+    subst (λ old. StepsOne old (event.Call c.args.job c.args.session c.args.command.now) (given_of o) (with_all c.self.inside.number c.self.inside.admission c.self.inside.works c.args.job c.args.session c.args.command.now new c.carry_out.new.works)) c.self.view_is
     (call_steps c.self.inside.number c.self.inside.admission c.self.inside.works c.args.job c.args.session c.args.command.now rows new c.in-Some.row.now c.carry_out.new.row c.carry_out.new.works (given_of o)
-    found (wrote.3 (ap is_some found)).0 c.requires h c.carry_out.ensures.others))
+    found (wrote.3 (ap is_some found)).0 c.requires line h c.carry_out.ensures.others))
 
 pub returns-clause-err : goal.returns-clause-err
 returns-clause-err c =

@@ -5,19 +5,19 @@ use Rattle.obj_id.specs.declared.messages.DirectoryMessage.TheVariants.{EndJob}
 use Rattle.private_store.specs.Private.{to_directory}
 use Rattle.node_table.specs.Shown.{Given}
 use Rattle.node_core.specs.Hosted.{Hosted}
-use Rattle.node_core.specs.Steps.{Steps}
+use Rattle.node_core.specs.OneJob.{StepsOne}
 use Rattle.node_core.proofs.Ending.{finished_hosted, end_steps}
 use Rattle.node_core.proofs.Node.end_job.Goals as goal
 
-pub invariant_of-self-2 : goal.invariant_of-self-2
-invariant_of-self-2 c = finished_hosted c.self.inside.admission c.finish_job.new.self c.args.job c.self.inside.rows.entries c.shift_remove.new.self.entries c.self.invariant c.in_default.ensures.ok c.shift_remove.ensures.entries
+pub invariant_of-self : goal.invariant_of-self
+invariant_of-self c = finished_hosted c.self.inside.admission c.finish_job.new.self c.args.job c.self.inside.rows.entries c.shift_remove.new.self.entries c.self.invariant c.in-Ok.ensures.ok c.shift_remove.ensures.entries
 
 pub returns-clause-ok : goal.returns-clause-ok
 returns-clause-ok c =
     let e = event.JobEnd c.args.job in
-    let after : Hosted = record { number = c.self.inside.number; admissions = c.finish_job.new.self; works = c.drop_job.new.self; rows = c.shift_remove.new.self.entries } in
+    let after : Hosted = record { number = c.self.inside.number; admissions = c.finish_job.new.self; works = c.drop_job.new.self; hands = []; rows = c.shift_remove.new.self.entries } in
     let told : Given = record { reply = reply.Ok; posts = to_directory (EndJob c.self.inside.number); erased = [] } in
-    subst (λ posts. Steps c.args.self.now e (record { reply = reply.Ok; posts = posts; erased = [] }) after) (sym c.in_ok-messages.ensures)
-    (subst (λ old. Steps old e told after) c.self.view_is
+    subst (λ posts. StepsOne c.args.self.now e (record { reply = reply.Ok; posts = posts; erased = [] }) after) (sym c.in_ok-messages.ensures)
+    (subst (λ old. StepsOne old e told after) c.self.view_is
     (end_steps c.self.inside.number c.self.inside.admission c.finish_job.new.self c.self.inside.works c.drop_job.new.self c.args.job c.self.inside.rows.entries c.shift_remove.new.self.entries
-    c.self.invariant (sym c.in_default.ensures.live) c.in_default.ensures.ok c.drop_job.ensures c.shift_remove.ensures.updates.0 c.in_default.ensures.lives))
+    c.self.invariant (sym c.in-Ok.ensures.live) c.in-Ok.ensures.ok c.drop_job.ensures c.shift_remove.ensures.updates.0 c.in-Ok.ensures.lives))

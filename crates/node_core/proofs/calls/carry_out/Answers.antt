@@ -1,8 +1,11 @@
 use Rattle.std.proofs.Common.{◌≡◌, ℕ, ◌==◌, true, List, sym, ap, subst, ◌∙◌}
+use Rattle.std.specs.Prelude.{OnOk}
+use Rattle.std.proofs.lemmas.Bool.{eqb-true}
 use Rattle.obj_id.specs.declared.ids.ObjectId.{ObjectId}
 use Rattle.obj_id.specs.declared.commands.Command.{Command}
 use Rattle.obj_id.specs.declared.commands.Command.TheVariants as command
 use Rattle.private_store.specs.declared.inputs.Input.TheVariants as input
+use Rattle.node_table.specs.Asked.{HasAsked}
 use Rattle.node_table.specs.Outcomes.{given_of}
 use Rattle.node_table.specs.Shown.{TakesStep}
 use Rattle.node_core.specs.Calls.{is_own}
@@ -58,3 +61,8 @@ returns-in-Create-clause-ok c =
     let mine = ap (λ n. c.in-Create.id.job.0 == n) own ∙ ap (is_own c.args.job.0) (sym c.in-Create.is) ∙ sym c.is_own.ensures ∙ c.if-not-is_own.false in
     subst (λ d. TakesStep c.args.node c.args.row.now c.args.works.now contents (input.Call c.args.session d) (given_of o) c.create.new.self c.create.new.works) (sym c.in-Create.is)
     (told c.args.session contents mine h))
+
+pub returns-in-Create-clause-line : goal.returns-in-Create-clause-line
+returns-in-Create-clause-line c =
+    let mine = ap (is_own c.args.job.0) (sym c.in-Create.is) ∙ sym c.is_own.ensures ∙ c.if-not-is_own.false in
+    subst (λ j. OnOk c.create.result (HasAsked c.args.works.now j c.create.new.works)) (λ i. record { 0 = eqb-true c.in-Create.id.job.0 c.args.job.0 mine i }) c.create.ensures.line

@@ -1,6 +1,6 @@
 use Rattle.std.proofs.Common.{ap}
 use Rattle.world_core.specs.Logs.{messages_of}
-use Rattle.world_core.proofs.Stepping.{new_world}
+use Rattle.world_core.proofs.Running.{new_world}
 use Rattle.world_core.proofs.World.new.Goals as goal
 
 pub returns-clause-ok : goal.returns-clause-ok

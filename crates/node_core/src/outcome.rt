@@ -1,0 +1,42 @@
+//! What an event gives at a node.
+ghost use Rattle.std.specs.Prelude.{◌≡◌, []};
+ghost use Rattle.node_table.specs.Outcomes.{given_of as row_given_of};
+ghost use Rattle.node_core.specs.Outcomes.{given_of, with_no_notes};
+
+use bytes::Bytes;
+use node_table::Erase;
+use obj_id::{Items, JobNo, Message, Place, Reply};
+use private_store::Judged;
+use std::alloc::Global;
+
+/// What an event was to the taker of a hand, without contents.
+#[derive(Debug, Drop)]
+pub struct Note {
+    /// The taker.
+    pub job: JobNo,
+    pub input: Judged,
+}
+
+/// What an event gave: the answer, the messages that are to be sent, in their order and each with its place, the
+/// device keys that are to be erased, in order of id, and what it was to the takers of hands.
+#[derive(Drop)]
+pub struct Outcome {
+    pub reply: Reply<Bytes>,
+    pub messages: Items<(Place, Message)>,
+    pub erase: Erase,
+    pub notes: Items<Note>,
+}
+
+impl Outcome {
+    /// What a row gave, where no hand changed. Takes no memory.
+    pub(crate) fn of_row(alloc: Global, outcome: node_table::Outcome) -> Outcome
+        ensures { given_of result ≡ with_no_notes (row_given_of outcome) }
+    {
+        Outcome {
+            reply: outcome.reply,
+            messages: outcome.messages,
+            erase: outcome.erase,
+            notes: Items::new(alloc),
+        }
+    }
+}

@@ -1,0 +1,96 @@
+-- A world after one step more, of any kind that is built.
+use Rattle.std.proofs.Common.{◌≡◌, ℕ, true, false, ◌<◌, List, ◌∷◌, length, refl, sym, ap, subst, ◌∙◌}
+use Rattle.std.specs.Prelude.{nat_lt}
+use Rattle.obj_id.specs.declared.refusals.Refusal.TheVariants.{NoMemory}
+use Rattle.obj_id.specs.declared.commands.Reply.{Reply}
+use Rattle.obj_id.specs.declared.commands.Reply.TheVariants as reply
+use Rattle.private_store.specs.declared.schedules.Event.{Event}
+use Rattle.private_store.specs.declared.schedules.Step.{Step}
+use Rattle.private_store.specs.declared.schedules.Step.TheVariants.{At}
+use Rattle.private_store.specs.declared.schedules.StepAnswer.{StepAnswer}
+use Rattle.private_store.specs.declared.schedules.StepAnswer.TheVariants.{Told}
+use Rattle.private_store.specs.declared.schedules.Traced.{Traced}
+use Rattle.private_store.specs.declared.schedules.NodeEvent.TheVariants.{Own}
+use Rattle.private_store.specs.NodeInputs.{before_at, own_due}
+use Rattle.private_store.specs.Private.{Store}
+use Rattle.private_store.specs.Trace.{is_no_memory}
+use Rattle.private_store.proofs.StepInputs.{want_same}
+use Rattle.private_store.proofs.Tests.{both_left, true_false}
+use Rattle.node_core.specs.Steps.{Given, IsGiven, StepsFrom}
+use Rattle.world_core.specs.Worlds.{Hosting, IsNodeAfter, IsAfter, is_built_step}
+use Rattle.world_core.specs.Moves.{Moves, Turns, at, wants, Happens}
+use Rattle.world_core.proofs.Numbers.{is_less}
+use Rattle.world_core.proofs.Stepping.{sound, here, view_at, shown, before_same, after_event}
+use Rattle.world_core.proofs.Happenings.{told_wants, is_entry}
+use Rattle.world_core.proofs.Idling.{after_wanting}
+
+module _ (nodes memory place : ℕ) (e : Event) (given : Given) (old new : Hosting) (history : List Traced)
+    (h : IsAfter nodes memory old history) (within : place < nodes) (m : Moves old place (Own e) given new) where
+  abbrev store : ℕ → Store
+  store job = (here nodes memory place old history h within m.before m.found job).0
+
+  p : IsNodeAfter nodes memory place m.before history
+  p = h.each_node place m.before m.found
+
+  s : StepsFrom m.before (view_at nodes memory place old history h within m.before m.found) (Own e) given m.after
+  s = m.steps.each (view_at nodes memory place old history h within m.before m.found) (shown nodes memory place old history h within m.before m.found)
+
+  due_given : IsGiven place (view_at nodes memory place old history h within m.before m.found) (own_due (before_at nodes place history) (Own e) given.reply) given
+  due_given =
+      subst (λ n. IsGiven n (view_at nodes memory place old history h within m.before m.found) (own_due (before_at nodes place history) (Own e) given.reply) given) p.number
+      (subst (λ c. IsGiven m.before.number (view_at nodes memory place old history h within m.before m.found) (own_due c (Own e) given.reply) given) (before_same nodes memory place old history h within m.before m.found) s.told)
+
+  -- no node answers that there is no memory
+  pub event_answered : is_no_memory (Told given.reply) ≡ false
+  event_answered =
+      told_wants m.before (view_at nodes memory place old history h within m.before m.found) place (before_at nodes place history) e given s.operator
+      (λ job. ((sound nodes memory place old history h within m.before m.found job).each place (store job) (here nodes memory place old history h within m.before m.found job).1).wants)
+      due_given
+
+  -- the world after an event of a schedule
+  pub after_at : IsAfter nodes memory new (record { step = At place e; answer = Told given.reply } ∷ history)
+  after_at =
+      after_event nodes memory place (Own e) given old new history (record { step = At place e; answer = Told given.reply }) h within m
+      (sym (want_same given.reply) ∙ event_answered)
+      (is_entry nodes memory place history m.before p store (λ job. (here nodes memory place old history h within m.before m.found job).1) e given event_answered s.operator due_given)
+
+-- ---- any step
+
+-- what a step does leaves the world after a history with one step more
+pub after_turn : (nodes memory : ℕ) (history : List Traced) (old new : Hosting) (step : Step) (told : StepAnswer)
+    → IsAfter nodes memory old history → is_built_step nodes step ≡ true → Turns old new step told → IsAfter nodes memory new (record { step = step; answer = told } ∷ history)
+after_turn nodes memory history old new step told h inside (at place e given moves) = after_at nodes memory place e given old new history h (is_less place nodes (both_left (nat_lt place nodes) _ inside)) moves
+after_turn nodes memory history old new step told h inside (wants s same) =
+    subst (λ w. IsAfter nodes memory w (record { step = s; answer = Told (reply.Refused NoMemory) } ∷ history)) (sym same) (after_wanting nodes memory history s old h)
+
+-- an answer that is want of memory is a step that did nothing
+pub turn_wants : (nodes memory : ℕ) (history : List Traced) (old new : Hosting) (step : Step) (told : StepAnswer)
+    → IsAfter nodes memory old history → is_built_step nodes step ≡ true → Turns old new step told → is_no_memory told ≡ true → new ≡ old
+turn_wants nodes memory history old new step told h inside (at place e given moves) n = true_false (sym (event_answered nodes memory place e given old new history h (is_less place nodes (both_left (nat_lt place nodes) _ inside)) moves) ∙ n)
+turn_wants nodes memory history old new step told h inside (wants s same) n = same
+
+-- ---- the same of a step as it is given
+
+turned_by : (old new : Hosting) (place : ℕ) (e : Event) (told : Reply (List ℕ)) → Happens old place e told new → Turns old new (At place e) (Told told)
+turned_by old new place e told k =
+    subst (λ r. Turns old new (At place e) (Told r)) k.reply
+    (at place e k.given (record { before = k.before; after = k.after; found = k.found; steps = k.steps; nodes = k.nodes; tables = k.tables; sent = k.sent }))
+
+module _ (nodes memory : ℕ) (history : List Traced) (old new : Hosting) (step : Step) (h : IsAfter nodes memory old history) (inside : is_built_step (length old.nodes) step ≡ true) where
+  within_nodes : is_built_step nodes step ≡ true
+  within_nodes = subst (λ n. is_built_step n step ≡ true) h.count inside
+
+  pub world_after : (told : StepAnswer) (s : Step) → step ≡ s → Turns old new s told → IsAfter nodes memory new (record { step = step; answer = told } ∷ history)
+  world_after told s is t = after_turn nodes memory history old new step told h within_nodes (subst (λ s. Turns old new s told) (sym is) t)
+
+  pub world_after_at : (place : ℕ) (e : Event) (told : Reply (List ℕ)) → step ≡ At place e → Happens old place e told new → IsAfter nodes memory new (record { step = step; answer = Told told } ∷ history)
+  world_after_at place e told is k = world_after (Told told) (At place e) is (turned_by old new place e told k)
+
+  pub world_after_none : new ≡ old → IsAfter nodes memory new (record { step = step; answer = Told (reply.Refused NoMemory) } ∷ history)
+  world_after_none same = after_turn nodes memory history old new step (Told (reply.Refused NoMemory)) h within_nodes (wants step same)
+
+  pub world_same : (told : StepAnswer) (s : Step) → step ≡ s → Turns old new s told → is_no_memory told ≡ true → new ≡ old
+  world_same told s is t = turn_wants nodes memory history old new step told h within_nodes (subst (λ s. Turns old new s told) (sym is) t)
+
+  pub world_same_at : (place : ℕ) (e : Event) (told : Reply (List ℕ)) → step ≡ At place e → Happens old place e told new → is_no_memory (Told told) ≡ true → new ≡ old
+  world_same_at place e told is k = world_same (Told told) (At place e) is (turned_by old new place e told k)
