@@ -19,6 +19,7 @@ pub mod DeviceKept
 pub mod StepsKept
 pub mod Stamped
 pub mod Runs
+pub mod StepInputs
 pub mod ExampleWords
 pub mod ExamplesOfRoom
 pub mod ExamplesOfDevices
@@ -52,3 +53,7 @@ pub mod KeptStep
 pub mod KeptView
 pub mod WorksHaveCopies
 pub mod NumbersRise
+pub mod EachStep
+pub mod ListsKept
+pub mod AnswersAre
+pub mod BriefKept

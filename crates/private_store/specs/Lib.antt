@@ -19,4 +19,8 @@ pub mod Replay
 pub mod Frames
 pub mod Kept
 pub mod Refusing
+pub mod Made
+pub mod Listed
+pub mod Answers
+pub mod NodeInputs
 pub mod Jobs

@@ -23,16 +23,16 @@ use Rattle.private_store.specs.Trace.{hands_by, hands_step, hands_at, Given, is_
 use Rattle.private_store.proofs.Tests.{true_false}
 use Rattle.private_store.proofs.Runs.{inputs_now, cluster_until-step, told_from-append}
 use Rattle.node_core.specs.Steps.{is_built, job_of, input_of, view_by, view_after}
-use Rattle.world_core.proofs.NoWant.{reply_wants}
+use Rattle.private_store.specs.Answers.{wants_memory}
 use Rattle.world_core.proofs.Numbers.{turned, same_number}
 
 -- ---- want of memory
 
-want_is : (r : Refusal) → is_no_memory (Told (reply.Refused r)) ≡ reply_wants {P = List ℕ} (reply.Refused r)
+want_is : (r : Refusal) → is_no_memory (Told (reply.Refused r)) ≡ wants_memory {P = List ℕ} (reply.Refused r)
 want_is NoMemory = refl
 want_is _ = refl
 
-pub no_memory_wants : (told : Reply (List ℕ)) → is_no_memory (Told told) ≡ reply_wants told
+pub no_memory_wants : (told : Reply (List ℕ)) → is_no_memory (Told told) ≡ wants_memory told
 no_memory_wants (reply.Refused r) = want_is r
 no_memory_wants _ = refl
 

@@ -2,7 +2,7 @@
 -- nothing.
 use Rattle.std.proofs.Common.{◌≡◌, ◌≢◌, ℕ, Bool, true, false, not, cond, ◌==◌, ◌||◌, ◌&&◌, List, [], ◌∷◌, ◌++◌, length, map, filter, Option, Some, None, is_some, is_none, refl, sym, ap, subst, ◌∙◌, arith}
 use Rattle.std.specs.Prelude.{nat_le, unwrap_or}
-use Rattle.std.specs.List.{list_any}
+use Rattle.std.specs.List.{list_all, list_any}
 use Rattle.std.specs.Option.{option_map_or}
 use Rattle.std.proofs.lemmas.Bool.Decides.{nat_tests}
 use Rattle.obj_id.specs.declared.ids.JobNo.{JobNo}
@@ -30,7 +30,9 @@ use Rattle.job_admission.proofs.Lookups.{any_live}
 use Rattle.node_table.specs.Shown.{Given}
 use Rattle.node_core.specs.Steps.{is_built, input_of, IsGiven, answered, end_check, IsOperatorAnswer, admissions_after, lives_after}
 use Rattle.world_core.proofs.Inputs.{no_memory_wants}
-use Rattle.world_core.proofs.NoWant.{is_want, reply_wants, no_check_wants, NoWants, view_step_told}
+use Rattle.private_store.specs.Answers.{wants_memory}
+use Rattle.private_store.specs.Made.{is_want}
+use Rattle.private_store.proofs.AnswersAre.{view_never_wants}
 use Rattle.world_core.proofs.Numbers.{itself, apart_number}
 
 -- ---- live jobs
@@ -147,29 +149,32 @@ admission_none place other _ job = refl
 
 -- ---- what the operator is answered
 
-answered_wants : (checks : List (Bool × Refusal)) → no_check_wants checks ≡ true → reply_wants {P = List ℕ} (answered (first_refusal checks)) ≡ false
+abbrev no_check_wants : List (Bool × Refusal) → Bool
+no_check_wants checks = list_all (λ check. not (is_want check.1)) checks
+
+answered_wants : (checks : List (Bool × Refusal)) → no_check_wants checks ≡ true → wants_memory {P = List ℕ} (answered (first_refusal checks)) ≡ false
 answered_wants [] h = refl
 answered_wants (check ∷ checks) h = by check.0 (is_want check.1) refl h (answered_wants checks)
   where
-    by : (c w : Bool) → is_want check.1 ≡ w → not w && no_check_wants checks ≡ true → (no_check_wants checks ≡ true → reply_wants {P = List ℕ} (answered (first_refusal checks)) ≡ false)
-        → reply_wants {P = List ℕ} (answered (cond c (Some check.1) (first_refusal checks))) ≡ false
+    by : (c w : Bool) → is_want check.1 ≡ w → not w && no_check_wants checks ≡ true → (no_check_wants checks ≡ true → wants_memory {P = List ℕ} (answered (first_refusal checks)) ≡ false)
+        → wants_memory {P = List ℕ} (answered (cond c (Some check.1) (first_refusal checks))) ≡ false
     by c true is h later = true_false h
     by true false is h later = is
     by false false is h later = later h
 
-ended_wants : (live : Bool) → reply_wants {P = List ℕ} (answered (cond live None (Some NotAdmitted))) ≡ false
+ended_wants : (live : Bool) → wants_memory {P = List ℕ} (answered (cond live None (Some NotAdmitted))) ≡ false
 ended_wants true = refl
 ended_wants false = refl
 
 -- no answer of a step is want of memory
-pub told_no_memory : (place : ℕ) (a : Admissions) (view : View) (e : Event) (given : Given) → is_built e ≡ true → IsOperatorAnswer a e given.reply → NoWants view.shape.copies
+pub told_no_memory : (place : ℕ) (a : Admissions) (view : View) (e : Event) (given : Given) → is_built e ≡ true → IsOperatorAnswer a e given.reply
     → IsGiven place view (input_of e given.reply) given → is_no_memory (Told given.reply) ≡ false
-told_no_memory place a view (event.Admit job quota key) given b is wants g = no_memory_wants given.reply ∙ ap reply_wants is ∙ answered_wants (checks_of a job quota) refl
-told_no_memory place a view (event.JobEnd job) given b is wants g = no_memory_wants given.reply ∙ ap reply_wants is ∙ ended_wants (is_some (live_at a job))
-told_no_memory place a view (event.Call job session c) given b is wants g = no_memory_wants given.reply ∙ ap reply_wants g.reply ∙ view_step_told place view (input.Call session c) wants
-told_no_memory place a view (event.Requota job quota) given b is wants g = true_false b
-told_no_memory place a view event.Take given b is wants g = true_false b
-told_no_memory place a view (event.Finish job number x) given b is wants g = true_false b
+told_no_memory place a view (event.Admit job quota key) given b is g = no_memory_wants given.reply ∙ ap wants_memory is ∙ answered_wants (checks_of a job quota) refl
+told_no_memory place a view (event.JobEnd job) given b is g = no_memory_wants given.reply ∙ ap wants_memory is ∙ ended_wants (is_some (live_at a job))
+told_no_memory place a view (event.Call job session c) given b is g = no_memory_wants given.reply ∙ ap wants_memory g.reply ∙ view_never_wants place view (input.Call session c)
+told_no_memory place a view (event.Requota job quota) given b is g = true_false b
+told_no_memory place a view event.Take given b is g = true_false b
+told_no_memory place a view (event.Finish job number x) given b is g = true_false b
 
 -- ---- what was due
 

@@ -33,7 +33,7 @@ use Rattle.world_core.proofs.Jobs.{input_found, job_after, job_after_none}
 use Rattle.world_core.proofs.Nodes.{lives_here, lives_there, lives_none, memory_stays, greatest_here, admission_there, admission_none, told_no_memory, due}
 use Rattle.world_core.proofs.Places.{length-slice_set, slice_get-slice_set, slice_get-slice_set_other, found_within, slice_get-push}
 use Rattle.world_core.proofs.Numbers.{is_less}
-use Rattle.world_core.proofs.Stores.{AreSound, cluster_AreSound, store_found, no_cluster_at}
+use Rattle.world_core.proofs.Stores.{AreStamped, cluster_AreStamped, store_found, no_cluster_at}
 
 module _ (nodes memory place : ℕ) (e : Event) (told : Reply (List ℕ)) (old new : Hosting) (history : List Traced)
     (h : IsAfter nodes memory old history) (b : is_built e ≡ true) (within : place < nodes) (m : Moves old place e told new) where
@@ -47,11 +47,11 @@ module _ (nodes memory place : ℕ) (e : Event) (told : Reply (List ℕ)) (old n
   abbrev cluster : ℕ → Cluster
   cluster job = cluster_until nodes job history
 
-  sound : (job : ℕ) → AreSound nodes (cluster job).stores
-  sound job = cluster_AreSound nodes job (inputs_until nodes job history)
+  stamped : (job : ℕ) → AreStamped nodes (cluster job).stores
+  stamped job = cluster_AreStamped nodes job (inputs_until nodes job history)
 
   here : (job : ℕ) → (store : Store) × (slice_get (cluster job).stores place ≡ Some store)
-  here job = store_found nodes (cluster job).stores place (sound job) within
+  here job = store_found nodes (cluster job).stores place (stamped job) within
 
   shown : (job : ℕ) → Shows m.before job (view_of (here job).0)
   shown job = at_place.shows job (here job).0 (here job).1
@@ -63,8 +63,7 @@ module _ (nodes memory place : ℕ) (e : Event) (told : Reply (List ℕ)) (old n
 
   answered : is_no_memory (Told m.given.reply) ≡ false
   answered =
-      told_no_memory place m.before.admissions (view_of (here (job_of e)).0) e m.given b m.steps.operator
-      ((sound (job_of e)).each place (here (job_of e)).0 (here (job_of e)).1).wants (given_is (job_of e) refl)
+      told_no_memory place m.before.admissions (view_of (here (job_of e)).0) e m.given b m.steps.operator (given_is (job_of e) refl)
 
   turned_to : (job : ℕ) → Turn nodes place job e m.given.reply history
   turned_to job = turn nodes place job e m.given.reply history b at_place.hands answered
@@ -89,9 +88,8 @@ module _ (nodes memory place : ℕ) (e : Event) (told : Reply (List ℕ)) (old n
           subst (λ s. Shows m.after job (view_of s)) (sym same) (subst (Shows m.after job) (view (view_of (here job).0)) (view_here job))
       by (moves x j i now view) =
           let moved = cluster_after nodes job entry history (at_node place x ∷ []) now ∙ ap (λ o. o.cluster) (input_found (cluster job) place x (here job).0 (here job).1) in
-          let stamped = ((sound job).each place (here job).0 (here job).1).stamped in
           subst (λ s. Shows m.after job (view_of s)) (sym (moved_to job x moved store f))
-          (subst (Shows m.after job) (view (view_of (here job).0) ∙ sym (view_of_step place (here job).0 x stamped)) (view_here job))
+          (subst (Shows m.after job) (view (view_of (here job).0) ∙ sym (view_of_step place (here job).0 x ((stamped job).each place (here job).0 (here job).1))) (view_here job))
 
   store_there : (job other : ℕ) → place ≢ other → slice_get (cluster_until nodes job (entry ∷ history)).stores other ≡ slice_get (cluster job).stores other
   store_there job other apart = by (turned_to job)
