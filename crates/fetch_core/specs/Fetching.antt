@@ -3,8 +3,8 @@ use Rattle.std.specs.Prelude.{ℕ, Bool, false, not, if◌then◌else◌, ◌&&�
 use Rattle.std.specs.Option.{option_map_or}
 use Rattle.obj_id.specs.declared.messages.Digest.{Digest}
 use Rattle.obj_id.specs.declared.messages.Location.{Location}
-use Rattle.obj_id.specs.declared.refusals.Refusal.{Refusal}
-use Rattle.obj_id.specs.declared.refusals.Refusal.TheVariants.{Absent}
+use Rattle.private_store.specs.declared.faults.FetchFault.{FetchFault}
+use Rattle.private_store.specs.declared.faults.FetchFault.TheVariants.{Absent}
 use Rattle.private_store.specs.Shape.{Phase, locating, sized, pulling, failed}
 use Rattle.private_store.specs.Commands.{counted, chunk_count}
 use Rattle.private_store.specs.Events.{is_missing}
@@ -26,8 +26,8 @@ missing_of (pulling source missing) = missing
 missing_of _ = []
 
 -- a fetch that failed keeps its length, and has no digest any more
-abbrev pub failed_with : Fetching → Refusal → Fetching
-failed_with fetch refusal = record fetch { phase = failed refusal; digest = None }
+abbrev pub failed_with : Fetching → FetchFault → Fetching
+failed_with fetch fault = record fetch { phase = failed fault; digest = None }
 
 -- ---- the directory's answer
 

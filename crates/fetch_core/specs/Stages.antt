@@ -8,4 +8,4 @@ abbrev pub phase_of : Stage → List ℕ → Phase
 phase_of stage.Locating missing = locating
 phase_of (stage.Sized source) missing = sized source
 phase_of (stage.Pulling source) missing = pulling source missing
-phase_of (stage.Failed refusal) missing = failed refusal
+phase_of (stage.Failed fault) missing = failed fault

@@ -4,7 +4,9 @@
 #![tactic(auto)]
 
 ghost use Rattle.std.specs.Prelude.{◌≡◌, ℕ, ◌<◌, ◌*◌, Some, None, true, false, not, if◌then◌else◌, OnOk, OnErr, IfOk, IfSome, IsSome, IsErrOf, length, take, drop, filter, is_some, nat_lt, nat_eq};
-ghost use Rattle.obj_id.specs.declared.refusals.Refusal.TheVariants.{NoMemory, Damaged, Absent};
+ghost use Rattle.obj_id.specs.declared.refusals.Refusal.TheVariants.{NoMemory};
+ghost use Rattle.private_store.specs.declared.faults.FetchFault.TheVariants.{Damaged, Absent};
+ghost use Rattle.private_store.specs.Shape.{sized};
 ghost use Rattle.private_store.specs.Commands.{counted, chunk_count};
 ghost use Rattle.private_store.specs.Events.{is_missing as is_missing_lem};
 ghost use Rattle.private_store.specs.Contents.{chunk_length, entry_elsewhere, digest_of as digest_of_lem};
@@ -13,13 +15,12 @@ ghost use Rattle.fetch_core.specs.Stages.{phase_of};
 ghost use Rattle.fetch_core.specs.Fetching.{begun, missing_of, located as located_lem, pull_begun, chunk_taken, fills_one, is_whole, is_refused_by, failed_with};
 
 use bytes::Bytes;
+use obj_id::limits::CHUNK_SIZE;
 use obj_id::{Digest, Location, ObjectId, PeerMessage, Refusal};
+use private_store::FetchFault;
 use sha2::{Digest as _, Sha256};
 use std::alloc::{AllocError, Global};
 use std::marker::Model;
-
-/// The bytes of a chunk, but of an object's last one, which has what is left.
-const CHUNK_SIZE: u32 = 65_536;
 
 /// How far a fetch is.
 #[derive(Clone, Copy, Debug, PartialEq, Eq, Drop)]
@@ -30,8 +31,8 @@ pub enum Stage {
     Sized(u32),
     /// The node that is asked for chunks.
     Pulling(u32),
-    /// It is over without a copy: `Absent` or `Damaged`, for the next Get to tell.
-    Failed(Refusal),
+    /// It is over without a copy, for the next Get to tell why.
+    Failed(FetchFault),
 }
 
 /// A fetch at the node that fetches.
@@ -121,16 +122,17 @@ impl FetchIn {
                 self.length = entry.length;
                 self.digest = Some(entry.digest);
             }
-            None => self.fail(Refusal::Absent),
+            None => self.fail(FetchFault::Absent),
         }
     }
 
-    /// All chunks are missing from now on. Does nothing to a fetch that isn't Sized.
+    /// All chunks are missing from now on. Does nothing to a fetch that isn't Sized, and takes no memory then.
     ///
     /// `NoMemory` leaves it as it was. Takes as many steps as the object has chunks.
     pub fn begin(&mut self, alloc: Global) -> Result<(), Refusal>
         ensures ok { OnOk result (self.new ≡ pull_begun self.old) }
         ensures err { OnErr result (self.new ≡ self.old) }
+        ensures grows { OnErr result ((source : ℕ) × (self.old.phase ≡ sized source)) }
         ensures memory { (r : Refusal) → IsErrOf result r → r ≡ NoMemory }
     {
         let Stage::Sized(source) = self.stage else {
@@ -176,7 +178,7 @@ impl FetchIn {
     {
         let whole = bytes.len() == self.length as usize && self.digest == Some(digest_of(bytes));
         if !whole {
-            self.fail(Refusal::Damaged);
+            self.fail(FetchFault::Damaged);
         }
         whole
     }
@@ -189,15 +191,15 @@ impl FetchIn {
     {
         let refused = number == self.number && self.stage == Stage::Pulling(from);
         if refused {
-            self.fail(Refusal::Absent);
+            self.fail(FetchFault::Absent);
         }
         refused
     }
 
-    fn fail(&mut self, refusal: Refusal)
-        ensures { self.new ≡ failed_with self.old refusal }
+    fn fail(&mut self, fault: FetchFault)
+        ensures { self.new ≡ failed_with self.old fault }
     {
-        self.stage = Stage::Failed(refusal);
+        self.stage = Stage::Failed(fault);
         self.digest = None;
     }
 }

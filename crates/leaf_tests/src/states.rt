@@ -1,7 +1,7 @@
 //! The marks of a copy.
 use obj_id::{CopyState, Digest, Kind, Refusal, WorkKind};
 use object_state::ObjectCopy;
-use private_store::WorkVerdict;
+use private_store::{Fault, WorkVerdict};
 use std::process::Abort;
 use std::test::Fail;
 
@@ -95,12 +95,12 @@ fn a_restore_seals_again_or_leaves_a_fault(rt: HostRuntime) -> Result<(), Fail> 
         (
             WorkVerdict::Failed,
             CopyState::Away,
-            Some(Refusal::DeviceFailed),
+            Some(Fault::DeviceFailed),
         ),
         (
             WorkVerdict::Damaged,
             CopyState::Away,
-            Some(Refusal::Damaged),
+            Some(Fault::Damaged),
         ),
     ];
     for (verdict, state, fault) in rows {

@@ -12,7 +12,6 @@ use Rattle.obj_id.specs.declared.ids.JobNo.{JobNo}
 use Rattle.obj_id.specs.declared.works.Quota.{Quota}
 use Rattle.obj_id.specs.declared.works.JobKey.{JobKey}
 use Rattle.obj_id.specs.declared.refusals.Refusal.{Refusal}
-use Rattle.obj_id.specs.declared.refusals.Refusal.TheVariants.{BadId, BadSize, Exists, NoRoom, NotAdmitted}
 use Rattle.obj_id.specs.declared.commands.Command.{Command}
 use Rattle.obj_id.specs.declared.commands.Command.TheVariants as command
 use Rattle.obj_id.specs.declared.commands.Reply.{Reply}
@@ -26,10 +25,8 @@ use Rattle.private_store.specs.Hands.{Hand, hands_ended}
 use Rattle.private_store.specs.Trace.{ends, hands_by}
 use Rattle.private_store.specs.NodeInputs.{JobInput, Before, wants_memory, unless_wanting, own_here, own_due, notes_of, notes_here, hands_after, only_of, inputs_to, withdrawn_here}
 use Rattle.private_store.specs.Shape.{WorkInFlight}
-use Rattle.private_store.specs.Limits.{is_quota, most_live_jobs}
 use Rattle.private_store.specs.Contents.{View, judge}
-use Rattle.private_store.proofs.AnswersAre.{view_never_wants}
-use Rattle.job_admission.specs.Admissions.{Admissions, live_at, lives_of, place_for, admit_check}
+use Rattle.job_admission.specs.Admissions.{admit_check}
 use Rattle.private_store.specs.Private.{view_step, view_from}
 use Rattle.spill_work.specs.declared.queue.Queued.{Queued}
 use Rattle.spill_work.specs.Line.{shown, is_of, works_of, used_by}
@@ -42,6 +39,7 @@ use Rattle.node_core.specs.OneJob.{input_of, view_by, view_after, IsGiven as IsR
 use Rattle.node_core.specs.Outcomes.{with_no_notes}
 use Rattle.node_core.specs.Foreseen.{most_messages, unless_refused, judged_of, IsAsForeseen}
 use Rattle.node_core.specs.Steps.{before_of, job_of_event, IsGiven, answered, end_check, judged_notes, queued, line_left, asked_now, line_after, IsEventAnswer, admissions_after, lives_after, StepsFrom, Steps}
+use Rattle.node_core.proofs.Never.{told_never}
 use Rattle.node_core.proofs.Lines.{above, above-used, asked_now_is}
 
 -- ---- what a built event is
@@ -132,23 +130,6 @@ pub hands_after-built : (e : Event) (told : Reply (List ℕ)) → is_built e ≡
 hands_after-built e reply.Ok built = no_hand e built
 hands_after-built e _ built = refl
 
--- ---- its answer
-
-admit_never : (a : Admissions) (job : JobNo) (quota : Quota) → wants_memory (answered (admit_check a job quota)) ≡ false
-admit_never a job quota = by (job.0 == 0) (is_quota quota) (nat_le job.0 a.greatest) (nat_le most_live_jobs (length (lives_of a.live))) (is_none (place_for a quota.window))
-  where
-    by : (zero good old full nowhere : Bool) → wants_memory (answered (cond zero (Some BadId) (cond (not good) (Some BadSize) (cond old (Some Exists) (cond (full || nowhere) (Some NoRoom) None))))) ≡ false
-    by true good old full nowhere = refl
-    by false false old full nowhere = refl
-    by false true true full nowhere = refl
-    by false true false true nowhere = refl
-    by false true false false true = refl
-    by false true false false false = refl
-
-end_never : (live : Bool) → wants_memory (answered (cond live None (Some NotAdmitted))) ≡ false
-end_never true = refl
-end_never false = refl
-
 -- ---- every job's view
 
 one_input : (number job own : ℕ) (view : View) (o : Option Input)
@@ -228,7 +209,7 @@ module _ (old new : Hosted) (v : ℕ → View) (shows : ShowsAll old v) where
         ∙ ap (λ ws. filter (λ work. not (is_of job work)) old.works.works ++ queued job.0 ws) (sym (asked_are ∙ ap (λ ws. above (used_by old.works job) (map (λ work. shown work.asked) (filter (is_of job) ws))) is ∙ ap (λ ws. above (used_by old.works job) (map (λ work. shown work.asked) ws)) (none_of job old.works.works)))
 
   own_shown : (job : JobNo) (x : Input) → Shows new job.0 (cond (job.0 == job.0) (view_step old.number (v job.0) x).view (v job.0)) → Shows new job.0 (view_step old.number (v job.0) x).view
-  own_shown job x h = subst (λ t. Shows new job.0 (cond t (view_step old.number (v job.0) x).view (v job.0))) (grind (arith, nat_tests)) h
+  own_shown job x h = let same : (job.0 == job.0) ≡ true = grind (arith, nat_tests) in subst (λ t. Shows new job.0 (cond t (view_step old.number (v job.0) x).view (v job.0))) same h
 
   pub line_is : (e : Event) (told : Reply (List ℕ)) → is_built e ≡ true → IsLineAfter old.works e told new.works → ((job : ℕ) → Shows new job (view_after old.number job (v job) e told))
       → new.works.works ≡ line_left old.works.works (Own e) told ++ asked_now old.number v (own_of e told)
@@ -245,20 +226,30 @@ module _ (old new : Hosted) (v : ℕ → View) (shows : ShowsAll old v) where
 
 module _ (old new : Hosted) (e : Event) (given : RowGiven) (built : is_built e ≡ true) (h : StepsOne old e given new) where
   module _ (v : ℕ → View) (shows : ShowsAll old v) where
-    -- an answer is never that there is no memory
-    never : wants_memory given.reply ≡ false
-    never = by e built h.operator (h.told (v (job_of_event e)) (shows (job_of_event e)))
-      where
-        by : (e : Event) → is_built e ≡ true → IsOneAnswer old.admissions e given.reply → IsRowGiven old.number (v (job_of_event e)) (input_of e given.reply) given → wants_memory given.reply ≡ false
-        by (event.Admit job quota key) built is g = ap wants_memory is ∙ admit_never old.admissions job quota
-        by (event.JobEnd job) built is g = ap wants_memory is ∙ end_never (is_some (live_at old.admissions job))
-        by (event.Call job session c) built is g = ap wants_memory g.reply ∙ view_never_wants old.number (v job.0) (input.Call session c)
-        by (event.Requota job quota) built is g = absurd cc
-        by event.Take built is g = absurd cc
-        by (event.Finish job number a) built is g = absurd cc
-
     abbrev before : Before
     before = before_of old v
+
+    told_is : (o : Option Input) → IsRowGiven old.number (v (job_of_event e)) o given → IsGiven old.number v (option_map (λ x. record { job = job_of_event e; input = x }) o) (with_no_notes given)
+    told_is (Some x) g = record { reply = g.reply; posts = g.posts; erased = g.erased }
+    told_is None g = record { posts = g.posts; erased = g.erased }
+
+    told : IsGiven old.number v (own_due before (Own e) given.reply) (with_no_notes given)
+    told = subst (λ o. IsGiven old.number v o (with_no_notes given)) (sym (own_due-built before e given.reply built)) (told_is (input_of e given.reply) (h.told (v (job_of_event e)) (shows (job_of_event e))))
+
+    operator : IsEventAnswer old v e given.reply
+    operator = by e built h.operator
+      where
+        by : (e : Event) → is_built e ≡ true → IsOneAnswer old.admissions e given.reply → IsEventAnswer old v e given.reply
+        by (event.Admit job quota key) built is = is
+        by (event.JobEnd job) built is = is
+        by (event.Call job session c) built is = is
+        by (event.Requota job quota) built is = absurd cc
+        by event.Take built is = absurd cc
+        by (event.Finish job number a) built is = absurd cc
+
+    -- an answer is never that there is no memory
+    never : wants_memory given.reply ≡ false
+    never = told_never old v old.number before e (with_no_notes given) operator told
 
     inputs_are : (job : ℕ) → inputs_to before (Own e) given.reply job ≡ only_of job (option_to_list (own_of e given.reply))
     inputs_are job =
@@ -271,27 +262,9 @@ module _ (old new : Hosted) (e : Event) (given : RowGiven) (built : is_built e �
     views : ShowsAll new (λ job. view_from old.number (v job) (inputs_to before (Own e) given.reply job))
     views job = subst (Shows new job) (sym (view_is job)) (h.views job (v job) (shows job))
 
-    told_is : (o : Option Input) → IsRowGiven old.number (v (job_of_event e)) o given → IsGiven old.number v (option_map (λ x. record { job = job_of_event e; input = x }) o) (with_no_notes given)
-    told_is (Some x) g = record { reply = g.reply; posts = g.posts; erased = g.erased }
-    told_is None g = record { posts = g.posts; erased = g.erased }
-
-    told : IsGiven old.number v (own_due before (Own e) given.reply) (with_no_notes given)
-    told = subst (λ o. IsGiven old.number v o (with_no_notes given)) (sym (own_due-built before e given.reply built)) (told_is (input_of e given.reply) (h.told (v (job_of_event e)) (shows (job_of_event e))))
-
     line : new.works.works ≡ line_after old v (Own e) given.reply
     line = line_is old new v shows e given.reply built h.line (λ job. h.views job (v job) (shows job))
         ∙ ap (λ o. line_left old.works.works (Own e) given.reply ++ asked_now old.number v o) (sym (own_here-built before e given.reply built never))
-
-    operator : IsEventAnswer old v e given.reply
-    operator = by e built h.operator
-      where
-        by : (e : Event) → is_built e ≡ true → IsOneAnswer old.admissions e given.reply → IsEventAnswer old v e given.reply
-        by (event.Admit job quota key) built is = is
-        by (event.JobEnd job) built is = is
-        by (event.Call job session c) built is = is
-        by (event.Requota job quota) built is = absurd cc
-        by event.Take built is = absurd cc
-        by (event.Finish job number a) built is = absurd cc
 
     from : StepsFrom old v (Own e) (with_no_notes given) new
     from = record {

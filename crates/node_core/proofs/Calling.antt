@@ -64,6 +64,10 @@ pub if_ok_on : {X : Type 0} {E : Type 0} {P R : X → Type 0} {Q : Type 0} (r : 
 if_ok_on (Ok x) h q k = k x h q
 if_ok_on (Err e) h q k = tt
 
+pub always_err : {X : Type 0} {E : Type 0} {P : Type 0} (r : Result X E) → P → OnErr r P
+always_err (Ok x) p = tt
+always_err (Err e) p = p
+
 pub both_err : {X : Type 0} {E : Type 0} {P Q R : Type 0} (r : Result X E) → OnErr r P → OnErr r Q → (P → Q → R) → OnErr r R
 both_err (Ok x) h i k = tt
 both_err (Err e) h i k = k h i

@@ -7,4 +7,6 @@ mod Admitting
 mod Ending
 mod Asking
 mod Entering
+pub mod Never
 mod AllJobs
+mod Late

@@ -13,7 +13,7 @@ use Rattle.private_store.specs.Shape.{Copy, Shape, Change, Fetch, Phase, locatin
 use Rattle.private_store.specs.Copies.{is_primary, is_idle, visible}
 use Rattle.private_store.specs.Room.{Room, Plan, fits, wait, full, busy, evict, spill, plan, set_copy, drop_copy, evicted, asked, no_room, spill_room, room_by, make_room}
 use Rattle.private_store.specs.Change.{refused, done, checked, needing, sending, in_room, settled}
-use Rattle.private_store.specs.Commands.{get, created, restore, restoring, get_away, get_fetching, get_copy, begin_pull, begin_fetch, at_each, leave_one, with_holds, holds_of}
+use Rattle.private_store.specs.Commands.{get, created, restore, restoring, refusal_of, get_away, get_fetching, get_copy, begin_pull, begin_fetch, at_each, leave_one, with_holds, holds_of}
 use Rattle.private_store.specs.Contents.{brief}
 use Rattle.private_store.specs.Step.{owned, commanded}
 use Rattle.node_core.specs.Built.{is_built_command}
@@ -110,7 +110,7 @@ each_same f each (id ∷ ids) c = each_same f each ids (sending c.sent (f c.shap
 
 away_same : (order : List ObjectId) (store : Shape) (id : ObjectId) (copy : Copy) → SameJob store (get_away order store id copy)
 away_same order store id copy =
-    elim copy.fault as (λ o. SameJob store (elim o [ Some fault ↦ refused (set_copy store id (record copy { fault = None })) fault | None ↦ restore order store id copy ])) [
+    elim copy.fault as (λ o. SameJob store (elim o [ Some fault ↦ refused (set_copy store id (record copy { fault = None })) (refusal_of fault) | None ↦ restore order store id copy ])) [
       | Some fault ↦ record { job = refl }
       | None ↦ checked_same store _ _ (checked_same store _ _ (in_room_same store (make_room order store copy.length) (restoring id copy) (room_same order store copy.length) (λ offset. record { job = refl })))
     ]
@@ -121,7 +121,7 @@ fetching_same order store id copy fetch (sized source) =
     checked_same store _ _ (in_room_same store (make_room order store copy.length) (begin_pull id copy fetch source) (room_same order store copy.length)
     (λ offset. sending_same _ _ _ (record { job = refl })))
 fetching_same order store id copy fetch (pulling source missing) = sending_same store _ _ (record { job = refl })
-fetching_same order store id copy fetch (failed refusal) = record { job = refl }
+fetching_same order store id copy fetch (failed fault) = record { job = refl }
 
 copy_same : (order : List ObjectId) (store : Shape) (session : ℕ) (id : ObjectId) (copy : Copy) → SameJob store (get_copy order store session id copy)
 copy_same order store session id copy =

@@ -6,3 +6,4 @@ pub mod Outcomes
 pub mod Calls
 pub mod Borrowed
 pub mod Foreseen
+pub mod Late

@@ -9,6 +9,7 @@ ghost use Rattle.node_table.specs.Outcomes.{given_of};
 ghost use Rattle.node_core.specs.Calls.{is_own as is_own_lem, takes_no_memory, Obeys};
 ghost use Rattle.node_core.specs.Built.{is_built_command};
 ghost use Rattle.node_core.specs.Foreseen.{most_by_command};
+ghost use Rattle.node_core.specs.Late.{IsUnrefused};
 
 use bytes::Bytes;
 use node_table::{JobRow, Outcome};
@@ -34,6 +35,7 @@ pub(crate) fn carry_out(
     ensures line { OnOk result (HasAsked works.old job works.new) }
     ensures others { (other : JobNo) → same_job job other ≡ false → IsSameFor other works.old works.new }
     ensures memory { (r : Refusal) → IsErrOf result r → r ≡ NoMemory }
+    ensures late { OnErr result (IsUnrefused row.old job.0 session command.now) }
     ensures frugal { takes_no_memory command.now ≡ true → IsOk result }
     ensures err { OnErr result (row.new ≡ row.old) }
     ensures works { OnErr result (works.new ≡ works.old) }

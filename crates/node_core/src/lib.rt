@@ -10,14 +10,15 @@ ghost use Rattle.private_store.specs.Jobs.{same_job};
 ghost use Rattle.private_store.specs.Contents.{View};
 ghost use Rattle.private_store.specs.Commands.{usage_of};
 ghost use Rattle.private_store.specs.Private.{view_of, no_store};
-ghost use Rattle.job_admission.specs.Admissions.{largest_memory, live_at, sessions_entered, enter_check, entered};
+ghost use Rattle.job_admission.specs.Admissions.{largest_memory, live_at, admit_check, sessions_entered, enter_check, entered};
 ghost use Rattle.node_table.specs.Outcomes.{given_of as row_given_of};
 ghost use Rattle.private_store.specs.declared.schedules.NodeEvent.TheVariants as node_event;
 ghost use Rattle.node_core.specs.Calls.{takes_no_memory, is_frugal};
 ghost use Rattle.node_core.specs.Hosted.{Shows, row_at};
 ghost use Rattle.node_core.specs.Borrowed.{borrowed_check, IsBorrowed};
 ghost use Rattle.node_core.specs.Built.{is_built, is_built_command};
-ghost use Rattle.node_core.specs.Steps.{Steps};
+ghost use Rattle.node_core.specs.Steps.{Steps, end_check};
+ghost use Rattle.node_core.specs.Late.{IsCallUnrefused, IsEventUnrefused, IsLate};
 ghost use Rattle.node_core.specs.OneJob.{StepsOne};
 ghost use Rattle.node_core.specs.Outcomes.{given_of};
 ghost use Rattle.node_core.specs.Foreseen.{most_by_command, most_messages, IsAsForeseen};
@@ -87,10 +88,12 @@ impl Node {
     ///
     /// For every job number, live or not, the view that the node shows of the job afterwards is what the private steps
     /// make of the view before, on the list of inputs that the event is to that job. `NoMemory` alone, and then nothing
-    /// has changed; the commands Write, Release, Usage and Leave take no memory. What it gives is as `foresee` says.
+    /// has changed: it never stands in for a refusal that is known before anything grows, and the commands Write,
+    /// Release, Usage and Leave take no memory. What it gives is as `foresee` says.
     pub fn apply(&mut self, event: &Event) -> Result<Outcome, Refusal>
         requires { is_built event.now ≡ true }
         ensures ok { IfOk result (λ o. Steps self.old (node_event.Own event.now) (given_of o) self.new) }
+        ensures late { OnErr result (IsLate self.old (node_event.Own event.now)) }
         ensures foreseen { IfOk result (λ o. IsAsForeseen self.old event.now (given_of o)) }
         ensures memory { (r : Refusal) → IsErrOf result r → r ≡ NoMemory }
         ensures frugal { is_frugal event.now ≡ true → IsOk result }
@@ -105,6 +108,7 @@ impl Node {
         requires { is_built event.now ≡ true }
         ensures ok { IfOk result (λ o. StepsOne self.old event.now (row_given_of o) self.new) }
         ensures few { IfOk result (λ o. length o.messages ≤ most_messages self.old event.now) }
+        ensures late { OnErr result (IsEventUnrefused self.old event.now) }
         ensures memory { (r : Refusal) → IsErrOf result r → r ≡ NoMemory }
         ensures frugal { is_frugal event.now ≡ true → IsOk result }
         ensures err { OnErr result (self.new ≡ self.old) }
@@ -174,6 +178,7 @@ impl Node {
         requires { is_built_command command.now ≡ true }
         ensures ok { IfOk result (λ o. StepsOne self.old (event.Call job session command.now) (row_given_of o) self.new) }
         ensures few { IfOk result (λ o. length o.messages ≤ most_by_command (row_at self.old job) command.now) }
+        ensures late { OnErr result (IsCallUnrefused self.old job session command.now) }
         ensures memory { (r : Refusal) → IsErrOf result r → r ≡ NoMemory }
         ensures frugal { takes_no_memory command.now ≡ true → IsOk result }
         ensures err { OnErr result (self.new ≡ self.old) }
@@ -197,6 +202,7 @@ impl Node {
     fn admit(&mut self, job: JobNo, quota: Quota, key: JobKey) -> Result<node_table::Outcome, Refusal>
         ensures ok { IfOk result (λ o. StepsOne self.old (event.Admit job quota key) (row_given_of o) self.new) }
         ensures silent { IfOk result (λ o. o.messages ≡ []) }
+        ensures late { OnErr result (admit_check self.old.admissions job quota ≡ None) }
         ensures memory { (r : Refusal) → IsErrOf result r → r ≡ NoMemory }
         ensures err { OnErr result (self.new ≡ self.old) }
     {
@@ -220,6 +226,7 @@ impl Node {
     fn end_job(&mut self, job: JobNo) -> Result<node_table::Outcome, Refusal>
         ensures ok { IfOk result (λ o. StepsOne self.old (event.JobEnd job) (row_given_of o) self.new) }
         ensures few { IfOk result (λ o. length o.messages ≤ 1) }
+        ensures late { OnErr result (end_check self.old.admissions job ≡ None) }
         ensures memory { (r : Refusal) → IsErrOf result r → r ≡ NoMemory }
         ensures err { OnErr result (self.new ≡ self.old) }
     {

@@ -151,7 +151,7 @@ module _ (node : ℕ) (row : Row) (line : WorkLine) (contents : Contents) (sessi
       phase locating e = refl
       phase (sized source) e = true_false e
       phase (pulling source missing) e = true_false e
-      phase (failed refusal) e = true_false e
+      phase (failed fault) e = true_false e
 
       some : (o : Option Fetch) → k.copy.fetch ≡ o → option_map_or (λ f. is_locating f.phase) o false ≡ true → (f : Fetch) × (k.copy.fetch ≡ Some f) × (f.phase ≡ locating)
       some None e p = true_false p

@@ -1,5 +1,5 @@
 -- A row takes Get of a copy that is sealed.
-use Rattle.std.proofs.Common.{◌≡◌, ◌≢◌, ℕ, ◌+◌, true, false, ◌==◌, nat_le, [], ◌∷◌, map, Option, Some, None, is_some, option_map, refl, sym, ap, subst, ◌∙◌}
+use Rattle.std.proofs.Common.{◌≡◌, ◌≢◌, ℕ, ◌+◌, true, false, cond, ◌==◌, nat_le, [], ◌∷◌, map, Option, Some, None, is_some, option_map, refl, sym, ap, subst, ◌∙◌}
 use Rattle.obj_id.specs.declared.ids.ObjectId.{ObjectId}
 use Rattle.obj_id.specs.declared.refusals.Refusal.{Refusal}
 use Rattle.obj_id.specs.declared.refusals.Refusal.TheVariants.{Absent, Gone, NoMemory, TooMany, Pending, NotSealed}
@@ -31,7 +31,7 @@ use Rattle.spill_work.specs.Line.{WorkLine}
 use Rattle.node_table.specs.Entries.{changed}
 use Rattle.node_table.specs.Kept.{Kept, held}
 use Rattle.node_table.specs.Row.{Row, copies_of, shape_of}
-use Rattle.node_table.specs.Checks.{hold_check_of}
+use Rattle.node_table.specs.Checks.{hold_check_of, fetch_check, get_check_of, get_check}
 use Rattle.node_table.specs.Holding.{IsRowHeld, IsHoldRefusedAt}
 use Rattle.node_table.specs.Shown.{seen, is_plain, IsPlain, IsShown, only, TakesStep}
 use Rattle.node_table.proofs.ByChecks.{unless_refused, first-check, called, own}
@@ -44,6 +44,31 @@ use Rattle.node_table.proofs.Stepping.{Moves, moved, stays}
 pub each_ok : {T E : Type 0} {P Q : T → Type 0} (r : Result T E) → ((t : T) → P t → Q t) → IfOk r P → IfOk r Q
 each_ok (Ok t) f h = f t h
 each_ok (Err e) f h = tt
+
+-- where a hold wanted memory, nothing else stood against it
+pub held_late : (copies new : ById Kept) (begun : ℕ) (id : ObjectId) (r : Refusal) → r ≡ NoMemory → IsHoldRefusedAt copies id r new → get_check copies begun id ≡ None
+held_late copies new begun id r e h =
+    ap (λ (o : Option Kept). elim o [ None ↦ fetch_check copies begun | Some kept ↦ get_check_of kept ]) h.found
+    ∙ by h.kept.copy.state h.sealed
+    ∙ h.late e
+  where
+    by : (state : CopyState) → is_sealed state ≡ true → cond (is_created state) (Some NotSealed) (cond (is_sealed state) (hold_check_of h.kept) None) ≡ hold_check_of h.kept
+    by Created e = true_false e
+    by Sealed e = refl
+    by Restoring e = true_false e
+    by Fetching e = true_false e
+    by Away e = true_false e
+
+-- where there is no copy, what stands against its fetch
+pub absent_late : (copies : ById Kept) (begun : ℕ) (id : ObjectId) → at copies id ≡ None → fetch_check copies begun ≡ None → get_check copies begun id ≡ None
+absent_late copies begun id none passed =
+    ap (λ (o : Option Kept). elim o [ None ↦ fetch_check copies begun | Some kept ↦ get_check_of kept ]) none ∙ passed
+
+-- nothing stands against an object that is on its way
+pub fetching_late : (copies : ById Kept) (begun : ℕ) (id : ObjectId) (k : Kept) → at copies id ≡ Some k → k.copy.state ≡ Fetching → get_check copies begun id ≡ None
+fetching_late copies begun id k found is =
+    ap (λ (o : Option Kept). elim o [ None ↦ fetch_check copies begun | Some kept ↦ get_check_of kept ]) found
+    ∙ ap (λ state. cond (is_created state) (Some NotSealed) (cond (is_sealed state) (hold_check_of k) None)) is
 
 -- the copy whose state was looked up
 pub some_at : (copies : ById Kept) (id : ObjectId) (state : CopyState) → option_map (λ k. k.copy.state) (at copies id) ≡ Some state → (k : Kept) × (at copies id ≡ Some k) × (k.copy.state ≡ state)

@@ -31,7 +31,7 @@ module _ (session : ℕ) (id : ObjectId) (es : List (ObjectId × Kept)) (now : B
 
   pub refused_at : (r : Result (Option ℕ) Refusal) → IfErr r (λ refusal. IsHoldRefused x refusal y) → IfErr r (λ refusal. IsHoldRefusedAt now id refusal (by_rising_id new))
   refused_at (Ok o) h = tt
-  refused_at (Err e) h = record { kept = x; found = there; sealed = h.sealed; refused = h.refused; same = unwritten (held session) id es now seen new x y found h.same set }
+  refused_at (Err e) h = record { kept = x; found = there; sealed = h.sealed; refused = h.refused; late = h.late; same = unwritten (held session) id es now seen new x y found h.same set }
 
 -- where there is no copy
 pub none_at : (id : ObjectId) (es : List (ObjectId × Kept)) (now : ById Kept) (new : List (ObjectId × Kept)) → by_rising_id es ≡ now → lookup (id_eq id) es ≡ None → new ≡ es → IsUnsealedAt now id (by_rising_id new)

@@ -25,3 +25,4 @@ pub mod Creating
 pub mod Asking
 pub mod Lending
 pub mod Listed
+pub mod Late

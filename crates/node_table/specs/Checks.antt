@@ -1,13 +1,15 @@
 -- Why a command can't be carried out, in the order of its checks; its own job's object is meant.
-use Rattle.std.specs.Prelude.{ℕ, ◌+◌, ◌==◌, nat_lt, nat_le, not, length, if◌then◌else◌, Option, Some, None, is_some}
+use Rattle.std.specs.Prelude.{ℕ, ◌+◌, ◌==◌, nat_lt, nat_le, not, length, if◌then◌else◌, List, Option, Some, None, is_some}
 use Rattle.obj_id.specs.declared.ids.ObjectId.{ObjectId}
+use Rattle.obj_id.specs.declared.commands.Command.{Command}
+use Rattle.obj_id.specs.declared.commands.Command.TheVariants as command
 use Rattle.obj_id.specs.declared.refusals.Refusal.{Refusal}
 use Rattle.obj_id.specs.declared.refusals.Refusal.TheVariants.{BadSize, Exists, Absent, AlreadySealed, NotSealed, NotHeld, OutOfBounds, TooMany}
 use Rattle.private_store.specs.Limits.{most_bytes, most_holds, most_copies, has_numbers}
 use Rattle.private_store.specs.Tables.{ById, at}
 use Rattle.private_store.specs.Extents.{is_size}
 use Rattle.private_store.specs.Shape.{Copy}
-use Rattle.private_store.specs.Copies.{is_created}
+use Rattle.private_store.specs.Copies.{is_created, is_sealed}
 use Rattle.private_store.specs.Commands.{holds_of, all_holds, is_unsealed}
 use Rattle.node_table.specs.Kept.{Kept}
 use Rattle.node_table.specs.Row.{Row}
@@ -70,6 +72,15 @@ fetch_check copies begun =
     if nat_le most_copies (length copies) then Some TooMany else
     (if has_numbers begun 1 then None else Some TooMany)
 
+-- of an object that is asked for: it is held if it is sealed, and fetched if it isn't there. No event that is built
+-- puts a copy away, or learns of a source
+abbrev pub get_check_of : Kept → Option Refusal
+get_check_of kept =
+    if is_created kept.copy.state then Some NotSealed else (if is_sealed kept.copy.state then hold_check_of kept else None)
+
+abbrev pub get_check : ById Kept → ℕ → ObjectId → Option Refusal
+get_check copies begun id = elim (at copies id) [ None ↦ fetch_check copies begun | Some kept ↦ get_check_of kept ]
+
 -- why no copy of n bytes can be made under the id, before room is looked for. No event that is built ends
 -- a task
 abbrev pub create_check : Row → ObjectId → ℕ → Option Refusal
@@ -77,3 +88,11 @@ create_check row id n =
     if not (is_size row.window.quota n) then Some BadSize else
     (if is_some (at row.copies id) then Some Exists else
     (if nat_le most_copies (length row.copies) then Some TooMany else None))
+
+-- why a command on the job's own object is refused before anything grows
+abbrev pub early_check : Row → ℕ → Command (List ℕ) → Option Refusal
+early_check row session (command.Create id kind n) = create_check row id n
+early_check row session (command.Seal id) = seal_check row.copies id
+early_check row session (command.Get id) = get_check row.copies row.fetches_begun id
+early_check row session (command.Read id offset n) = read_check row.copies session id offset n
+early_check row session _ = None

@@ -30,6 +30,7 @@ pub record IsUnsealed (old new : Kept) : Type 0 where
 pub record IsHoldRefused (old : Kept) (r : Refusal) (new : Kept) : Type 0 where
   pub sealed : is_sealed old.copy.state ≡ true
   pub refused : r ≢ NoMemory → hold_check_of old ≡ Some r
+  pub late : r ≡ NoMemory → hold_check_of old ≡ None
   pub same : new ≡ old
 
 -- ---- of the copies of a job, where the one of an id is meant
@@ -52,6 +53,7 @@ pub record IsHoldRefusedAt (old : ById Kept) (id : ObjectId) (r : Refusal) (new 
   pub found : at old id ≡ Some kept
   pub sealed : is_sealed kept.copy.state ≡ true
   pub refused : r ≢ NoMemory → hold_check_of kept ≡ Some r
+  pub late : r ≡ NoMemory → hold_check_of kept ≡ None
   pub same : new ≡ old
 
 -- ---- of a row: the copy is its most recently used one as well

@@ -10,3 +10,4 @@ pub mod RoomPlans
 pub mod Creating
 pub mod Holding
 pub mod Asked
+pub mod Late

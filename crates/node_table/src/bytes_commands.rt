@@ -1,5 +1,5 @@
 //! The commands that move bytes, Write, Seal and Read; and bytes that are lent.
-ghost use Rattle.std.specs.Prelude.{◌≡◌, ◌≤◌, length, ◌==◌, ℕ, true, Some, take, drop, IfOk, IfErr, OnErr};
+ghost use Rattle.std.specs.Prelude.{◌≡◌, ◌≤◌, length, ◌==◌, ℕ, true, Some, None, take, drop, IfOk, IfErr, OnErr};
 ghost use Rattle.obj_id.specs.declared.works.Extent.{Extent};
 ghost use Rattle.private_store.specs.Tables.{at};
 ghost use Rattle.private_store.specs.Copies.{extent_of};
@@ -7,7 +7,7 @@ ghost use Rattle.obj_id.specs.declared.commands.Command.TheVariants as command;
 ghost use Rattle.private_store.specs.declared.inputs.Input.TheVariants as input;
 ghost use Rattle.private_store.specs.Contents.{Contents, digest_of};
 ghost use Rattle.job_region.specs.Region.{bytes_at as placed_bytes};
-ghost use Rattle.node_table.specs.Checks.{lend_check};
+ghost use Rattle.node_table.specs.Checks.{lend_check, read_check as read_check_lem, seal_check as seal_check_lem};
 ghost use Rattle.node_table.specs.Kept.{Kept};
 ghost use Rattle.node_table.specs.Outcomes.{given_of};
 ghost use Rattle.spill_work.specs.Line.{WorkLine};
@@ -49,6 +49,7 @@ impl JobRow {
         ensures ok { IfOk result (λ o. (line : WorkLine) (contents : Contents) → (id.now.job.0 == self.old.job) ≡ true → IsShown self.old line contents
             → TakesStep node self.old line contents (input.Call session (command.Seal id.now)) (given_of o) self.new line) }
         ensures few { IfOk result (λ o. length o.messages ≤ 1) }
+        ensures late { OnErr result (seal_check_lem self.old.copies id.now ≡ None) }
         ensures err { OnErr result (self.new ≡ self.old) }
     {
         if let Some(refusal) = self.copies().seal_check(id) {
@@ -75,8 +76,9 @@ impl JobRow {
         offset: u32,
         len: u32,
     ) -> Result<Reply<Bytes>, AllocError>
-        ensures { IfOk result (λ told. (node : ℕ) (line : WorkLine) (contents : Contents) → (id.now.job.0 == self.now.job) ≡ true → IsShown self.now line contents
+        ensures ok { IfOk result (λ told. (node : ℕ) (line : WorkLine) (contents : Contents) → (id.now.job.0 == self.now.job) ≡ true → IsShown self.now line contents
             → TakesStep node self.now line contents (input.Call session (command.Read id.now offset len)) (only told) self.now line) }
+        ensures late { OnErr result (read_check_lem self.now.copies session id.now offset len ≡ None) }
     {
         if let Some(refusal) = self.copies().read_check(session, id, offset, len) {
             return Ok(Reply::Refused(refusal));

@@ -16,6 +16,7 @@ use lru_evictor::CopyFacts;
 use obj_id::{CopyState, Digest, Extent, Kind, Refusal, WorkKind};
 use object_state::ObjectCopy;
 use pins_holds::Pins;
+use private_store::Fault;
 use std::alloc::Global;
 use std::marker::Model;
 
@@ -251,7 +252,7 @@ impl RowCopy {
     }
 
     /// What its restore came to, which is told once.
-    pub fn take_fault(&mut self) -> Option<Refusal>
+    pub fn take_fault(&mut self) -> Option<Fault>
         ensures fault { result ≡ self.old.copy.fault }
         ensures copy { self.new ≡ fault_told self.old }
     {

@@ -46,6 +46,7 @@ impl JobRow {
             → TakesStep node self.old works.old contents (input.Call session (command.Create id.now kind len)) (given_of o) self.new works.new) }
         ensures few { IfOk result (λ o. length o.messages ≤ length self.old.copies) }
         ensures line { OnOk result (HasAsked works.old id.now.job works.new) }
+        ensures late { OnErr result (create_check_lem self.old id.now len ≡ None) }
         ensures others { (other : JobNo) → same_job id.now.job other ≡ false → IsSameFor other works.old works.new }
         ensures memory { (r : Refusal) → IsErrOf result r → r ≡ NoMemory }
         ensures err { OnErr result (self.new ≡ self.old) }

@@ -13,6 +13,7 @@ ghost use Rattle.private_store.specs.Contents.{Contents};
 ghost use Rattle.private_store.specs.Private.{to_directory};
 ghost use Rattle.obj_id.specs.declared.messages.DirectoryMessage.TheVariants.{Locate};
 ghost use Rattle.spill_work.specs.Line.{WorkLine};
+ghost use Rattle.node_table.specs.Checks.{get_check, fetch_check as fetch_check_lem};
 ghost use Rattle.node_table.specs.Kept.{Kept};
 ghost use Rattle.node_table.specs.Outcomes.{given_of};
 ghost use Rattle.node_table.specs.Shown.{IsShown, TakesStep, only};
@@ -32,6 +33,7 @@ impl JobRow {
         ensures none { IfOk result (λ o. IfNone o (option_map_or (λ k. is_sealed k.copy.state) (at self.old.copies id.now) false ≡ false)) }
         ensures same { IfOk result (λ o. IfNone o (self.new ≡ self.old)) }
         ensures memory { (r : Refusal) → IsErrOf result r → r ≡ NoMemory }
+        ensures late { OnErr result (get_check self.old.copies self.old.fetches_begun id.now ≡ None) }
         ensures err { OnErr result (self.new ≡ self.old) }
     {
         match self.hold_copy(id, session) {
@@ -52,6 +54,7 @@ impl JobRow {
             → TakesStep node self.old line contents (input.Call session (command.Get id.now)) (given_of o) self.new line) }
         ensures few { IfOk result (λ o. length o.messages ≤ 1) }
         ensures memory { (r : Refusal) → IsErrOf result r → r ≡ NoMemory }
+        ensures late { OnErr result (get_check self.old.copies self.old.fetches_begun id.now ≡ None) }
         ensures err { OnErr result (self.new ≡ self.old) }
     {
         let begun = self.fetches_begun();
@@ -93,6 +96,7 @@ impl JobRow {
             → TakesStep node self.old line contents (input.Call session (command.Get id.now)) (given_of o) self.new line) }
         ensures few { IfOk result (λ o. length o.messages ≤ 1) }
         ensures memory { (r : Refusal) → IsErrOf result r → r ≡ NoMemory }
+        ensures late { OnErr result (get_check self.old.copies self.old.fetches_begun id.now ≡ None) }
         ensures err { OnErr result (self.new ≡ self.old) }
     {
         match self.copies().state_of(id) {
@@ -119,6 +123,7 @@ impl JobRow {
             → TakesStep node self.old line contents (input.Call session (command.Get id.now)) (given_of o) self.new line) }
         ensures few { IfOk result (λ o. length o.messages ≤ 1) }
         ensures memory { (r : Refusal) → IsErrOf result r → r ≡ NoMemory }
+        ensures late { OnErr result (get_check self.old.copies self.old.fetches_begun id.now ≡ None) }
         ensures err { OnErr result (self.new ≡ self.old) }
     {
         if let Some(reply) = self.get_sealed(session, id)? {

@@ -9,7 +9,9 @@ use Rattle.obj_id.specs.declared.messages.Digest.{Digest}
 use Rattle.obj_id.specs.declared.works.WorkKind.{WorkKind}
 use Rattle.obj_id.specs.declared.works.WorkKind.TheVariants.{Write, Read}
 use Rattle.obj_id.specs.declared.refusals.Refusal.{Refusal}
-use Rattle.obj_id.specs.declared.refusals.Refusal.TheVariants.{AlreadySealed, DeviceFailed, Damaged}
+use Rattle.obj_id.specs.declared.refusals.Refusal.TheVariants.{AlreadySealed}
+use Rattle.private_store.specs.declared.faults.Fault.{Fault}
+use Rattle.private_store.specs.declared.faults.Fault.TheVariants.{DeviceFailed, Damaged}
 use Rattle.private_store.specs.declared.inputs.WorkVerdict.{WorkVerdict}
 use Rattle.private_store.specs.declared.inputs.WorkVerdict.TheVariants as work
 use Rattle.private_store.specs.Copies.{is_primary, is_created, is_sealed, is_away, was_sealed}
@@ -30,7 +32,7 @@ pub record Marks : Type 0 where
   -- the work in flight that writes it or reads it back
   pub working : Option WorkKind
   -- of a restore, what the next Get is told
-  pub fault : Option Refusal
+  pub fault : Option Fault
 
 -- ---- what always holds of the marks
 
@@ -46,12 +48,6 @@ is_written copy = option_map_or is_write copy.working false
 abbrev pub is_read : Marks → Bool
 is_read copy = option_map_or (λ w. not (is_write w)) copy.working false
 
--- what a restore may have come to
-abbrev pub is_fault : Refusal → Bool
-is_fault DeviceFailed = true
-is_fault Damaged = true
-is_fault _ = false
-
 -- the facts that the marks of every copy keep
 pub record IsMarked (copy : Marks) : Type 0 where
   -- a secondary isn't backed, and what is fetched is a secondary
@@ -65,7 +61,6 @@ pub record IsMarked (copy : Marks) : Type 0 where
   pub restored : is_read copy ≡ is_restoring copy.state
   -- only what is away has a fault to tell of, of a restore
   pub faulty : is_some copy.fault ≡ true → is_away copy.state ≡ true
-  pub of_restore : option_map_or is_fault copy.fault true ≡ true
   -- what was sealed has a digest, and what is being written has none
   pub sealed : was_sealed copy.state ≡ true → is_some copy.digest ≡ true
   pub unsealed : is_created copy.state ≡ true → copy.digest ≡ None

@@ -12,7 +12,7 @@ ghost use Rattle.private_store.specs.Kept.{is_fetching, is_restoring};
 ghost use Rattle.object_state.specs.Marks.{Marks, IsMarked, is_written, is_idle as is_idle_lem, is_evictable as is_evictable_lem, is_passing as is_passing_lem, is_spillable as is_spillable_lem, is_sized as is_sized_lem, can_spill as can_spill_lem, can_go_away as can_go_away_lem, can_restore as can_restore_lem, new_marks, fetched_marks, seal_check as seal_check_lem, written, read_back};
 
 use obj_id::{CopyState, Digest, Kind, Refusal, WorkKind};
-use private_store::WorkVerdict;
+use private_store::{Fault, WorkVerdict};
 use std::marker::Model;
 
 /// A copy of an object, without what stands on it.
@@ -27,7 +27,7 @@ pub struct ObjectCopy {
     backed: Option<u64>,
     doomed: bool,
     working: Option<WorkKind>,
-    fault: Option<Refusal>,
+    fault: Option<Fault>,
 }
 
 impl Model for ObjectCopy {
@@ -126,8 +126,8 @@ impl ObjectCopy {
         self.working
     }
 
-    /// What the next Get is told of a restore: `DeviceFailed`, `Damaged`, or nothing.
-    pub fn fault(&self) -> Option<Refusal>
+    /// What the next Get is told of its last restore, if that failed and no Get was told since.
+    pub fn fault(&self) -> Option<Fault>
         ensures { result ≡ self.now.fault }
     {
         self.fault
@@ -304,17 +304,17 @@ impl ObjectCopy {
             }
             WorkVerdict::Failed => {
                 self.state = CopyState::Away;
-                self.fault = Some(Refusal::DeviceFailed);
+                self.fault = Some(Fault::DeviceFailed);
             }
             WorkVerdict::Damaged => {
                 self.state = CopyState::Away;
-                self.fault = Some(Refusal::Damaged);
+                self.fault = Some(Fault::Damaged);
             }
         }
     }
 
     /// The fault of its last restore, which is told once.
-    pub fn take_fault(&mut self) -> Option<Refusal>
+    pub fn take_fault(&mut self) -> Option<Fault>
         ensures fault { result ≡ self.old.fault }
         ensures copy { self.new ≡ record self.old { fault = None } }
     {

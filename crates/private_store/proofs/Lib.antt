@@ -53,3 +53,7 @@ pub mod KeptStep
 pub mod KeptView
 pub mod WorksHaveCopies
 pub mod NumbersRise
+pub mod EachStep
+pub mod ListsKept
+pub mod AnswersAre
+pub mod BriefKept

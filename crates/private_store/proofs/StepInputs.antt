@@ -19,7 +19,9 @@ use Rattle.private_store.specs.Cluster.{at_node}
 use Rattle.private_store.specs.Trace.{Given, ends, is_out, is_no_memory, own_input, withdrawn_note, notes_by, notes, for_job, inputs_until}
 use Rattle.private_store.proofs.Runs.{inputs_now}
 use Rattle.private_store.specs.declared.schedules.NodeEvent.TheVariants.{Own}
-use Rattle.private_store.specs.NodeInputs.{JobInput, Before, before_at, wants_memory, own_event, withdrawn_here, notes_of, notes_here, inputs_here, only_of, inputs_to}
+use Rattle.private_store.specs.Answers.{wants_memory}
+pub use Rattle.private_store.specs.NodeInputs.{before_at}
+use Rattle.private_store.specs.NodeInputs.{JobInput, Before, own_event, withdrawn_here, notes_of, notes_here, inputs_here, only_of, inputs_to}
 
 -- an input at the place
 abbrev pub given_there : ℕ → JobInput → Given
@@ -27,7 +29,7 @@ given_there place x = record { job = x.job; input = at_node place x.input }
 
 -- ---- want of memory
 
-want_is : (r : Refusal) → is_no_memory (Told (reply.Refused r)) ≡ wants_memory (reply.Refused r)
+want_is : (r : Refusal) → is_no_memory (Told (reply.Refused r)) ≡ wants_memory {P = List ℕ} (reply.Refused r)
 want_is NoMemory = refl
 want_is _ = refl
 

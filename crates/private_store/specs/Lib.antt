@@ -20,4 +20,7 @@ pub mod Replay
 pub mod Frames
 pub mod Kept
 pub mod Refusing
+pub mod Made
+pub mod Listed
+pub mod Answers
 pub mod Jobs

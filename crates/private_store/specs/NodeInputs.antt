@@ -1,8 +1,7 @@
 -- What an event at a node, with its answer, is to every job there: a list of inputs.
-use Rattle.std.specs.Prelude.{ℕ, ◌==◌, Bool, true, false, if◌then◌else◌, List, [], ◌∷◌, ◌++◌, map, filter, Option, Some, None, option_to_list}
+use Rattle.std.specs.Prelude.{ℕ, ◌==◌, Bool, if◌then◌else◌, List, [], ◌∷◌, ◌++◌, map, filter, Option, Some, None, option_to_list}
 use Rattle.std.specs.Option.{option_map_or}
 use Rattle.obj_id.specs.declared.ids.ObjectId.{ObjectId}
-use Rattle.obj_id.specs.declared.refusals.Refusal.TheVariants.{NoMemory}
 use Rattle.obj_id.specs.declared.commands.Command.TheVariants as command
 use Rattle.obj_id.specs.declared.commands.Reply.{Reply}
 use Rattle.obj_id.specs.declared.commands.Reply.TheVariants as reply
@@ -12,7 +11,8 @@ use Rattle.private_store.specs.declared.schedules.Event.{Event}
 use Rattle.private_store.specs.declared.schedules.Event.TheVariants as event
 use Rattle.private_store.specs.Hands.{Hand, new_hand, hands_ended}
 use Rattle.private_store.specs.declared.schedules.Traced.{Traced}
-use Rattle.private_store.specs.Trace.{ends, hands_at, hands_by, is_out, granted_bytes, inputs_until}
+use Rattle.private_store.specs.Trace.{ends, hands_by, hands_at, is_out, granted_bytes, inputs_until}
+pub use Rattle.private_store.specs.Answers.{wants_memory}
 use Rattle.private_store.specs.declared.schedules.NodeEvent.{NodeEvent}
 use Rattle.private_store.specs.declared.schedules.NodeEvent.TheVariants.{Own, Arrive}
 
@@ -28,7 +28,7 @@ pub record Before : Type 0 where
   pub bytes : ObjectId → List ℕ
   pub hands : List Hand
 
--- the same, as a trace tells it of a place
+-- what a trace tells of a place
 abbrev pub before_at : ℕ → ℕ → List Traced → Before
 before_at nodes place history =
     record {
@@ -36,11 +36,6 @@ before_at nodes place history =
       bytes = granted_bytes nodes place (λ other. inputs_until nodes other history);
       hands = hands_at place history;
     }
-
--- whether the reply is that there is no memory
-abbrev pub wants_memory : Reply (List ℕ) → Bool
-wants_memory (reply.Refused NoMemory) = true
-wants_memory _ = false
 
 abbrev pub unless_wanting : Reply (List ℕ) → Option JobInput → Option JobInput
 unless_wanting told o = if wants_memory told then None else o

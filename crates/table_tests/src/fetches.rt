@@ -2,6 +2,7 @@
 use bytes::Bytes;
 use fetch_core::{FetchIn, Stage, chunks_asked};
 use obj_id::{Digest, JobNo, Location, ObjectId, PeerMessage, Refusal, TaskNo};
+use private_store::FetchFault;
 use sha2::{Digest as _, Sha256};
 use std::alloc::Global;
 use std::test::Fail;
@@ -100,7 +101,7 @@ fn the_first_entry_of_another_node_is_the_source(rt: HostRuntime) {
 fn without_another_node_there_is_no_copy(rt: HostRuntime) {
     let mut fetch = FetchIn::new(rt.alloc(), NUMBER);
     fetch.located(HERE, NUMBER, &[located_at(HERE, b"mine")]);
-    assert_eq!(rt; fetch.stage(), Stage::Failed(Refusal::Absent));
+    assert_eq!(rt; fetch.stage(), Stage::Failed(FetchFault::Absent));
 }
 
 #[test]
@@ -130,7 +131,7 @@ fn a_damaged_chunk_is_found_at_the_end(rt: HostRuntime) -> Result<(), Fail> {
     assert_eq!(rt; fetch.take_chunk(NUMBER, SOURCE, 1, 10), true);
     bytes[CHUNK] = 255;
     assert_eq!(rt; fetch.complete(&bytes), false);
-    assert_eq!(rt; fetch.stage(), Stage::Failed(Refusal::Damaged));
+    assert_eq!(rt; fetch.stage(), Stage::Failed(FetchFault::Damaged));
     assert_eq!(rt; fetch.digest(), None);
     Ok(())
 }
@@ -143,7 +144,7 @@ fn only_the_source_says_that_there_is_nothing(rt: HostRuntime) -> Result<(), Fai
     assert_eq!(rt; fetch.not_here(NUMBER + 1, SOURCE), false);
     assert_eq!(rt; fetch.stage(), Stage::Pulling(SOURCE));
     assert_eq!(rt; fetch.not_here(NUMBER, SOURCE), true);
-    assert_eq!(rt; fetch.stage(), Stage::Failed(Refusal::Absent));
+    assert_eq!(rt; fetch.stage(), Stage::Failed(FetchFault::Absent));
     Ok(())
 }
 

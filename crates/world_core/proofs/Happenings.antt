@@ -52,7 +52,6 @@ use Rattle.private_store.proofs.StepInputs.{given_there, want_same, own_is, inpu
 use Rattle.world_core.proofs.Clusters.{input_found, own_of, own_told}
 use Rattle.world_core.proofs.Entries.{IsEntry}
 use Rattle.world_core.proofs.Lines.{any_filter, filter_all, untaken_filter, is_taken_taken, untaken_taken}
-use Rattle.world_core.proofs.NoWant.{is_want, reply_wants, no_check_wants, NoWants, view_step_told}
 use Rattle.world_core.proofs.Numbers.{itself, apart_number, same_number, number_same, turned}
 
 -- ---- hands
@@ -264,22 +263,6 @@ lives_there memory place other lives (event.Call job session c) told apart = ref
 lives_there memory place other lives event.Take told apart = refl
 lives_there memory place other lives (event.Finish job number a) told apart = refl
 
-abbrev checks_of : Admissions → JobNo → Quota → List (Bool × Refusal)
-checks_of a job quota =
-    (job.0 == 0, BadId)
-    ∷ (not (is_quota quota), BadSize)
-    ∷ (nat_le job.0 a.greatest, Exists)
-    ∷ (nat_le most_live_jobs (length (lives_of a.live)) || is_none (place_for a quota.window), NoRoom)
-    ∷ []
-
-abbrev requota_checks : Admissions → View → JobNo → Quota → List (Bool × Refusal)
-requota_checks a view job quota =
-    (not (list_any (shared.job_is job.0) (lives_of a.live)), NotAdmitted)
-    ∷ (not (is_quota quota), BadSize)
-    ∷ (not (fits_quota view.shape quota), Full)
-    ∷ (not (can_widen a.memory job.0 quota.window (lives_of a.live)), NoRoom)
-    ∷ []
-
 refused_isnt_ok : {B : Type 0} (o : Option Refusal) → is_some o ≡ true → reply.Ok ≡ answered o → B
 refused_isnt_ok None t e = true_false t
 refused_isnt_ok (Some r) t e = absurd (subst (λ (q : Reply (List ℕ)). elim q as (λ _. Type 0) [ reply.Ok ↦ Unit {0} | _ ↦ ⊥ ]) e tt)
@@ -336,55 +319,6 @@ admission_there : (place other : ℕ) (e : Event) (told : Reply (List ℕ)) (job
 admission_there place other (event.Admit j quota key) reply.Ok job apart = ap (λ t. t && nat_le job j.0) (apart_number place other apart)
 admission_there place other (event.Admit j quota key) _ job apart = refl
 admission_there place other _ told job apart = refl
-
--- ---- no answer of a node is want of memory
-
-want_is : (r : Refusal) → is_no_memory (Told (reply.Refused r)) ≡ reply_wants {P = List ℕ} (reply.Refused r)
-want_is NoMemory = refl
-want_is _ = refl
-
-no_memory_wants : (told : Reply (List ℕ)) → is_no_memory (Told told) ≡ reply_wants told
-no_memory_wants (reply.Refused r) = want_is r
-no_memory_wants _ = refl
-
-answered_wants : (checks : List (Bool × Refusal)) → no_check_wants checks ≡ true → reply_wants {P = List ℕ} (answered (first_refusal checks)) ≡ false
-answered_wants [] h = refl
-answered_wants (check ∷ checks) h = by check.0 (is_want check.1) refl h (answered_wants checks)
-  where
-    by : (c w : Bool) → is_want check.1 ≡ w → not w && no_check_wants checks ≡ true → (no_check_wants checks ≡ true → reply_wants {P = List ℕ} (answered (first_refusal checks)) ≡ false)
-        → reply_wants {P = List ℕ} (answered (cond c (Some check.1) (first_refusal checks))) ≡ false
-    by c true is h later = true_false h
-    by true false is h later = is
-    by false false is h later = later h
-
-ended_wants : (live : Bool) → reply_wants {P = List ℕ} (answered (cond live None (Some NotAdmitted))) ≡ false
-ended_wants true = refl
-ended_wants false = refl
-
-pub stale_wants : (fine : Bool) → reply_wants {P = List ℕ} (answered (stale_unless fine)) ≡ false
-stale_wants true = refl
-stale_wants false = refl
-
-take_wants : (works : List Queued) (v : ℕ → View) → reply_wants {P = List ℕ} (take_told works v) ≡ false
-take_wants works v = by (front_of works)
-  where
-    by_work : (o : Option (Work (List ℕ))) → reply_wants {P = List ℕ} (option_map_or reply.Work o reply.NoWork) ≡ false
-    by_work None = refl
-    by_work (Some work) = refl
-
-    by : (o : Option Asked) → reply_wants {P = List ℕ} (option_map_or (λ asked. option_map_or reply.Work (work_of asked.job.0 asked.number (v asked.job.0)) reply.NoWork) o reply.NoWork) ≡ false
-    by None = refl
-    by (Some asked) = by_work (work_of asked.job.0 asked.number (v asked.job.0))
-
--- no answer of an event
-pub told_wants : (node : Hosted) (v : ℕ → View) (place : ℕ) (b : Before) (e : Event) (given : steps.Given) → IsEventAnswer node v e given.reply → ((job : ℕ) → NoWants (v job).shape.copies)
-    → IsGiven place v (own_due b (Own e) given.reply) given → is_no_memory (Told given.reply) ≡ false
-told_wants node v place b (event.Admit job quota key) given is wants g = no_memory_wants given.reply ∙ ap reply_wants is ∙ answered_wants (checks_of node.admissions job quota) refl
-told_wants node v place b (event.Requota job quota) given is wants g = no_memory_wants given.reply ∙ ap reply_wants is ∙ answered_wants (requota_checks node.admissions (v job.0) job quota) refl
-told_wants node v place b (event.JobEnd job) given is wants g = no_memory_wants given.reply ∙ ap reply_wants is ∙ ended_wants (is_some (live_at node.admissions job))
-told_wants node v place b event.Take given is wants g = no_memory_wants given.reply ∙ ap reply_wants is ∙ take_wants node.works.works v
-told_wants node v place b (event.Finish job number a) given is wants g = no_memory_wants given.reply ∙ ap reply_wants is ∙ stale_wants (is_taken node.works.works job.0 number)
-told_wants node v place b (event.Call job session c) given is wants g = no_memory_wants given.reply ∙ ap reply_wants g.reply ∙ view_step_told place (v job.0) (input.Call session c) (wants job.0)
 
 -- ---- what was due
 

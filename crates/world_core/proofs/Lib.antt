@@ -1,6 +1,5 @@
 mod Numbers
 mod Logging
-mod NoWant
 mod Places
 mod Stores
 mod Clusters

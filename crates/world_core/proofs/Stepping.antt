@@ -42,7 +42,7 @@ use Rattle.world_core.proofs.Lines.{is_taken_queued, untaken_queued}
 use Rattle.world_core.proofs.Clusters.{posts_from, own_of, own_posts, IsMovedBy, moved_by}
 use Rattle.world_core.proofs.Places.{length-slice_set, slice_get-slice_set, slice_get-slice_set_other}
 use Rattle.world_core.proofs.Numbers.{same_number}
-use Rattle.world_core.proofs.Stores.{AreSound, cluster_AreSound, store_found}
+use Rattle.world_core.proofs.Stores.{AreStamped, cluster_AreStamped, store_found}
 
 -- ---- replies
 
@@ -116,11 +116,11 @@ module _ (nodes memory place : ℕ) (old : Hosting) (history : List Traced) (h :
   pub at_place : IsNodeAfter nodes memory place before history
   at_place = h.each_node place before found
 
-  pub sound : (job : ℕ) → AreSound nodes (cluster job).stores
-  sound job = cluster_AreSound nodes job (inputs_until nodes job history)
+  pub stamped : (job : ℕ) → AreStamped nodes (cluster job).stores
+  stamped job = cluster_AreStamped nodes job (inputs_until nodes job history)
 
   pub here : (job : ℕ) → (store : Store) × (slice_get (cluster job).stores place ≡ Some store)
-  here job = store_found nodes (cluster job).stores place (sound job) within
+  here job = store_found nodes (cluster job).stores place (stamped job) within
 
   abbrev pub view_at : ℕ → View
   view_at job = view_of (here job).0
@@ -170,7 +170,7 @@ module _ (nodes memory place : ℕ) (e : NodeEvent) (given : Given) (old new : H
   view_is : (job : ℕ) → view_from m.before.number (v job) (inputs_to (before_of m.before v) e given.reply job) ≡ view_of (store_from place (store job) (xs job))
   view_is job =
       (λ i. view_from (p.number i) (v job) (inputs_to (b_same i) e given.reply job))
-      ∙ sym (view_of_run place (store job) (xs job) ((sound nodes memory place old history h within m.before m.found job).each place (store job) (there_is job)).stamped)
+      ∙ sym (view_of_run place (store job) (xs job) ((stamped nodes memory place old history h within m.before m.found job).each place (store job) (there_is job)))
 
   shows_here : (job : ℕ) (after : Store) → slice_get (cluster_until nodes job (entry ∷ history)).stores place ≡ Some after → Shows m.after job (view_of after)
   shows_here job after f =

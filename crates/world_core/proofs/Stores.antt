@@ -8,28 +8,16 @@ use Rattle.obj_id.specs.declared.messages.Message.{Message}
 use Rattle.obj_id.specs.declared.messages.Message.TheVariants as message
 use Rattle.private_store.specs.declared.inputs.Input.{Input}
 use Rattle.private_store.specs.declared.inputs.Input.TheVariants.{Arrive}
-use Rattle.private_store.specs.Private.{Store, no_store, private_outcome, private_step, view_of}
+use Rattle.private_store.specs.Private.{Store, no_store, private_outcome, private_step}
 use Rattle.private_store.specs.Cluster.{Cluster, ClusterInput, at_node, deliver, input_at, moved_at, unmoved, message_at, damaged, handed_over, handed_to_directory, arrival_of, cluster_step, cluster_from, stores_of, no_cluster}
 use Rattle.private_store.proofs.Tests.{none_some, some_value}
 use Rattle.private_store.proofs.Stamped.{IsStamped, private_step_IsStamped, no_store_IsStamped}
-use Rattle.world_core.proofs.NoWant.{NoWants, view_step_wants}
 use Rattle.world_core.proofs.Places.{length-slice_set, slice_get-slice_set, slice_get-slice_set_other, found_within}
 
--- a store with its stamps, and with nothing to tell of that is want of memory
-pub record IsSound (store : Store) : Type 0 where
-  pub stamped : IsStamped store
-  pub wants : NoWants store.shape.copies
-
--- so many of them
-pub record AreSound (nodes : ℕ) (stores : List Store) : Type 0 where
+-- so many stores, each with its stamps
+pub record AreStamped (nodes : ℕ) (stores : List Store) : Type 0 where
   pub many : length stores ≡ nodes
-  pub each : (place : ℕ) (store : Store) → slice_get stores place ≡ Some store → IsSound store
-
-no_store_IsSound : (job : ℕ) → IsSound (no_store job)
-no_store_IsSound job = record { stamped = no_store_IsStamped job; wants = record { row = λ id. tt } }
-
-pub private_step_IsSound : (node : ℕ) (store : Store) (x : Input) → IsSound store → IsSound (private_step node store x)
-private_step_IsSound node store x h = record { stamped = private_step_IsStamped node store x h.stamped; wants = view_step_wants node (view_of store) x h.wants }
+  pub each : (place : ℕ) (store : Store) → slice_get stores place ≡ Some store → IsStamped store
 
 -- the stores of a job that was never admitted
 stores_at : (job nodes place : ℕ) (store : Store) → slice_get (stores_of job nodes) place ≡ Some store → store ≡ no_store job
@@ -44,58 +32,58 @@ stores_many job (suc nodes) = ap (λ n. suc n) (stores_many job nodes)
 pub no_cluster_at : (job nodes place : ℕ) (store : Store) → slice_get (no_cluster job nodes).stores place ≡ Some store → store ≡ no_store job
 no_cluster_at job nodes place store e = stores_at job nodes place store e
 
-no_cluster_AreSound : (job nodes : ℕ) → AreSound nodes (no_cluster job nodes).stores
-no_cluster_AreSound job nodes = record {
+no_cluster_AreStamped : (job nodes : ℕ) → AreStamped nodes (no_cluster job nodes).stores
+no_cluster_AreStamped job nodes = record {
   many = stores_many job nodes;
-  each = λ place store e. subst IsSound (sym (stores_at job nodes place store e)) (no_store_IsSound job);
+  each = λ place store e. subst IsStamped (sym (stores_at job nodes place store e)) (no_store_IsStamped job);
 }
 
-set_AreSound : (nodes : ℕ) (stores : List Store) (place : ℕ) (old store : Store) → AreSound nodes stores → slice_get stores place ≡ Some old → IsSound store → AreSound nodes (slice_set stores place store)
-set_AreSound nodes stores place old store h found k = record {
+set_AreStamped : (nodes : ℕ) (stores : List Store) (place : ℕ) (old store : Store) → AreStamped nodes stores → slice_get stores place ≡ Some old → IsStamped store → AreStamped nodes (slice_set stores place store)
+set_AreStamped nodes stores place old store h found k = record {
   many = length-slice_set stores place store ∙ h.many;
   each = λ other at_other e. ⊎_elim
-      (λ (same : other ≡ place). subst IsSound (some_value store at_other (sym (slice_get-slice_set stores place old store found) ∙ ap (slice_get (slice_set stores place store)) (sym same) ∙ e)) k)
+      (λ (same : other ≡ place). subst IsStamped (some_value store at_other (sym (slice_get-slice_set stores place old store found) ∙ ap (slice_get (slice_set stores place store)) (sym same) ∙ e)) k)
       (λ (apart : other ≢ place). h.each other at_other (sym (slice_get-slice_set_other stores place other store apart) ∙ e))
       (cases_eq other place);
 }
 
-module _ (nodes : ℕ) (cluster : Cluster) (h : AreSound nodes cluster.stores) where
-  input_AreSound : (place : ℕ) (x : Input) → AreSound nodes (input_at cluster place x).cluster.stores
-  input_AreSound place x =
-      elim (slice_get cluster.stores place) as (λ o. slice_get cluster.stores place ≡ o → AreSound nodes (option_map_or (λ store. moved_at cluster place store (private_outcome place store x)) o (unmoved cluster)).cluster.stores) [
+module _ (nodes : ℕ) (cluster : Cluster) (h : AreStamped nodes cluster.stores) where
+  input_AreStamped : (place : ℕ) (x : Input) → AreStamped nodes (input_at cluster place x).cluster.stores
+  input_AreStamped place x =
+      elim (slice_get cluster.stores place) as (λ o. slice_get cluster.stores place ≡ o → AreStamped nodes (option_map_or (λ store. moved_at cluster place store (private_outcome place store x)) o (unmoved cluster)).cluster.stores) [
         | None ↦ λ _. h
-        | Some store ↦ λ e. set_AreSound nodes cluster.stores place store (private_step place store x) h e (private_step_IsSound place store x (h.each place store e))
+        | Some store ↦ λ e. set_AreStamped nodes cluster.stores place store (private_step place store x) h e (private_step_IsStamped place store x (h.each place store e))
       ] refl
 
-  directory_AreSound : (m : Message) → AreSound nodes (handed_to_directory cluster m).cluster.stores
-  directory_AreSound (message.ToDirectory m) = h
-  directory_AreSound (message.Located id number entries) = h
-  directory_AreSound (message.ToPeer m) = h
+  directory_AreStamped : (m : Message) → AreStamped nodes (handed_to_directory cluster m).cluster.stores
+  directory_AreStamped (message.ToDirectory m) = h
+  directory_AreStamped (message.Located id number entries) = h
+  directory_AreStamped (message.ToPeer m) = h
 
-  handed_AreSound : (from to : Place) (m : Message) → AreSound nodes (handed_over cluster from to m).cluster.stores
-  handed_AreSound from (Node place) m =
-      elim (arrival_of from m) as (λ o. AreSound nodes (option_map_or (λ a. input_at cluster place (Arrive a)) o (unmoved cluster)).cluster.stores) [
+  handed_AreStamped : (from to : Place) (m : Message) → AreStamped nodes (handed_over cluster from to m).cluster.stores
+  handed_AreStamped from (Node place) m =
+      elim (arrival_of from m) as (λ o. AreStamped nodes (option_map_or (λ a. input_at cluster place (Arrive a)) o (unmoved cluster)).cluster.stores) [
         | None ↦ h
-        | Some a ↦ input_AreSound place (Arrive a)
+        | Some a ↦ input_AreStamped place (Arrive a)
       ]
-  handed_AreSound from Directory m = directory_AreSound m
+  handed_AreStamped from Directory m = directory_AreStamped m
 
-  step_AreSound : (x : ClusterInput) → AreSound nodes (cluster_step cluster x).cluster.stores
-  step_AreSound (at_node place x) = input_AreSound place x
-  step_AreSound (deliver from to m damage) =
-      elim (message_at cluster from to m) as (λ o. AreSound nodes (option_map_or (λ message. handed_over cluster from to (cond damage (damaged message) message)) o (unmoved cluster)).cluster.stores) [
+  step_AreStamped : (x : ClusterInput) → AreStamped nodes (cluster_step cluster x).cluster.stores
+  step_AreStamped (at_node place x) = input_AreStamped place x
+  step_AreStamped (deliver from to m damage) =
+      elim (message_at cluster from to m) as (λ o. AreStamped nodes (option_map_or (λ message. handed_over cluster from to (cond damage (damaged message) message)) o (unmoved cluster)).cluster.stores) [
         | None ↦ h
-        | Some message ↦ handed_AreSound from to (cond damage (damaged message) message)
+        | Some message ↦ handed_AreStamped from to (cond damage (damaged message) message)
       ]
 
-from_AreSound : (nodes : ℕ) (cluster : Cluster) (xs : List ClusterInput) → AreSound nodes cluster.stores → AreSound nodes (cluster_from cluster xs).stores
-from_AreSound nodes cluster [] h = h
-from_AreSound nodes cluster (x ∷ xs) h = from_AreSound nodes (cluster_step cluster x).cluster xs (step_AreSound nodes cluster h x)
+from_AreStamped : (nodes : ℕ) (cluster : Cluster) (xs : List ClusterInput) → AreStamped nodes cluster.stores → AreStamped nodes (cluster_from cluster xs).stores
+from_AreStamped nodes cluster [] h = h
+from_AreStamped nodes cluster (x ∷ xs) h = from_AreStamped nodes (cluster_step cluster x).cluster xs (step_AreStamped nodes cluster h x)
 
--- every store of a private cluster is sound
-pub cluster_AreSound : (nodes job : ℕ) (xs : List ClusterInput) → AreSound nodes (cluster_from (no_cluster job nodes) xs).stores
-cluster_AreSound nodes job xs = from_AreSound nodes (no_cluster job nodes) xs (no_cluster_AreSound job nodes)
+-- every store of a private cluster has its stamps
+pub cluster_AreStamped : (nodes job : ℕ) (xs : List ClusterInput) → AreStamped nodes (cluster_from (no_cluster job nodes) xs).stores
+cluster_AreStamped nodes job xs = from_AreStamped nodes (no_cluster job nodes) xs (no_cluster_AreStamped job nodes)
 
 -- and there is one at each place
-pub store_found : (nodes : ℕ) (stores : List Store) (place : ℕ) → AreSound nodes stores → place < nodes → (store : Store) × (slice_get stores place ≡ Some store)
+pub store_found : (nodes : ℕ) (stores : List Store) (place : ℕ) → AreStamped nodes stores → place < nodes → (store : Store) × (slice_get stores place ≡ Some store)
 store_found nodes stores place h lt = found_within stores place (subst (λ n. place < n) (sym h.many) lt)

@@ -21,7 +21,8 @@ use Rattle.world_core.specs.Worlds.{Hosting, IsNodeAfter, IsAfter, is_built_step
 use Rattle.world_core.specs.Moves.{Moves, Turns, at, wants, Happens}
 use Rattle.world_core.proofs.Numbers.{is_less}
 use Rattle.world_core.proofs.Stepping.{sound, here, view_at, shown, before_same, after_event}
-use Rattle.world_core.proofs.Happenings.{told_wants, is_entry}
+use Rattle.node_core.proofs.Never.{told_never}
+use Rattle.world_core.proofs.Happenings.{is_entry}
 use Rattle.world_core.proofs.Idling.{after_wanting}
 
 module _ (nodes memory place : ℕ) (e : Event) (given : Given) (old new : Hosting) (history : List Traced)
@@ -43,9 +44,8 @@ module _ (nodes memory place : ℕ) (e : Event) (given : Given) (old new : Hosti
   -- no node answers that there is no memory
   pub event_answered : is_no_memory (Told given.reply) ≡ false
   event_answered =
-      told_wants m.before (view_at nodes memory place old history h within m.before m.found) place (before_at nodes place history) e given s.operator
-      (λ job. ((sound nodes memory place old history h within m.before m.found job).each place (store job) (here nodes memory place old history h within m.before m.found job).1).wants)
-      due_given
+      want_same given.reply
+      ∙ told_never m.before (view_at nodes memory place old history h within m.before m.found) place (before_at nodes place history) e given s.operator due_given
 
   -- the world after an event of a schedule
   pub after_at : IsAfter nodes memory new (record { step = At place e; answer = Told given.reply } ∷ history)

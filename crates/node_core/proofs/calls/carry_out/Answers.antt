@@ -35,7 +35,7 @@ returns-clause-ok c contents own h =
           let d = command.Read w.in-Read.id w.in-Read.offset w.in-Read.len in
           so d (given_of c.only-2.result) c.match-command.reply w.in_ok-reply-in-Read.reply c.match-command.row c.args.row.now
           w.in-Read.is c.only-2.ensures w.reply-is w.row-is
-          (w.in_ok-reply-in-Read.ensures c.args.node c.args.works.now contents (own_id w.in-Read.id (mine d w.in-Read.is)) h)
+          (w.in_ok-reply-in-Read.ensures.ok c.args.node c.args.works.now contents (own_id w.in-Read.id (mine d w.in-Read.is)) h)
       | in-Release w ↦
           let d = command.Release w.in-Release.id in
           so d (given_of c.only-2.result) c.match-command.reply w.release-reply.result c.match-command.row w.release-reply.new.self

@@ -1,0 +1,65 @@
+-- When a step may want memory: not if there is nothing to do, and not if it is refused before anything grows.
+use Rattle.std.specs.Prelude.{◌≡◌, ℕ, Bool, true, false, List, Some, None, is_some}
+use Rattle.obj_id.specs.declared.commands.Command.{Command}
+use Rattle.obj_id.specs.declared.commands.Reply.{Reply}
+use Rattle.obj_id.specs.declared.commands.Reply.TheVariants as reply
+use Rattle.private_store.specs.declared.inputs.Input.TheVariants as input
+use Rattle.private_store.specs.declared.schedules.Event.{Event}
+use Rattle.private_store.specs.declared.schedules.Event.TheVariants as event
+use Rattle.private_store.specs.declared.schedules.NodeEvent.{NodeEvent}
+use Rattle.private_store.specs.declared.schedules.NodeEvent.TheVariants.{Own, Arrive}
+use Rattle.private_store.specs.Contents.{View}
+use Rattle.private_store.specs.Private.{view_step}
+use Rattle.obj_id.specs.declared.ids.JobNo.{JobNo}
+use Rattle.job_admission.specs.Admissions.{live_at, admit_check}
+use Rattle.node_table.specs.Row.{Row}
+use Rattle.node_table.specs.Checks.{early_check}
+use Rattle.node_table.specs.Late.{may_grow}
+use Rattle.node_core.specs.Hosted.{Hosted, row_at, ShowsAll}
+use Rattle.node_core.specs.Calls.{is_own, takes_no_memory}
+use Rattle.node_core.specs.Steps.{is_taken, answered, end_check, requota_check, stale_unless, take_told}
+
+-- the answer that an event is due
+abbrev pub told_by : Hosted → (ℕ → View) → NodeEvent → Reply (List ℕ)
+told_by node v (Own (event.Admit job quota key)) = answered (admit_check node.admissions job quota)
+told_by node v (Own (event.Requota job quota)) = answered (requota_check node.admissions (v job.0) job quota)
+told_by node v (Own (event.JobEnd job)) = answered (end_check node.admissions job)
+told_by node v (Own event.Take) = take_told node.works.works v
+told_by node v (Own (event.Finish job number a)) = answered (stale_unless (is_taken node.works.works job.0 number))
+told_by node v (Own (event.Call job session c)) = (view_step node.number (v job.0) (input.Call session c)).reply
+told_by node v (Arrive job a) = answered (stale_unless (is_some (live_at node.admissions job)))
+
+-- whether there is something to do
+abbrev pub is_accepted : Reply (List ℕ) → Bool
+is_accepted (reply.Refused refusal) = false
+is_accepted reply.NoWork = false
+is_accepted _ = true
+
+-- whether an event may want memory
+abbrev pub may_want : Hosted → (ℕ → View) → NodeEvent → Bool
+may_want node v (Own (event.Call job session c)) = may_grow (v job.0).shape (told_by node v (Own (event.Call job session c)))
+may_want node v e = is_accepted (told_by node v e)
+
+-- what an error is: the answer that was due is none that comes before anything grows
+abbrev pub IsLate : Hosted → NodeEvent → Type 0
+IsLate old e = (v : ℕ → View) → ShowsAll old v → may_want old v e ≡ true
+
+-- ---- the same, by the checks
+
+-- a command on a row that passed every check, and grows something
+pub record IsUnrefused (row : Row) (job session : ℕ) (c : Command (List ℕ)) : Type 0 where
+  pub own : is_own job c ≡ true
+  pub passed : early_check row session c ≡ None
+  pub grows : takes_no_memory c ≡ false
+
+-- on the row of a live job
+pub record IsCallUnrefused (node : Hosted) (job : JobNo) (session : ℕ) (c : Command (List ℕ)) : Type 0 where
+  pub row : Row
+  pub found : row_at node job ≡ Some row
+  pub unrefused : IsUnrefused row job.0 session c
+
+abbrev pub IsEventUnrefused : Hosted → Event → Type 0
+IsEventUnrefused node (event.Admit job quota key) = admit_check node.admissions job quota ≡ None
+IsEventUnrefused node (event.JobEnd job) = end_check node.admissions job ≡ None
+IsEventUnrefused node (event.Call job session c) = IsCallUnrefused node job session c
+IsEventUnrefused node _ = Unit {0}

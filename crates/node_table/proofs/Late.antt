@@ -1,0 +1,180 @@
+-- A command that passes the checks that come before anything grows is not refused by one of them.
+use Rattle.std.proofs.Common.{◌≡◌, ℕ, ◌+◌, ◌≤◌, Bool, true, false, not, cond, ◌==◌, nat_le, List, [], ◌∷◌, map, fold, length, take, Option, Some, None, Ok, Err, refl, sym, ap, ◌∙◌, arith}
+use Rattle.std.specs.Prelude.{nat_lt}
+use Rattle.std.specs.declared.result.Result.{Result}
+use Rattle.std.specs.Option.{option_map_or}
+use Rattle.std.proofs.lemmas.Bool.Decides.{nat_tests}
+use Rattle.std.proofs.lemmas.List.{length-take}
+use Rattle.obj_id.specs.declared.ids.ObjectId.{ObjectId}
+use Rattle.obj_id.specs.declared.refusals.Refusal.{Refusal}
+use Rattle.obj_id.specs.declared.refusals.Refusal.TheVariants.{Absent, DeviceFailed, Full, NotSealed, Pending, TooMany}
+use Rattle.obj_id.specs.declared.commands.Kind.{Kind}
+use Rattle.obj_id.specs.declared.commands.CopyState.{CopyState}
+use Rattle.obj_id.specs.declared.commands.CopyState.TheVariants.{Created, Sealed, Restoring, Fetching, Away}
+use Rattle.obj_id.specs.declared.commands.Command.{Command}
+use Rattle.obj_id.specs.declared.commands.Command.TheVariants as command
+use Rattle.obj_id.specs.declared.commands.Reply.{Reply}
+use Rattle.obj_id.specs.declared.commands.Reply.TheVariants as reply
+use Rattle.private_store.specs.declared.inputs.Input.{Input}
+use Rattle.private_store.specs.declared.inputs.Input.TheVariants as input
+use Rattle.private_store.specs.Limits.{most_works, most_holds, has_numbers}
+use Rattle.private_store.specs.Tables.{at}
+use Rattle.private_store.specs.Shape.{Copy, Shape, Change, Fetch, add_location}
+use Rattle.private_store.specs.Copies.{is_created, is_sealed}
+use Rattle.private_store.specs.Kept.{is_fetching}
+use Rattle.private_store.specs.Room.{Plan, set_copy, fits, wait, full, busy, evict, spill, spill_plan, victims, spilled, plan, works_left, offset_without, room_by, make_room, no_room, asked}
+use Rattle.private_store.specs.Change.{refused, replied, done, sending, erasing}
+use Rattle.private_store.specs.Commands.{created, all_holds, holds_of, with_holds}
+use Rattle.private_store.specs.Contents.{Contents, View, brief, judge, whole_reply}
+use Rattle.private_store.specs.Private.{view_step}
+use Rattle.private_store.specs.Step.{step}
+use Rattle.private_store.proofs.Checks.{checked-false, checked-nil}
+use Rattle.private_store.proofs.Tests.{true_false, none_some}
+use Rattle.spill_work.specs.Line.{WorkLine}
+use Rattle.node_table.specs.Kept.{Kept}
+use Rattle.node_table.specs.Row.{Row, copies_of, shape_of}
+use Rattle.node_table.specs.Checks.{create_check, seal_check, read_check, fetch_check, hold_check_of, get_check_of, get_check, early_check}
+use Rattle.node_table.specs.Late.{is_planned, may_grow}
+use Rattle.node_table.specs.Shown.{seen, is_plain, IsShown}
+use Rattle.node_table.proofs.ByChecks.{unless_refused, called, own, read-by, seal-by, seal_done, sending-is}
+use Rattle.node_table.proofs.CopyTables.{at-copies_found}
+use Rattle.node_table.proofs.Passed.{seal_passed}
+use Rattle.node_table.specs.Usages.{item_of}
+use Rattle.node_table.proofs.Telling.{list_done}
+use Rattle.node_table.proofs.Getting.{get_at}
+use Rattle.node_table.proofs.Fetching.{fetch_done, again}
+use Rattle.node_table.proofs.Creating.{room_is}
+
+-- ---- of what room is planned
+
+abbrev late_offset : Shape → Result ℕ Refusal → Bool
+late_offset store (Ok offset) = true
+late_offset store (Err refusal) = is_planned store refusal
+
+module _ (store : Shape) (n : ℕ) where
+  evicted_late : (ids : List ObjectId) → late_offset store (option_map_or Ok (offset_without store n ids) (Err Full)) ≡ true
+  evicted_late ids = by (offset_without store n ids)
+    where
+      by : (o : Option ℕ) → late_offset store (option_map_or Ok o (Err Full)) ≡ true
+      by (Some offset) = refl
+      by None = refl
+
+  -- no more numbers are asked for than works may be in flight
+  too_many : (used many : ℕ) → many ≤ most_works → has_numbers used many ≡ false → not (has_numbers used most_works) ≡ true
+  too_many used many few none = grind (arith, nat_tests, few, none)
+
+  spilled_late : (ids : List ObjectId) → length ids ≤ most_works → late_offset store (room_by store n (spill ids)).offset ≡ true
+  spilled_late ids few = by store.spill_failed (has_numbers store.works_asked (length ids)) refl
+    where
+      by : (failed fine : Bool) → has_numbers store.works_asked (length ids) ≡ fine
+          → late_offset store (cond failed (no_room (record store { spill_failed = false }) DeviceFailed) (cond fine (no_room (fold (asked true) store ids) Pending) (no_room store TooMany))).offset ≡ true
+      by true fine e = refl
+      by false true e = refl
+      by false false e = too_many store.works_asked (length ids) few e
+
+  spill_plan_late : (ids : List ObjectId) → late_offset store (room_by store n (spill_plan store ids)).offset ≡ true
+  spill_plan_late ids = by (nat_lt store.quota.device _) (works_left store == 0)
+    where
+      few : length (take (works_left store) ids) ≤ most_works
+      few = let e = length-take (works_left store) ids in omega (arith, e)
+
+      by : (over none : Bool) → late_offset store (room_by store n (cond over full (cond none busy (spill (take (works_left store) ids))))).offset ≡ true
+      by true none = refl
+      by false true = refl
+      by false false = spilled_late (take (works_left store) ids) few
+
+  pub room_late : (order : List ObjectId) → late_offset store (make_room order store n).offset ≡ true
+  room_late order = by (victims order store n) (spilled order store n)
+    where
+      by : (o p : Option (List ObjectId)) → late_offset store (room_by store n (elim o [
+          | Some [] ↦ fits
+          | Some (id ∷ ids) ↦ evict (id ∷ ids)
+          | None ↦ elim p [ Some [] ↦ wait | Some (id ∷ ids) ↦ spill_plan store (id ∷ ids) | None ↦ full ]
+        ])).offset ≡ true
+      by (Some []) p = evicted_late []
+      by (Some (id ∷ ids)) p = evicted_late (id ∷ ids)
+      by None (Some []) = refl
+      by None (Some (id ∷ ids)) = spill_plan_late (id ∷ ids)
+      by None None = refl
+
+-- ---- of a reply with its bytes
+
+pub whole_late : (store : Shape) (view : View) (x : Input) (r : Reply ℕ) → may_grow store (whole_reply view x r) ≡ may_grow store r
+whole_late store view x reply.Ok = refl
+whole_late store view x (reply.Placed offset n) = refl
+whole_late store view x (reply.Got n) = refl
+whole_late store view x (reply.Bytes n) = refl
+whole_late store view x (reply.List own granted) = refl
+whole_late store view x (reply.Usage usage) = refl
+whole_late store view x (reply.Work work) = refl
+whole_late store view x reply.NoWork = refl
+whole_late store view x (reply.Refused refusal) = refl
+
+-- ---- of each command
+
+module _ (node : ℕ) (row : Row) (line : WorkLine) (contents : Contents) (session : ℕ) (h : IsShown row line contents) where
+  abbrev s : Shape
+  s = shape_of row line
+
+  abbrev is_late : Command (List ℕ) → Type 0
+  is_late c = may_grow s (view_step node (seen row line contents) (input.Call session c)).reply ≡ true
+
+  -- by the change that the command is
+  by_change : (c : Command (List ℕ)) (d : Change) → step row.order s (judge node (seen row line contents) (input.Call session c)) ≡ erasing s d → may_grow s d.reply ≡ true → is_late c
+  by_change c d is late =
+      whole_late s (seen row line contents) (input.Call session c) (step row.order s (judge node (seen row line contents) (input.Call session c))).reply
+      ∙ ap (λ (e : Change). may_grow s e.reply) is ∙ late
+
+  pub seal_late : (id : ObjectId) → (id.job.0 == row.job) ≡ true → seal_check row.copies id ≡ None → is_late (command.Seal id)
+  seal_late id mine passed =
+      let k = seal_passed row.copies id passed in
+      by_change (command.Seal id) (seal_done row line id)
+      (called row line session (command.Seal id) ∙ ap (erasing s) (own row line id _ mine ∙ seal-by row line id ∙ ap (λ o. unless_refused s o (seal_done row line id)) passed))
+      (ap (λ o. may_grow s (option_map_or (λ copy. sending (add_location id ∷ []) (done (set_copy s id (record copy { state = Sealed })))) o (refused s Absent)).reply) (at-copies_found row.copies id k.copy k.found) ∙ ap (λ (c : Change). may_grow s c.reply) (sending-is _ _))
+
+  pub read_late : (id : ObjectId) (offset n : ℕ) → (id.job.0 == row.job) ≡ true → read_check row.copies session id offset n ≡ None → is_late (command.Read id offset n)
+  read_late id offset n mine passed =
+      by_change (command.Read id offset n) (replied s (reply.Bytes n))
+      (called row line session (command.Read id offset n) ∙ ap (erasing s) (own row line id _ mine ∙ read-by row line id session offset n ∙ ap (λ o. unless_refused s o (replied s (reply.Bytes n))) passed))
+      refl
+
+  pub list_late : is_late command.List
+  list_late = ap (may_grow s) (sym (list_done node row line contents session h (map item_of row.copies) [] refl refl).reply)
+
+  pub create_late : (id : ObjectId) (kind : Kind) (n : ℕ) → (id.job.0 == row.job) ≡ true → create_check row id n ≡ None → is_late (command.Create id kind n)
+  create_late id kind n mine passed =
+      by_change (command.Create id kind n) (sending (make_room row.order s n).sent (elim (make_room row.order s n).offset as (λ _. Change) [ Ok offset ↦ created id kind n (make_room row.order s n).shape offset | Err refusal ↦ refused (make_room row.order s n).shape refusal ]))
+      (room_is node row line contents session id kind n mine h passed (make_room row.order s n) refl)
+      (ap (λ (c : Change). may_grow s c.reply) (sending-is _ _) ∙ by (make_room row.order s n).offset (room_late s n row.order))
+    where
+      by : (o : Result ℕ Refusal) → late_offset s o ≡ true → may_grow s (elim o as (λ _. Change) [ Ok offset ↦ created id kind n (make_room row.order s n).shape offset | Err refusal ↦ refused (make_room row.order s n).shape refusal ]).reply ≡ true
+      by (Ok offset) late = refl
+      by (Err refusal) late = late
+
+  held_late : (id : ObjectId) (mine : (id.job.0 == row.job) ≡ true) (k : Kept) → at row.copies id ≡ Some k → k.copy.state ≡ Sealed → hold_check_of k ≡ None → is_late (command.Get id)
+  held_late id mine k found is passed =
+      by_change (command.Get id) (record (replied (set_copy s id (with_holds k.copy session (holds_of k.copy session + 1))) (reply.Got k.copy.length)) { used = Some id })
+      (get_at node row line contents session id mine h k found Sealed is
+      ∙ ap (erasing s) (checked-false s (nat_le most_holds (all_holds k.copy)) TooMany [] _ (fits_still (nat_le most_holds (all_holds k.copy)) passed) ∙ checked-nil s _)) refl
+    where
+      fits_still : (b : Bool) → cond b (Some TooMany) None ≡ None → b ≡ false
+      fits_still true e = none_some TooMany (sym e)
+      fits_still false e = refl
+
+  pub get_late : (id : ObjectId) → (id.job.0 == row.job) ≡ true → get_check row.copies row.fetches_begun id ≡ None → is_late (command.Get id)
+  get_late id mine passed = by (at row.copies id) refl passed
+    where
+      by_state : (k : Kept) → at row.copies id ≡ Some k → (state : CopyState) → k.copy.state ≡ state → cond (is_created state) (Some NotSealed) (cond (is_sealed state) (hold_check_of k) None) ≡ None → is_late (command.Get id)
+      by_state k found Created is e = none_some NotSealed (sym e)
+      by_state k found Sealed is e = held_late id mine k found is e
+      by_state k found Restoring is e = by_change (command.Get id) (refused s Pending) (get_at node row line contents session id mine h k found Restoring is) refl
+      by_state k found Fetching is e =
+          ap (may_grow s) (sym (again node row line contents session id mine h k found (ap is_fetching is) (number k) (λ f fetch. ap (λ (o : Option Fetch). option_map_or (λ f. f.number) o 0) fetch) _ refl).reply)
+        where
+          number : Kept → ℕ
+          number k = option_map_or (λ (f : Fetch). f.number) k.copy.fetch 0
+      by_state k found Away is e = true_false (ap (λ state. is_plain state k.copy.fetch) (sym is) ∙ (h.plain id k found).state)
+
+      by : (o : Option Kept) → at row.copies id ≡ o → elim o as (λ _. Option Refusal) [ None ↦ fetch_check row.copies row.fetches_begun | Some kept ↦ get_check_of kept ] ≡ None → is_late (command.Get id)
+      by None none e = ap (may_grow s) (sym (fetch_done node row line contents session id mine h none e).reply)
+      by (Some k) found e = by_state k found k.copy.state refl e
