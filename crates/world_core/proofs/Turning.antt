@@ -20,7 +20,7 @@ use Rattle.node_core.specs.Steps.{Given, IsGiven, StepsFrom}
 use Rattle.world_core.specs.Worlds.{Hosting, IsNodeAfter, IsAfter, is_built_step}
 use Rattle.world_core.specs.Moves.{Moves, Turns, at, wants, Happens}
 use Rattle.world_core.proofs.Numbers.{is_less}
-use Rattle.world_core.proofs.Stepping.{sound, here, view_at, shown, before_same, after_event}
+use Rattle.world_core.proofs.Stepping.{here, view_at, shown, before_same, after_event}
 use Rattle.node_core.proofs.Never.{told_never}
 use Rattle.world_core.proofs.Happenings.{is_entry}
 use Rattle.world_core.proofs.Idling.{after_wanting}
