@@ -90,8 +90,9 @@ impl World {
         ensures err { OnErr result (self.new ≡ self.old) }
     {
         let job = job_of(event);
-        // all growth comes before the node's step
-        self.messages.reserve(job)?;
+        // all growth comes before the node's step, and a step that sends nothing needs none
+        let most = self.nodes[place as usize].foresee(event).most_messages;
+        self.messages.reserve(job, most)?;
         let outcome = self.nodes[place as usize].apply(event)?;
         let Outcome {
             reply,

@@ -1,6 +1,6 @@
 //! The messages that the jobs of a world sent. A contract sees of each job all that it ever sent, oldest
 //! first, and whether the messages of one more step take no memory.
-ghost use Rattle.std.specs.Prelude.{◌≡◌, ℕ, ◌==◌, ◌++◌, ◌<◌, [], true, if◌then◌else◌, OnOk};
+ghost use Rattle.std.specs.Prelude.{◌≡◌, ℕ, ◌==◌, ◌++◌, ◌<◌, [], length, true, if◌then◌else◌, OnOk, IsOk};
 ghost use Rattle.private_store.specs.Cluster.{posted};
 ghost use Rattle.world_core.specs.Logs.{messages_of, sent_of, has_room};
 
@@ -93,8 +93,21 @@ impl Messages {
         }
     }
 
-    /// Makes room for the messages of another step of the job. What was sent stays, whatever the result.
-    pub fn reserve(&mut self, job: JobNo) -> Result<(), AllocError>
+    /// Makes room for the messages of another step of the job, which sends no more than `most`. What was sent stays,
+    /// whatever the result; a step that sends none takes no memory.
+    pub fn reserve(&mut self, job: JobNo, most: usize) -> Result<(), AllocError>
+        ensures sent { messages_of self.new.logs ≡ messages_of self.old.logs }
+        ensures room { OnOk result (0 < most → has_room self.new job ≡ true) }
+        ensures free { most ≡ 0 → IsOk result }
+    {
+        if most == 0 {
+            return Ok(());
+        }
+        self.grow(job)
+    }
+
+    /// Makes room for the messages of another step of the job.
+    fn grow(&mut self, job: JobNo) -> Result<(), AllocError>
         ensures sent { messages_of self.new.logs ≡ messages_of self.old.logs }
         ensures room { OnOk result (has_room self.new job ≡ true) }
     {
@@ -106,15 +119,23 @@ impl Messages {
         self.logs.reserve(1)
     }
 
-    /// Adds the messages that a step sent for the job from the place. There is room for them: this takes
-    /// no memory. A step that sent nothing leaves nothing behind, so that most steps cost the log nothing.
+    /// Adds the messages that a step sent for the job from the place. If there are any, there is room for them: this
+    /// takes no memory. A step that sent nothing leaves nothing behind, so that most steps cost the log nothing.
     pub fn add(&mut self, job: JobNo, from: Place, posts: Items<(Place, Message)>)
-        requires { has_room self.old job ≡ true }
+        requires { 0 < length posts → has_room self.old job ≡ true }
         ensures { (other : ℕ) → sent_of (messages_of self.new.logs) other ≡ (if job.0 == other then sent_of (messages_of self.old.logs) other ++ posted from posts else sent_of (messages_of self.old.logs) other) }
     {
         if posts.as_slice().is_empty() {
             return;
         }
+        self.put(job, from, posts);
+    }
+
+    /// Adds messages of the job, for which there is room.
+    fn put(&mut self, job: JobNo, from: Place, posts: Items<(Place, Message)>)
+        requires { has_room self.old job ≡ true }
+        ensures { (other : ℕ) → sent_of (messages_of self.new.logs) other ≡ (if job.0 == other then sent_of (messages_of self.old.logs) other ++ posted from posts else sent_of (messages_of self.old.logs) other) }
+    {
         if let Some(log) = self.logs.get_mut(&job) {
             log.add(from, posts);
             return;

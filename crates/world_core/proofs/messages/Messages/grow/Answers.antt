@@ -3,7 +3,7 @@ use Rattle.std.specs.Option.{option_copied_mut}
 use Rattle.private_store.specs.Jobs.{same_job}
 use Rattle.world_core.specs.Logs.{messages_of}
 use Rattle.world_core.proofs.Logging.{messages_of-set_value}
-use Rattle.world_core.proofs.messages.Messages.reserve.Goals as goal
+use Rattle.world_core.proofs.messages.Messages.grow.Goals as goal
 
 pub returns-in_err-reserve-clause-sent : goal.returns-in_err-reserve-clause-sent
 returns-in_err-reserve-clause-sent c =

@@ -7,7 +7,7 @@ use Rattle.private_store.specs.Cluster.{Sent, posted}
 use Rattle.indexmap.specs.IndexMap.{spare}
 use Rattle.world_core.specs.Logs.{Log, messages_of, sent_of}
 use Rattle.world_core.proofs.Logging.{log_room, fresh_room, map_room, sent_more}
-use Rattle.world_core.proofs.messages.Messages.add.Goals as goal
+use Rattle.world_core.proofs.messages.Messages.put.Goals as goal
 
 pub add-requires : goal.add-requires
 add-requires c =
