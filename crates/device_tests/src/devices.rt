@@ -21,6 +21,15 @@ const OTHER: DeviceKey = DeviceKey {
     number: 1,
 };
 
+/// A key of another job, with the same number.
+const NEIGHBOUR: DeviceKey = DeviceKey {
+    job: JobNo(8),
+    number: 1,
+};
+
+/// More bytes than a chunk has.
+const LONG: usize = 65_537;
+
 fn joined(alloc: Global, folder: &str, name: &str) -> Result<String, AllocError> {
     match format!(in alloc; "{folder}/{name}") {
         Ok(path) => Ok(path),
@@ -136,6 +145,56 @@ fn keeps_its_bytes<D: SpillDevice>(rt: &impl Abort, device: &mut D) {
     assert!(rt; matches!(read(rt, device, KEY, 2), Err(DeviceFault::Failed)));
     assert_eq!(rt; device.failures(), 2);
     assert!(rt; has(rt, device, OTHER, &[9]));
+}
+
+/// What is asked of it where two jobs have works of one number.
+fn keeps_jobs_apart<D: SpillDevice>(rt: &impl Abort, device: &mut D) {
+    assert_eq!(rt; write(rt, device, OTHER, &[9]), Ok(()));
+    assert!(rt; matches!(read(rt, device, NEIGHBOUR, 1), Err(DeviceFault::Failed)));
+    assert_eq!(rt; write(rt, device, NEIGHBOUR, &[7, 8]), Ok(()));
+    assert!(rt; has(rt, device, OTHER, &[9]));
+    assert!(rt; has(rt, device, NEIGHBOUR, &[7, 8]));
+    assert_eq!(rt; erase(rt, device, OTHER), Ok(()));
+    assert!(rt; has(rt, device, NEIGHBOUR, &[7, 8]));
+    assert_eq!(rt; erase(rt, device, NEIGHBOUR), Ok(()));
+    assert!(rt; matches!(read(rt, device, NEIGHBOUR, 2), Err(DeviceFault::Failed)));
+}
+
+/// As many bytes, each another than the one before it.
+fn long_bytes(alloc: Global) -> Result<Vec<u8>, AllocError> {
+    let mut bytes = match vec![in alloc; 0u8; LONG] {
+        Ok(bytes) => bytes,
+        Err(_) => vec![in alloc; 0u8; LONG]?,
+    };
+    for (place, byte) in bytes.iter_mut().enumerate() {
+        *byte = (place % 251) as u8;
+    }
+    Ok(bytes)
+}
+
+/// What is asked of it of an object that is longer than one chunk.
+fn keeps_long_bytes<D: SpillDevice>(rt: &impl Abort, device: &mut D, bytes: &[u8]) {
+    assert_eq!(rt; write(rt, device, OTHER, bytes), Ok(()));
+    assert!(rt; has(rt, device, OTHER, bytes));
+    assert_eq!(rt; erase(rt, device, OTHER), Ok(()));
+}
+
+#[test]
+fn memory_keeps_jobs_apart_and_long_bytes_whole(rt: HostRuntime) -> Result<(), Fail> {
+    let mut device = MemoryDevice::new(rt.alloc());
+    keeps_jobs_apart(&rt, &mut device);
+    keeps_long_bytes(&rt, &mut device, &long_bytes(rt.alloc())?);
+    Ok(())
+}
+
+#[test]
+fn files_keep_jobs_apart_and_long_bytes_whole(rt: HostRuntime) -> Result<(), Fail> {
+    let folder = own_folder(&rt, process::id(rt.process()), "apart")?;
+    let mut device = over_files(&rt, folder.as_str())?;
+    keeps_jobs_apart(&rt, &mut device);
+    keeps_long_bytes(&rt, &mut device, &long_bytes(rt.alloc())?);
+    fs::remove_dir(&rt, folder.as_str())?;
+    Ok(())
 }
 
 #[test]

@@ -1,1 +1,2 @@
 pub mod Indexes
+mod StoresFetches

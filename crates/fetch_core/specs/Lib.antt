@@ -1,2 +1,3 @@
 pub mod Fetching
 pub mod Stages
+pub mod Stores

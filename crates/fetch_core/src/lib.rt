@@ -14,6 +14,8 @@ ghost use Rattle.private_store.specs.Private.{chunks_asked as chunks_asked_for};
 ghost use Rattle.fetch_core.specs.Stages.{phase_of};
 ghost use Rattle.fetch_core.specs.Fetching.{begun, missing_of, located as located_lem, pull_begun, chunk_taken, fills_one, is_whole, is_refused_by, failed_with};
 
+pub mod laws;
+
 use bytes::Bytes;
 use obj_id::limits::CHUNK_SIZE;
 use obj_id::{Digest, Location, ObjectId, PeerMessage, Refusal};

@@ -11,6 +11,8 @@ ghost use Rattle.private_store.specs.Copies.{is_primary, is_sealed, was_sealed a
 ghost use Rattle.private_store.specs.Kept.{is_fetching, is_restoring};
 ghost use Rattle.object_state.specs.Marks.{Marks, IsMarked, is_written, is_idle as is_idle_lem, is_evictable as is_evictable_lem, is_passing as is_passing_lem, is_spillable as is_spillable_lem, is_sized as is_sized_lem, can_spill as can_spill_lem, can_go_away as can_go_away_lem, can_restore as can_restore_lem, new_marks, fetched_marks, seal_check as seal_check_lem, written, read_back};
 
+pub mod laws;
+
 use obj_id::{CopyState, Digest, Kind, Refusal, WorkKind};
 use private_store::{Fault, WorkVerdict};
 use std::marker::Model;

@@ -1,5 +1,5 @@
 //! The holds on one copy.
-ghost use Rattle.std.specs.Prelude.{◌≡◌, ◌+◌, ◌-◌, ◌<◌, ◌≤◌, [], not, OnOk, OnErr, IsTrue};
+ghost use Rattle.std.specs.Prelude.{◌≡◌, ◌+◌, ◌-◌, ◌<◌, ◌≤◌, [], not, OnOk, OnErr, IsOk, IsTrue};
 ghost use Rattle.std.specs.Ordering.{nat_cmp};
 ghost use Rattle.std.specs.FinMap.{put, is_sorted};
 ghost use Rattle.private_store.specs.Kept.{are_held};
@@ -65,10 +65,11 @@ impl Holds {
         self.by_session.is_empty()
     }
 
-    /// One more of the session. A failure changes nothing.
+    /// One more of the session. A failure changes nothing, and there is none if the session has one already.
     pub fn add(&mut self, session: u32) -> Result<(), AllocError>
         requires { total self.old < 64 }
         ensures ok { OnOk result (self.new ≡ with_count self.old session (count_of self.old session + 1)) }
+        ensures succeeds { 0 < count_of self.old session → IsOk result }
         ensures err { OnErr result (self.new ≡ self.old) }
     {
         let held = self.of(session);
@@ -107,15 +108,21 @@ fn count_in(by_session: &BTreeMap<u32, u32>, session: u32) -> u32
     by_session.get(&session).copied().unwrap_or(0)
 }
 
-/// Gives a session its count.
+/// Gives a session its count: in place, if it has one.
 fn insert_into(
     by_session: &mut BTreeMap<u32, u32>,
     session: u32,
     count: u32,
 ) -> Result<(), AllocError>
+    requires { IsTrue (is_sorted nat_cmp by_session.old.entries) }
     ensures ok { OnOk result (by_session.new.entries ≡ put nat_cmp session count by_session.old.entries) }
+    ensures succeeds { 0 < count_of by_session.old.entries session → IsOk result }
     ensures err { OnErr result (by_session.new.entries ≡ by_session.old.entries) }
 {
+    if count_in(by_session, session) > 0 {
+        set_in(by_session, session, count);
+        return Ok(());
+    }
     by_session.insert(session, count)?;
     Ok(())
 }

@@ -2,7 +2,7 @@
 //! it. A contract sees it as a record with the parts that a copy of the private store has.
 #![tactic(auto)]
 
-ghost use Rattle.std.specs.Prelude.{◌≡◌, ◌≢◌, ◌+◌, ◌-◌, true, false, Some, None, OnOk, OnErr, IsOk, IsErrOf};
+ghost use Rattle.std.specs.Prelude.{◌≡◌, ◌≢◌, ◌+◌, ◌-◌, ◌<◌, true, false, Some, None, OnOk, OnErr, IsOk, IsErrOf};
 ghost use Rattle.obj_id.specs.declared.refusals.Refusal.{Refusal};
 ghost use Rattle.obj_id.specs.declared.refusals.Refusal.TheVariants.{NoMemory};
 ghost use Rattle.private_store.specs.Copies.{is_primary as is_primary_lem};
@@ -14,15 +14,10 @@ mod holds;
 
 use borrowers::Borrowers;
 use holds::Holds;
+use obj_id::limits::{MOST_BORROWERS, MOST_HOLDS};
 use obj_id::{Kind, Refusal, TaskNo};
 use std::alloc::Global;
 use std::marker::Model;
-
-/// How many tasks may borrow a copy.
-const MOST_BORROWERS: usize = 64;
-
-/// How many holds all sessions together may have on a copy.
-const MOST_HOLDS: u32 = 64;
 
 /// Pin, borrowers and holds of one copy.
 #[derive(Drop)]
@@ -208,12 +203,13 @@ impl Pins {
     }
 
     /// One hold more of the session. `TooMany` at 64 holds of all sessions, `NoMemory` last. A refusal
-    /// changes nothing.
+    /// changes nothing. Takes no memory if the session holds it already.
     pub fn hold(&mut self, session: u32) -> Result<(), Refusal>
         ensures ok { OnOk result (self.new ≡ with_holds self.old session (holds_of_lem self.old session + 1)) }
         ensures passed { IsOk result → hold_check_lem self.old ≡ None }
         ensures refused { (r : Refusal) → r ≢ NoMemory → IsErrOf result r → hold_check_lem self.old ≡ Some r }
         ensures memory { IsErrOf result NoMemory → hold_check_lem self.old ≡ None }
+        ensures succeeds { 0 < holds_of_lem self.old session → hold_check_lem self.old ≡ None → IsOk result }
         ensures err { OnErr result (self.new ≡ self.old) }
     {
         if let Some(refusal) = self.hold_check() {

@@ -64,8 +64,15 @@ impl<R: Files + AllocGlobal + Drop> FileDevice<R> {
         })
     }
 
+    /// The path of the key's file, by which all three calls go.
+    fn path_for(&self, key: DeviceKey) -> Result<String, AllocError>
+        ensures { IfOk result (λ path. string_bytes path ≡ file_path self.now.name key) }
+    {
+        path_of(self.rt.alloc(), self.folder.as_str(), key)
+    }
+
     fn write_whole(&self, key: DeviceKey, bytes: &[u8]) -> io::Result<()> {
-        let path = path_of(self.rt.alloc(), self.folder.as_str(), key)?;
+        let path = self.path_for(key)?;
         let mut part = path.clone()?;
         part.push_str(".part")?;
         let written = write_beside(&self.rt, part.as_str(), path.as_str(), bytes);
@@ -78,7 +85,7 @@ impl<R: Files + AllocGlobal + Drop> FileDevice<R> {
     fn read_whole(&self, key: DeviceKey, len: u32) -> io::Result<Bytes>
         ensures { IfOk result (λ bytes. length bytes ≡ len) }
     {
-        let path = path_of(self.rt.alloc(), self.folder.as_str(), key)?;
+        let path = self.path_for(key)?;
         let mut file = fs::open(&self.rt, path.as_str())?;
         if file.metadata()?.len() != u64::from(len) {
             return Err(io::Error::from(ErrorKind::InvalidData));
@@ -89,7 +96,7 @@ impl<R: Files + AllocGlobal + Drop> FileDevice<R> {
     }
 
     fn remove(&self, key: DeviceKey) -> io::Result<()> {
-        let path = path_of(self.rt.alloc(), self.folder.as_str(), key)?;
+        let path = self.path_for(key)?;
         match fs::remove_file(&self.rt, path.as_str()) {
             Err(error) if error.kind() == ErrorKind::NotFound => Ok(()),
             removed => removed,
