@@ -1,5 +1,5 @@
 //! A job's window: one memory, and the extents that are placed in it. A contract sees a window as its
-//! quota and its extents by rising offset, each with its bytes; the memory behind is hidden.
+//! quota and its extents by rising offset, each with its bytes; the memory and the holes are hidden.
 #![tactic(auto)]
 
 ghost use Rattle.std.specs.Prelude.{◌≡◌, ◌≢◌, ◌↔◌, ℕ, ◌+◌, ◌-◌, ◌*◌, ◌/◌, ◌%◌, ◌^◌, ◌<◌, ◌≤◌, ◌++◌, List, [], ◌∷◌, Some, None, true, false, not, nat_eq, IfOk, OnOk, OnErr, IfSome, IsSome, IsErrOf, IsOk, IsTrue, length, take, drop, filter, replicate};
@@ -13,22 +13,29 @@ ghost use Rattle.private_store.specs.Limits.{is_window as is_window_lem};
 ghost use Rattle.private_store.specs.Extents.{rounded, is_size, first};
 ghost use Rattle.private_store.specs.Contents.{overwritten};
 ghost use Rattle.job_region.specs.Region.{extents_of, place_for, place_check, put_in, without, IsAt, bytes_at, resize_check as resize_check_lem};
+ghost use Rattle.std.specs.Prelude.{vec_len};
+ghost use Rattle.hole_tree.specs.Holes.{has_hole, take_hole};
 ghost use Rattle.job_region.specs.Layout.{placed_in, LaidFrom, kept, put_extent, without_extent, last_end};
+ghost use Rattle.job_region.specs.Gaps.{gaps, put_then, cut_hole, mend_holes, stretch as stretch_lem};
 
+use hole_tree::{Hole, Holes, Room};
+use obj_id::limits::{LONGEST_OBJECT, UNIT, WIDEST_WINDOW};
 use obj_id::{Extent, Refusal};
 use std::alloc::{AllocError, Global};
 use std::marker::Model;
-
-/// The bytes of the longest object.
-const LONGEST_OBJECT: u32 = 16_777_216;
 
 /// A job's window of so many bytes, and its extents.
 #[derive(Drop)]
 pub struct Window {
     quota: u64,
-    // by rising offset
+    // By rising offset.
     extents: Vec<Extent>,
     memory: Vec<u8>,
+    // What the extents leave free.
+    holes: Holes,
+    // Room for the hole that giving an extent back may make: one for each extent, so that it takes no memory.
+    rooms: Vec<Room>,
+    alloc: Global,
 }
 
 impl Model for Window {
@@ -37,10 +44,11 @@ impl Model for Window {
     ghost Value = { Region };
 
     ghost use Rattle.job_region.specs.Layout.{placed_in, IsLaid};
+    ghost use Rattle.std.specs.Prelude.{vec_len};
 
     ghost view = { λ w. record { quota = w.quota; placed = placed_in w.memory.items w.extents.items } };
 
-    ghost invariant = { λ w. IsLaid w.quota w.memory.items w.extents.items };
+    ghost invariant = { λ w. IsLaid w.quota w.memory.items w.extents.items w.holes (vec_len w.rooms) };
 }
 
 impl Window {
@@ -55,10 +63,21 @@ impl Window {
             return Err(Refusal::BadSize);
         }
         let memory = zeros(alloc, quota)?;
+        let mut holes = Holes::new();
+        holes.put(
+            Room::new(alloc)?,
+            Hole {
+                offset: 0,
+                length: quota,
+            },
+        );
         Ok(Window {
             quota,
             extents: Vec::new(alloc),
             memory,
+            holes,
+            rooms: Vec::new(alloc),
+            alloc,
         })
     }
 
@@ -70,10 +89,10 @@ impl Window {
     }
 
     /// Places an extent of zeros for an object of `len` bytes, at the least multiple of 16 at which they
-    /// lie within the window and meet no extent. Takes a scan of the extents.
+    /// lie within the window and meet no extent. Finds it in a descent of the tree of holes.
     ///
-    /// `BadSize` where no object of that length may be in the window, `Full` where no place is free,
-    /// `NoMemory` last. A refusal changes nothing.
+    /// `BadSize` if no object of that length may be in the window, `Full` if no place is free, `NoMemory`
+    /// last. A refusal changes nothing.
     pub fn place(&mut self, len: u32) -> Result<Extent, Refusal>
         ensures least { IfOk result (λ e. place_for self.old len ≡ Some e.offset) }
         ensures length { IfOk result (λ e. e.length ≡ rounded len) }
@@ -90,15 +109,17 @@ impl Window {
         if len == 0 || len > LONGEST_OBJECT || need > self.quota {
             return Err(Refusal::BadSize);
         }
-        let Some(offset) = gap_now(&self.extents, &self.memory, self.quota, len) else {
+        let Some(hole) = self.holes.first_fit(need).0 else {
             return Err(Refusal::Full);
         };
+        reserve(&mut self.rooms, self.alloc, self.extents.len())?;
         let extent = Extent {
-            offset,
+            offset: hole.offset,
             length: need,
         };
         put(&mut self.extents, extent)?;
-        clear_bytes(&mut self.memory, offset, need);
+        cut(&mut self.holes, hole, need);
+        clear_bytes(&mut self.memory, hole.offset, need);
         Ok(extent)
     }
 
@@ -118,9 +139,25 @@ impl Window {
         if len == 0 || len > LONGEST_OBJECT || need > self.quota {
             return Some(Refusal::BadSize);
         }
-        match gap_now(&self.extents, &self.memory, self.quota, len) {
+        match self.search(len).0 {
             Some(_) => None,
             None => Some(Refusal::Full),
+        }
+    }
+
+    /// Where an object of `len` bytes would go, and how many nodes of the tree of holes were visited: 30 at
+    /// most, however many extents there are.
+    pub fn search(&self, len: u32) -> (Option<u64>, u32)
+        ensures offset { result.0 ≡ place_for self.now len }
+        ensures visits { result.1 ≤ 30 }
+    {
+        if len == 0 {
+            return (Some(0), 0);
+        }
+        let (found, visits) = self.holes.first_fit(round_up(len));
+        match found {
+            None => (None, visits),
+            Some(hole) => (Some(hole.offset), visits),
         }
     }
 
@@ -136,6 +173,8 @@ impl Window {
         ensures length { IfOk result (λ e. e.length ≡ rounded len) }
         ensures placed { IfOk result (λ e. self.new ≡ record self.old { placed = put_in (e.offset, replicate e.length 0) (without gone.now self.old.placed) }) }
         ensures refused { (r : Refusal) → r ≢ NoMemory → IsErrOf result r → place_check (record self.old { placed = without gone.now self.old.placed }) len ≡ Some r }
+        ensures passed { IsOk result → place_check (record self.old { placed = without gone.now self.old.placed }) len ≡ None }
+        ensures memory { IsErrOf result NoMemory → place_check (record self.old { placed = without gone.now self.old.placed }) len ≡ None }
         ensures err { OnErr result (self.new ≡ self.old) }
         ensures fresh { IfOk result (λ e. lookup (nat_eq e.offset) (without gone.now self.old.placed) ≡ None) }
         ensures small { IfOk result (λ e. e.offset + e.length < 2 ^ 32) }
@@ -150,7 +189,10 @@ impl Window {
         let mut left = kept_of(alloc, &self.extents, gone)?;
         let length = need;
         put(&mut left, Extent { offset, length })?;
+        let holes = holes_of(alloc, &left, self.quota)?;
+        reserve(&mut self.rooms, alloc, self.extents.len())?;
         self.extents = left;
+        self.holes = holes;
         clear_bytes(&mut self.memory, offset, length);
         Ok(Extent { offset, length })
     }
@@ -161,6 +203,17 @@ impl Window {
         ensures { self.new ≡ record self.old { placed = remove_entry (nat_eq extent.offset) self.old.placed } }
     {
         take_out(&mut self.extents, extent.offset);
+        let (start, end) = stretch(&self.extents, extent.offset, self.quota);
+        let Some(room) = self.rooms.pop() else {
+            unreachable!()
+        };
+        mend(
+            &mut self.holes,
+            room,
+            start,
+            extent.offset + extent.length,
+            end,
+        );
     }
 
     /// The bytes of an extent of this window, lent without a copy.
@@ -173,7 +226,7 @@ impl Window {
     }
 
     /// Writes bytes into an extent of this window, from an offset in it on; the other extents stay.
-    /// `OutOfBounds` where they pass its end, and then nothing is written.
+    /// `OutOfBounds` if they pass its end, and then nothing is written.
     pub fn write(&mut self, extent: &Extent, off: u32, bytes: &[u8]) -> Result<(), Refusal>
         requires { IsAt extent.now self.old.placed }
         ensures ok { OnOk result (self.new ≡ record self.old { placed = set_value (nat_eq extent.now.offset) self.old.placed (overwritten (bytes_at extent.now self.old.placed) off bytes.now) }) }
@@ -206,14 +259,28 @@ impl Window {
     pub fn clear(&mut self)
         ensures { self.new ≡ record self.old { placed = [] } }
     {
+        if self.extents.is_empty() {
+            return;
+        }
+        let Some(room) = self.rooms.pop() else {
+            unreachable!()
+        };
         self.extents.clear();
+        self.holes.clear();
+        self.holes.put(
+            room,
+            Hole {
+                offset: 0,
+                length: self.quota,
+            },
+        );
     }
 
     /// Gives the window `quota` bytes; the extents keep their places and their bytes. Shrinking takes no
     /// memory.
     ///
-    /// `BadSize` unless that is a window's size, `Full` where an extent would reach past its end,
-    /// `NoMemory` last. A refusal changes nothing.
+    /// `BadSize` unless that is a window's size, `Full` if an extent would reach past its end, `NoMemory`
+    /// last. A refusal changes nothing.
     pub fn resize(&mut self, quota: u64) -> Result<(), Refusal>
         ensures ok { OnOk result (self.new ≡ record self.old { quota = quota }) }
         ensures passed { IsOk result → resize_check_lem self.old quota ≡ None }
@@ -224,9 +291,13 @@ impl Window {
         if let Some(refusal) = self.resize_check(quota) {
             return Err(refusal);
         }
+        let extents = self.extents.len();
+        reserve_to_grow(&mut self.rooms, self.alloc, extents, self.quota, quota)?;
         match resize_bytes(&mut self.memory, quota) {
             Err(_) => Err(Refusal::NoMemory),
             Ok(()) => {
+                let end = end_of_last(&self.extents);
+                end_at(&mut self.holes, &mut self.rooms, extents, end, quota);
                 self.quota = quota;
                 Ok(())
             }
@@ -252,7 +323,7 @@ impl Window {
 fn is_window(quota: u64) -> bool
     ensures { result ≡ is_window_lem quota }
 {
-    quota >= 16 && quota <= 268_435_456 && quota % 16 == 0
+    quota >= UNIT && quota <= WIDEST_WINDOW && quota % UNIT == 0
 }
 
 /// So many zeros.
@@ -266,7 +337,7 @@ fn zeros(alloc: Global, len: u64) -> Result<Vec<u8>, AllocError>
 fn round_up(len: u32) -> u64
     ensures { result ≡ rounded len }
 {
-    (u64::from(len) + 15) / 16 * 16
+    (u64::from(len) + 15) / UNIT * UNIT
 }
 
 /// Puts an extent in its place.
@@ -371,16 +442,6 @@ fn goes(gone: &[Extent], offset: u64) -> bool
     gone.binary_search_by_key(&offset, |e| e.offset).is_ok()
 }
 
-/// The least offset at which `len` bytes are free now.
-fn gap_now(extents: &Vec<Extent>, memory: &Vec<u8>, quota: u64, len: u32) -> Option<u64>
-    requires laid { LaidFrom quota 0 extents.now.items }
-    requires memory { length memory.now.items ≡ quota }
-    requires small { quota < 2 ^ 29 }
-    ensures { result ≡ first (extents_of (placed_in memory.now.items extents.now.items)) quota len }
-{
-    first_gap(extents, &[], memory, quota, len)
-}
-
 /// The least offset at which `len` bytes will be free once these extents are gone.
 fn gap_without(
     extents: &Vec<Extent>,
@@ -424,4 +485,150 @@ fn first_gap(
         at = e.offset + e.length;
     }
     if quota - at >= need { Some(at) } else { None }
+}
+
+/// Makes room for one hole more than there are extents.
+fn reserve(rooms: &mut Vec<Room>, alloc: Global, extents: usize) -> Result<(), AllocError>
+    requires { extents ≤ vec_len rooms.old }
+    ensures ok { OnOk result (extents < vec_len rooms.new) }
+    ensures err { extents ≤ vec_len rooms.new }
+{
+    if extents < rooms.len() {
+        return Ok(());
+    }
+    rooms.push(Room::new(alloc)?)?;
+    Ok(())
+}
+
+/// The same if a quota is to grow.
+fn reserve_to_grow(
+    rooms: &mut Vec<Room>,
+    alloc: Global,
+    extents: usize,
+    from: u64,
+    to: u64,
+) -> Result<(), AllocError>
+    requires { extents ≤ vec_len rooms.old }
+    ensures ok { OnOk result (from < to → extents < vec_len rooms.new) }
+    ensures rooms { extents ≤ vec_len rooms.new }
+    ensures err { OnErr result (from < to) }
+{
+    if to <= from {
+        return Ok(());
+    }
+    reserve(rooms, alloc, extents)
+}
+
+/// Takes `need` bytes off the front of a hole.
+fn cut(holes: &mut Holes, hole: Hole, need: u64)
+    requires there { has_hole hole.offset holes.old ≡ true }
+    requires fits { need ≤ hole.length }
+    requires small { hole.offset + hole.length < 2 ^ 29 }
+    ensures { holes.new ≡ cut_hole hole need holes.old }
+{
+    let Some(room) = holes.take(hole.offset) else {
+        unreachable!()
+    };
+    if need < hole.length {
+        holes.put(
+            room,
+            Hole {
+                offset: hole.offset + need,
+                length: hole.length - need,
+            },
+        );
+    }
+}
+
+/// The free bytes round an offset that no extent has: where they begin and end.
+fn stretch(extents: &[Extent], offset: u64, quota: u64) -> (u64, u64)
+    requires laid { LaidFrom quota 0 extents.now }
+    requires small { quota < 2 ^ 29 }
+    ensures { result ≡ stretch_lem quota 0 offset extents.now }
+{
+    let mut start = 0;
+    for e in extents {
+        if offset <= e.offset {
+            return (start, e.offset);
+        }
+        start = e.offset + e.length;
+    }
+    (start, quota)
+}
+
+/// Makes one hole of the bytes from `start` to `end`: those before `stop` were no hole, or begin one, and
+/// those from `stop` on too.
+fn mend(holes: &mut Holes, room: Room, start: u64, stop: u64, end: u64)
+    requires { (start ≤ end) × (start < 2 ^ 29) }
+    ensures { holes.new ≡ mend_holes start stop end holes.old }
+{
+    holes.take(start);
+    holes.take(stop);
+    holes.put(
+        room,
+        Hole {
+            offset: start,
+            length: end - start,
+        },
+    );
+}
+
+/// The holes that extents leave.
+fn holes_of(alloc: Global, extents: &[Extent], quota: u64) -> Result<Holes, AllocError>
+    requires laid { LaidFrom quota 0 extents.now }
+    requires small { quota < 2 ^ 29 }
+    ensures { IfOk result (λ holes. holes ≡ gaps quota 0 extents.now) }
+{
+    let mut holes = Holes::new();
+    let mut at = 0;
+    for e in extents {
+        append(alloc, &mut holes, at, e.offset)?;
+        at = e.offset + e.length;
+    }
+    append(alloc, &mut holes, at, quota)?;
+    Ok(holes)
+}
+
+/// Puts a hole from an offset to another after the others, if it has bytes.
+fn append(alloc: Global, holes: &mut Holes, at: u64, to: u64) -> Result<(), AllocError>
+    requires { to < 2 ^ 29 }
+    ensures ok { OnOk result (holes.new ≡ put_then at to holes.old) }
+{
+    if at < to {
+        let room = Room::new(alloc)?;
+        holes.put(
+            room,
+            Hole {
+                offset: at,
+                length: to - at,
+            },
+        );
+    }
+    Ok(())
+}
+
+/// Makes the last hole, which begins at `end`, reach to the quota. Takes no memory.
+fn end_at(holes: &mut Holes, rooms: &mut Vec<Room>, extents: usize, end: u64, quota: u64)
+    requires rooms { extents ≤ vec_len rooms.old }
+    requires spare { end < quota → has_hole end holes.old ≡ false → extents < vec_len rooms.old }
+    requires small { quota < 2 ^ 29 }
+    ensures holes { holes.new ≡ put_then end quota (take_hole end holes.old) }
+    ensures rooms { extents ≤ vec_len rooms.new }
+{
+    let taken = holes.take(end);
+    if quota <= end {
+        return;
+    }
+    let hole = Hole {
+        offset: end,
+        length: quota - end,
+    };
+    if let Some(room) = taken {
+        holes.put(room, hole);
+        return;
+    }
+    let Some(room) = rooms.pop() else {
+        unreachable!()
+    };
+    holes.put(room, hole);
 }
