@@ -271,19 +271,19 @@ fn take(tree: &mut Tree, offset: u64, low: u64, high: u64) -> Option<Box<Node>>
 {
     match tree {
         Tree::Leaf => None,
-        Tree::Fork(here) => {
-            let here = &mut **here;
-            if here.hole.offset == offset {
+        Tree::Fork(node) => {
+            let node = &mut **node;
+            if node.hole.offset == offset {
                 return pop(tree);
             }
             let middle = middle(low, high);
             if offset < middle {
-                let room = take(&mut here.left, offset, low + 1, middle);
-                here.left_greatest = top(&here.left);
+                let room = take(&mut node.left, offset, low + 1, middle);
+                node.left_greatest = top(&node.left);
                 room
             } else {
-                let room = take(&mut here.right, offset, middle, high);
-                here.right_greatest = top(&here.right);
+                let room = take(&mut node.right, offset, middle, high);
+                node.right_greatest = top(&node.right);
                 room
             }
         }

@@ -1,5 +1,5 @@
 -- The holes that extents leave, as extents come and go.
-use Rattle.std.proofs.Common.{◌≡◌, ℕ, ◌+◌, ◌-◌, ◌<◌, ◌≤◌, Bool, true, false, cond, ◌||◌, List, [], ◌∷◌, ◌++◌, append_assoc, not, length, Option, Some, refl, sym, ap, subst, ◌∙◌, arith, ⊎_elim, ◌⊎◌, inl, inr}
+use Rattle.std.proofs.Common.{◌≡◌, ℕ, ◌+◌, ◌-◌, ◌<◌, ◌≤◌, Bool, true, false, cond, ◌||◌, List, [], ◌∷◌, not, length, Option, Some, refl, sym, ap, subst, ◌∙◌, arith, ⊎_elim, ◌⊎◌, inl, inr}
 use Rattle.std.specs.Prelude.{nat_le, nat_lt, nat_eq, if◌then◌else◌}
 use Rattle.std.specs.List.{list_any}
 use Rattle.std.specs.Option.{option_map}
@@ -8,9 +8,9 @@ use Rattle.std.proofs.lemmas.Bool.Decides.{nat_tests}
 use Rattle.obj_id.specs.declared.works.Extent.{Extent}
 use Rattle.hole_tree.specs.declared.Hole.{Hole}
 use Rattle.hole_tree.specs.Holes.{AllHoles, put_hole, take_hole, has_hole, first_fitting}
-use Rattle.job_region.specs.Gaps.{gap_then, put_then, gaps, cut_hole, mend_holes, stretch}
-use Rattle.job_region.specs.Layout.{LaidFrom, kept, put_extent}
-use Rattle.job_region.proofs.Gap.{gap, laid_within}
+use Rattle.job_region.specs.Gaps.{gap_then, gaps, cut_hole, mend_holes, stretch}
+use Rattle.job_region.specs.Layout.{LaidFrom, kept, put_extent, gap}
+use Rattle.job_region.proofs.Gap.{laid_within}
 
 put_least : (x : Hole) (xs : List Hole) → AllHoles (λ y. x.offset < y.offset) xs → put_hole x xs ≡ x ∷ xs
 put_least x [] h = refl
@@ -218,32 +218,6 @@ mend_then start stop end at to hs a b = elim (nat_lt at to) as (λ t. (if t then
       sym (ap (λ (xs : List Hole). put_hole h (take_hole stop xs)) (take_past start y hs a) ∙ ap (put_hole h) (take_past stop y (take_hole start hs) b) ∙ put_past h y (take_hole stop (take_hole start hs)) a)
   | false ↦ refl
 ]
-
--- holes that are found from the left, each put after the others
-put_last : (x : Hole) (xs : List Hole) → AllHoles (λ y. y.offset < x.offset) xs → put_hole x xs ≡ xs ++ (x ∷ [])
-put_last x [] h = refl
-put_last x (y ∷ ys) h = put_past x y ys h.0 ∙ ap (λ (zs : List Hole). y ∷ zs) (put_last x ys h.1)
-
-all_last : (P : Hole → Type 0) (xs : List Hole) (x : Hole) → AllHoles P xs → P x → AllHoles P (xs ++ (x ∷ []))
-all_last P [] x a p = (p, tt)
-all_last P (y ∷ ys) x a p = (a.0, all_last P ys x a.1 p)
-
--- all lie before an offset
-abbrev pub Before : ℕ → List Hole → Type 0
-Before at hs = AllHoles (λ y. y.offset < at) hs
-
-pub then_last : (at to next : ℕ) (hs rest : List Hole) → at ≤ to → to < next → Before at hs → (put_then at to hs ++ rest ≡ hs ++ gap_then at to rest) × Before next (put_then at to hs)
-then_last at to next hs rest le lt before =
-    let far = all_map (λ y. y.offset < at) (λ y. y.offset < next) (λ y p. omega (arith, p, le, lt)) hs before in
-    let x : Hole = record { offset = at; length = to - at } in
-    elim (nat_lt at to) as (λ b. ((if b then put_hole x hs else hs) ++ rest ≡ hs ++ (if b then x ∷ rest else rest)) × Before next (if b then put_hole x hs else hs)) [
-      | true ↦
-          let last = put_last x hs before in (
-            ap (λ (xs : List Hole). xs ++ rest) last ∙ append_assoc hs (x ∷ []) rest,
-            subst (Before next) (sym last) (all_last (λ y. y.offset < next) hs x far (omega (arith, le, lt))),
-          )
-      | false ↦ (refl, far)
-    ]
 
 pub length_kept : (gone es : List Extent) → length (kept gone es) ≤ length es
 length_kept gone [] = omega arith
