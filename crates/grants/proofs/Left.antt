@@ -180,3 +180,35 @@ module _ (test : Hand → Bool) where
 
   pub none_left : (hands : List Hand) → filter test (hands_left test hands) ≡ []
   none_left hands = none_from (ended_from test [] hands) [] hands refl
+
+-- ---- no hand ends
+
+module _ (test : Hand → Bool) where
+  pub none_end : (hs : List Hand) → list_any test hs ≡ false → ended_from test [] hs ≡ []
+  none_end [] none = refl
+  none_end (x ∷ xs) none = (elim (test x) as (λ b. b || list_any test xs ≡ false → ended_from test (if b || false then x ∷ [] else []) xs ≡ []) [
+    | true ↦ λ e. absurd (true_false (sym e))
+    | false ↦ λ e. none_end xs e
+  ]) none
+
+  pub none_pass : (hs : List Hand) → list_any test hs ≡ false → filter test hs ≡ []
+  none_pass [] none = refl
+  none_pass (x ∷ xs) none = (elim (test x) as (λ b. b || list_any test xs ≡ false → cond b (x ∷ filter test xs) (filter test xs) ≡ []) [
+    | true ↦ λ e. absurd (true_false (sym e))
+    | false ↦ λ e. none_pass xs e
+  ]) none
+
+  -- what passes is some
+  pub some_pass : (hs : List Hand) → list_any test hs ≡ true → filter test hs ≡ [] → ⊥
+  some_pass [] some none = absurd cc
+  some_pass (x ∷ xs) some none = (elim (test x) as (λ b. b || list_any test xs ≡ true → cond b (x ∷ filter test xs) (filter test xs) ≡ [] → ⊥) [
+    | true ↦ λ e n. absurd cc
+    | false ↦ λ e n. some_pass xs e n
+  ]) some none
+
+  pub all_left : (hs : List Hand) → list_any test hs ≡ false → hands_left test hs ≡ hs
+  all_left hs none = ap (λ (gone : List Hand). filter (λ hand. not (list_any (same_hand hand) gone)) hs) (none_end hs none) ∙ all_kept hs
+    where
+      all_kept : (hs : List Hand) → filter (λ (hand : Hand). not (list_any (same_hand hand) [])) hs ≡ hs
+      all_kept [] = refl
+      all_kept (x ∷ xs) = ap (λ r. x ∷ r) (all_kept xs)

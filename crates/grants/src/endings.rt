@@ -53,6 +53,13 @@ fn is_among(hand: &Hand, gone: &Vec<Hand>) -> bool
     gone.iter().any(|other| hand.is_same(other))
 }
 
+/// Whether any hand ends by itself.
+pub(crate) fn any_ends(hands: &Vec<Hand>, ending: &Ending) -> bool
+    ensures { result ≡ list_any (ends_lem ending.now) hands.now.items }
+{
+    hands.iter().any(|hand| ending.ends(hand))
+}
+
 /// The hands that end, with all that hang on them, oldest first. A hand is younger than the one that it
 /// hangs on, so one walk finds them.
 pub(crate) fn ended(

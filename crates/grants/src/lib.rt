@@ -22,15 +22,10 @@ mod hands;
 
 use endings::Ending;
 pub use hands::Hand;
+use obj_id::limits::{GREATEST_DEPTH, MOST_HANDS};
 use obj_id::{Items, JobNo, ObjectId, Refusal, TaskNo};
 use std::alloc::{AllocError, Global};
 use std::marker::Model;
-
-/// How many hands of one giver may stand.
-const MOST_HANDS: usize = 64;
-
-/// How often an object may be handed on.
-const GREATEST_DEPTH: u32 = 3;
 
 /// The standing hands of a node.
 #[derive(Drop)]
@@ -119,33 +114,37 @@ impl Grants {
         }
     }
 
-    /// Ends all hands of the object, in the same order. A failure changes nothing.
+    /// Ends all hands of the object, in the same order. A failure changes nothing, and there is none if no
+    /// hand of it stands.
     pub fn drop_object(&mut self, id: ObjectId) -> Result<Items<Hand>, AllocError>
         ensures told { IfOk result (λ told. told ≡ hands_ended (λ hand. same_id id hand.id) self.old) }
         ensures ok { OnOk result (self.new ≡ hands_left (λ hand. same_id id hand.id) self.old) }
         ensures gone { OnOk result (filter (λ hand. same_id id hand.id) self.new ≡ []) }
+        ensures succeeds { filter (λ hand. same_id id hand.id) self.old ≡ [] → IsOk result }
         ensures err { OnErr result (self.new ≡ self.old) }
     {
         self.end(Ending::OfObject(id))
     }
 
     /// Ends what the job gave of its own objects that the task made, and what hangs on it. A failure
-    /// changes nothing.
+    /// changes nothing, and there is none if the job gave none of them.
     pub fn drop_task(&mut self, job: JobNo, task: TaskNo) -> Result<Items<Hand>, AllocError>
         ensures told { IfOk result (λ told. told ≡ hands_ended (is_of_task job.0 task) self.old) }
         ensures ok { OnOk result (self.new ≡ hands_left (is_of_task job.0 task) self.old) }
         ensures gone { OnOk result (filter (is_of_task job.0 task) self.new ≡ []) }
+        ensures succeeds { filter (is_of_task job.0 task) self.old ≡ [] → IsOk result }
         ensures err { OnErr result (self.new ≡ self.old) }
     {
         self.end(Ending::OfTask(job, task))
     }
 
     /// Ends all that the job gave, of own objects and others', and what hangs on it. What was given to
-    /// the job stays. A failure changes nothing.
+    /// the job stays. A failure changes nothing, and there is none if the job gave nothing.
     pub fn drop_job(&mut self, job: JobNo) -> Result<Items<Hand>, AllocError>
         ensures told { IfOk result (λ told. told ≡ hands_ended (is_given_by job.0) self.old) }
         ensures ok { OnOk result (self.new ≡ hands_left (is_given_by job.0) self.old) }
         ensures gone { OnOk result (given_by job.0 self.new ≡ []) }
+        ensures succeeds { given_by job.0 self.old ≡ [] → IsOk result }
         ensures err { OnErr result (self.new ≡ self.old) }
     {
         self.end(Ending::GivenBy(job))
@@ -233,13 +232,17 @@ impl Grants {
         Ok(())
     }
 
-    /// Ends hands, with all that hang on them. All growth comes first.
+    /// Ends hands, with all that hang on them. All growth comes first, and if none ends there is none.
     fn end(&mut self, ending: Ending) -> Result<Items<Hand>, AllocError>
         ensures told { IfOk result (λ told. told ≡ hands_ended (ends ending) self.old) }
         ensures ok { OnOk result (self.new ≡ hands_left (ends ending) self.old) }
         ensures gone { OnOk result (filter (ends ending) self.new ≡ []) }
+        ensures succeeds { filter (ends ending) self.old ≡ [] → IsOk result }
         ensures err { OnErr result (self.new ≡ self.old) }
     {
+        if !endings::any_ends(&self.hands, &ending) {
+            return Ok(Items::new(self.alloc));
+        }
         let gone = endings::ended(self.alloc, &self.hands, &ending)?;
         let told = endings::sorted(self.alloc, &gone)?;
         endings::take_out(&mut self.hands, &gone);

@@ -1,5 +1,5 @@
 //! A job's window: one memory, and the extents that are placed in it. A contract sees a window as its
-//! quota and its extents by rising offset, each with its bytes; the memory behind is hidden.
+//! quota and its extents by rising offset, each with its bytes; the memory and the holes are hidden.
 #![tactic(auto)]
 
 ghost use Rattle.std.specs.Prelude.{◌≡◌, ◌≢◌, ◌↔◌, ℕ, ◌+◌, ◌-◌, ◌*◌, ◌/◌, ◌%◌, ◌^◌, ◌<◌, ◌≤◌, ◌++◌, List, [], ◌∷◌, Some, None, true, false, not, nat_eq, IfOk, OnOk, OnErr, IfSome, IsSome, IsErrOf, IsOk, IsTrue, length, take, drop, filter, replicate};
@@ -13,22 +13,29 @@ ghost use Rattle.private_store.specs.Limits.{is_window as is_window_lem};
 ghost use Rattle.private_store.specs.Extents.{rounded, is_size, first};
 ghost use Rattle.private_store.specs.Contents.{overwritten};
 ghost use Rattle.job_region.specs.Region.{extents_of, place_for, place_check, put_in, without, IsAt, bytes_at, resize_check as resize_check_lem};
-ghost use Rattle.job_region.specs.Layout.{placed_in, LaidFrom, kept, put_extent, without_extent, last_end};
+ghost use Rattle.std.specs.Prelude.{vec_len, vec_capacity, find, slice_index_or};
+ghost use Rattle.hole_tree.specs.Holes.{has_hole, take_hole};
+ghost use Rattle.job_region.specs.Layout.{placed_in, LaidFrom, Before, After, gap, gap_among, kept, put_extent, without_extent, last_end, first_start};
+ghost use Rattle.job_region.specs.Gaps.{gaps, put_then, cut_hole, mend_holes, stretch as stretch_lem};
 
+use hole_tree::{Hole, Holes, Room};
+use obj_id::limits::{LONGEST_OBJECT, UNIT, WIDEST_WINDOW};
 use obj_id::{Extent, Refusal};
 use std::alloc::{AllocError, Global};
 use std::marker::Model;
-
-/// The bytes of the longest object.
-const LONGEST_OBJECT: u32 = 16_777_216;
 
 /// A job's window of so many bytes, and its extents.
 #[derive(Drop)]
 pub struct Window {
     quota: u64,
-    // by rising offset
+    // By rising offset.
     extents: Vec<Extent>,
     memory: Vec<u8>,
+    // What the extents leave free.
+    holes: Holes,
+    // Room for the hole that giving an extent back may make: one for each extent, so that it takes no memory.
+    rooms: Vec<Room>,
+    alloc: Global,
 }
 
 impl Model for Window {
@@ -37,10 +44,11 @@ impl Model for Window {
     ghost Value = { Region };
 
     ghost use Rattle.job_region.specs.Layout.{placed_in, IsLaid};
+    ghost use Rattle.std.specs.Prelude.{vec_len};
 
     ghost view = { λ w. record { quota = w.quota; placed = placed_in w.memory.items w.extents.items } };
 
-    ghost invariant = { λ w. IsLaid w.quota w.memory.items w.extents.items };
+    ghost invariant = { λ w. IsLaid w.quota w.memory.items w.extents.items w.holes (vec_len w.rooms) };
 }
 
 impl Window {
@@ -55,10 +63,21 @@ impl Window {
             return Err(Refusal::BadSize);
         }
         let memory = zeros(alloc, quota)?;
+        let mut holes = Holes::new();
+        holes.put(
+            Room::new(alloc)?,
+            Hole {
+                offset: 0,
+                length: quota,
+            },
+        );
         Ok(Window {
             quota,
             extents: Vec::new(alloc),
             memory,
+            holes,
+            rooms: Vec::new(alloc),
+            alloc,
         })
     }
 
@@ -70,10 +89,10 @@ impl Window {
     }
 
     /// Places an extent of zeros for an object of `len` bytes, at the least multiple of 16 at which they
-    /// lie within the window and meet no extent. Takes a scan of the extents.
+    /// lie within the window and meet no extent. Finds it in a descent of the tree of holes.
     ///
-    /// `BadSize` where no object of that length may be in the window, `Full` where no place is free,
-    /// `NoMemory` last. A refusal changes nothing.
+    /// `BadSize` if no object of that length may be in the window, `Full` if no place is free, `NoMemory`
+    /// last. A refusal changes nothing.
     pub fn place(&mut self, len: u32) -> Result<Extent, Refusal>
         ensures least { IfOk result (λ e. place_for self.old len ≡ Some e.offset) }
         ensures length { IfOk result (λ e. e.length ≡ rounded len) }
@@ -90,15 +109,17 @@ impl Window {
         if len == 0 || len > LONGEST_OBJECT || need > self.quota {
             return Err(Refusal::BadSize);
         }
-        let Some(offset) = gap_now(&self.extents, &self.memory, self.quota, len) else {
+        let Some(hole) = self.holes.first_fit(need).0 else {
             return Err(Refusal::Full);
         };
+        reserve(&mut self.rooms, self.alloc, self.extents.len())?;
         let extent = Extent {
-            offset,
+            offset: hole.offset,
             length: need,
         };
         put(&mut self.extents, extent)?;
-        clear_bytes(&mut self.memory, offset, need);
+        cut(&mut self.holes, hole, need);
+        clear_bytes(&mut self.memory, hole.offset, need);
         Ok(extent)
     }
 
@@ -118,15 +139,31 @@ impl Window {
         if len == 0 || len > LONGEST_OBJECT || need > self.quota {
             return Some(Refusal::BadSize);
         }
-        match gap_now(&self.extents, &self.memory, self.quota, len) {
+        match self.search(len).0 {
             Some(_) => None,
             None => Some(Refusal::Full),
         }
     }
 
+    /// Where an object of `len` bytes would go, and how many nodes of the tree of holes were visited: 30 at
+    /// most, however many extents there are.
+    pub fn search(&self, len: u32) -> (Option<u64>, u32)
+        ensures offset { result.0 ≡ place_for self.now len }
+        ensures visits { result.1 ≤ 30 }
+    {
+        if len == 0 {
+            return (Some(0), 0);
+        }
+        let (found, visits) = self.holes.first_fit(round_up(len));
+        match found {
+            None => (None, visits),
+            Some(hole) => (Some(hole.offset), visits),
+        }
+    }
+
     /// Takes back these extents, which are given by rising offset, and places an extent of zeros for an
-    /// object of `len` bytes where it then fits first; the other extents stay. Takes a scan of the
-    /// extents, and a list of them.
+    /// object of `len` bytes where it then fits first; the other extents stay. Takes a bisection and two
+    /// changes of the tree for each extent that goes, and no scan of those that stay.
     ///
     /// `BadSize` and `Full` as `place` would answer then, `NoMemory` last. A refusal changes nothing: the
     /// extents are not taken back.
@@ -136,6 +173,8 @@ impl Window {
         ensures length { IfOk result (λ e. e.length ≡ rounded len) }
         ensures placed { IfOk result (λ e. self.new ≡ record self.old { placed = put_in (e.offset, replicate e.length 0) (without gone.now self.old.placed) }) }
         ensures refused { (r : Refusal) → r ≢ NoMemory → IsErrOf result r → place_check (record self.old { placed = without gone.now self.old.placed }) len ≡ Some r }
+        ensures passed { IsOk result → place_check (record self.old { placed = without gone.now self.old.placed }) len ≡ None }
+        ensures memory { IsErrOf result NoMemory → place_check (record self.old { placed = without gone.now self.old.placed }) len ≡ None }
         ensures err { OnErr result (self.new ≡ self.old) }
         ensures fresh { IfOk result (λ e. lookup (nat_eq e.offset) (without gone.now self.old.placed) ≡ None) }
         ensures small { IfOk result (λ e. e.offset + e.length < 2 ^ 32) }
@@ -144,15 +183,29 @@ impl Window {
         if len == 0 || len > LONGEST_OBJECT || need > self.quota {
             return Err(Refusal::BadSize);
         }
-        let Some(offset) = gap_without(&self.extents, gone, &self.memory, self.quota, len) else {
+        if self.fits_without(gone, len).is_none() {
             return Err(Refusal::Full);
+        }
+        reserve(&mut self.rooms, alloc, self.extents.len())?;
+        self.extents.reserve(1)?;
+        free_all(
+            &mut self.extents,
+            &mut self.holes,
+            &mut self.rooms,
+            gone,
+            self.quota,
+        );
+        let Some(hole) = self.holes.first_fit(need).0 else {
+            unreachable!()
         };
-        let mut left = kept_of(alloc, &self.extents, gone)?;
-        let length = need;
-        put(&mut left, Extent { offset, length })?;
-        self.extents = left;
-        clear_bytes(&mut self.memory, offset, length);
-        Ok(Extent { offset, length })
+        let extent = Extent {
+            offset: hole.offset,
+            length: need,
+        };
+        put(&mut self.extents, extent).unwrap();
+        cut(&mut self.holes, hole, need);
+        clear_bytes(&mut self.memory, hole.offset, need);
+        Ok(extent)
     }
 
     /// Takes back an extent of this window. Takes no memory.
@@ -160,7 +213,13 @@ impl Window {
         requires { IsAt extent self.old.placed }
         ensures { self.new ≡ record self.old { placed = remove_entry (nat_eq extent.offset) self.old.placed } }
     {
-        take_out(&mut self.extents, extent.offset);
+        free_at(
+            &mut self.extents,
+            &mut self.holes,
+            &mut self.rooms,
+            extent.offset,
+            self.quota,
+        );
     }
 
     /// The bytes of an extent of this window, lent without a copy.
@@ -173,7 +232,7 @@ impl Window {
     }
 
     /// Writes bytes into an extent of this window, from an offset in it on; the other extents stay.
-    /// `OutOfBounds` where they pass its end, and then nothing is written.
+    /// `OutOfBounds` if they pass its end, and then nothing is written.
     pub fn write(&mut self, extent: &Extent, off: u32, bytes: &[u8]) -> Result<(), Refusal>
         requires { IsAt extent.now self.old.placed }
         ensures ok { OnOk result (self.new ≡ record self.old { placed = set_value (nat_eq extent.now.offset) self.old.placed (overwritten (bytes_at extent.now self.old.placed) off bytes.now) }) }
@@ -194,26 +253,44 @@ impl Window {
     }
 
     /// Where an object of `len` bytes would go if these extents went, which are given by rising offset.
-    /// Takes one scan of the window's extents, each looked up among those that go, and no memory.
+    /// Takes one descent of the tree and a bisection for each extent that goes, and no memory.
     pub fn fits_without(&self, gone: &[Extent], len: u32) -> Option<u64>
         requires { IsNonDecreasingBy (λ (e : Extent). e.offset) gone.now }
         ensures { result ≡ first (extents_of (without gone.now self.now.placed)) self.now.quota len }
     {
-        first_gap(&self.extents, gone, &self.memory, self.quota, len)
+        if len == 0 {
+            return Some(0);
+        }
+        let found = self.search(len).0;
+        least_without(&self.extents, found, gone, round_up(len), self.quota)
     }
 
     /// Gives back all extents. Takes no memory.
     pub fn clear(&mut self)
         ensures { self.new ≡ record self.old { placed = [] } }
     {
+        if self.extents.is_empty() {
+            return;
+        }
+        let Some(room) = self.rooms.pop() else {
+            unreachable!()
+        };
         self.extents.clear();
+        self.holes.clear();
+        self.holes.put(
+            room,
+            Hole {
+                offset: 0,
+                length: self.quota,
+            },
+        );
     }
 
     /// Gives the window `quota` bytes; the extents keep their places and their bytes. Shrinking takes no
     /// memory.
     ///
-    /// `BadSize` unless that is a window's size, `Full` where an extent would reach past its end,
-    /// `NoMemory` last. A refusal changes nothing.
+    /// `BadSize` unless that is a window's size, `Full` if an extent would reach past its end, `NoMemory`
+    /// last. A refusal changes nothing.
     pub fn resize(&mut self, quota: u64) -> Result<(), Refusal>
         ensures ok { OnOk result (self.new ≡ record self.old { quota = quota }) }
         ensures passed { IsOk result → resize_check_lem self.old quota ≡ None }
@@ -224,9 +301,13 @@ impl Window {
         if let Some(refusal) = self.resize_check(quota) {
             return Err(refusal);
         }
+        let extents = self.extents.len();
+        reserve_to_grow(&mut self.rooms, self.alloc, extents, self.quota, quota)?;
         match resize_bytes(&mut self.memory, quota) {
             Err(_) => Err(Refusal::NoMemory),
             Ok(()) => {
+                let end = end_of_last(0, &self.extents);
+                end_at(&mut self.holes, &mut self.rooms, extents, end, quota);
                 self.quota = quota;
                 Ok(())
             }
@@ -240,7 +321,7 @@ impl Window {
         if !is_window(quota) {
             return Some(Refusal::BadSize);
         }
-        if end_of_last(&self.extents) > quota {
+        if end_of_last(0, &self.extents) > quota {
             Some(Refusal::Full)
         } else {
             None
@@ -252,7 +333,7 @@ impl Window {
 fn is_window(quota: u64) -> bool
     ensures { result ≡ is_window_lem quota }
 {
-    quota >= 16 && quota <= 268_435_456 && quota % 16 == 0
+    quota >= UNIT && quota <= WIDEST_WINDOW && quota % UNIT == 0
 }
 
 /// So many zeros.
@@ -266,58 +347,74 @@ fn zeros(alloc: Global, len: u64) -> Result<Vec<u8>, AllocError>
 fn round_up(len: u32) -> u64
     ensures { result ≡ rounded len }
 {
-    (u64::from(len) + 15) / 16 * 16
+    (u64::from(len) + 15) / UNIT * UNIT
+}
+
+/// How many extents begin before an offset.
+fn place_of(extents: &[Extent], offset: u64) -> usize
+    requires { IsNonDecreasingBy (λ (e : Extent). e.offset) extents.now }
+    ensures within { result ≤ length extents.now }
+    ensures before { Before offset extents.now result }
+    ensures after { After offset extents.now result }
+{
+    extents.partition_point(|e| e.offset < offset)
+}
+
+/// Whether the extent at a place begins at an offset.
+fn is_at(extents: &[Extent], place: usize, offset: u64) -> bool
+    ensures yes { result ≡ true → (place < length extents.now) × ((d : Extent) → (slice_index_or extents.now place d).offset ≡ offset) }
+    ensures no { result ≡ false → place < length extents.now → (d : Extent) → (slice_index_or extents.now place d).offset ≢ offset }
+{
+    match extents.get(place) {
+        Some(extent) => extent.offset == offset,
+        None => false,
+    }
 }
 
 /// Puts an extent in its place.
 fn put(extents: &mut Vec<Extent>, extent: Extent) -> Result<(), AllocError>
+    requires { IsNonDecreasingBy (λ (e : Extent). e.offset) extents.old.items }
     ensures ok { OnOk result (extents.new.items ≡ put_extent extent extents.old.items) }
     ensures err { OnErr result (extents.new.items ≡ extents.old.items) }
+    ensures succeeds { length extents.old.items < vec_capacity extents.old → IsOk result }
 {
-    let mut at = 0;
-    while at < extents.len() && extents[at].offset < extent.offset {
-        at += 1;
-    }
+    let at = place_of(extents, extent.offset);
     extents.insert(at, extent)?;
     Ok(())
 }
 
-/// The extents that stay where these go.
-fn kept_of(alloc: Global, extents: &Vec<Extent>, gone: &[Extent]) -> Result<Vec<Extent>, AllocError>
-    requires { IsNonDecreasingBy (λ (e : Extent). e.offset) gone.now }
-    ensures { IfOk result (λ v. v.items ≡ kept gone.now extents.now.items) }
+/// Takes out the extent at an offset, if there is one.
+fn take_out(extents: &mut Vec<Extent>, offset: u64) -> Option<Extent>
+    requires { IsNonDecreasingBy (λ (e : Extent). e.offset) extents.old.items }
+    ensures left { extents.new.items ≡ without_extent offset extents.old.items }
+    ensures taken { result ≡ find (λ e. nat_eq offset e.offset) extents.old.items }
+    ensures capacity { vec_capacity extents.new ≡ vec_capacity extents.old }
 {
-    let mut left = Vec::new(alloc);
-    for e in extents {
-        if !goes(gone, e.offset) {
-            left.push(*e)?;
-        }
+    let at = place_of(extents, offset);
+    if !is_at(extents, at, offset) {
+        return None;
     }
-    Ok(left)
+    Some(extents.remove(at))
 }
 
-/// Takes out the extent at an offset.
-fn take_out(extents: &mut Vec<Extent>, offset: u64)
-    ensures { extents.new.items ≡ without_extent offset extents.old.items }
-{
-    let mut at = 0;
-    while at < extents.len() {
-        if extents[at].offset == offset {
-            extents.remove(at);
-            return;
-        }
-        at += 1;
-    }
-}
-
-/// Where the last extent ends.
-fn end_of_last(extents: &Vec<Extent>) -> u64
-    requires { last_end 0 extents.now.items < 2 ^ 64 }
-    ensures { result ≡ last_end 0 extents.now.items }
+/// Where the last of these extents ends, or `at` if there is none.
+fn end_of_last(at: u64, extents: &[Extent]) -> u64
+    requires { last_end at extents.now < 2 ^ 64 }
+    ensures { result ≡ last_end at extents.now }
 {
     match extents.last() {
         Some(last) => last.offset + last.length,
-        None => 0,
+        None => at,
+    }
+}
+
+/// Where the first of these extents begins, or the quota if there is none.
+fn start_of_first(extents: &[Extent], quota: u64) -> u64
+    ensures { result ≡ first_start quota extents.now }
+{
+    match extents.first() {
+        Some(first) => first.offset,
+        None => quota,
     }
 }
 
@@ -363,65 +460,206 @@ fn resize_bytes(memory: &mut Vec<u8>, len: u64) -> Result<(), AllocError>
     Ok(())
 }
 
-/// Whether an extent is among those that go.
-fn goes(gone: &[Extent], offset: u64) -> bool
-    requires { IsNonDecreasingBy (λ (e : Extent). e.offset) gone.now }
-    ensures { result ≡ list_any (λ g. nat_eq g.offset offset) gone.now }
-{
-    gone.binary_search_by_key(&offset, |e| e.offset).is_ok()
-}
-
-/// The least offset at which `len` bytes are free now.
-fn gap_now(extents: &Vec<Extent>, memory: &Vec<u8>, quota: u64, len: u32) -> Option<u64>
-    requires laid { LaidFrom quota 0 extents.now.items }
-    requires memory { length memory.now.items ≡ quota }
-    requires small { quota < 2 ^ 29 }
-    ensures { result ≡ first (extents_of (placed_in memory.now.items extents.now.items)) quota len }
-{
-    first_gap(extents, &[], memory, quota, len)
-}
-
-/// The least offset at which `len` bytes will be free once these extents are gone.
-fn gap_without(
-    extents: &Vec<Extent>,
-    gone: &[Extent],
-    memory: &Vec<u8>,
-    quota: u64,
-    len: u32,
-) -> Option<u64>
-    requires laid { LaidFrom quota 0 extents.now.items }
-    requires memory { length memory.now.items ≡ quota }
-    requires small { quota < 2 ^ 29 }
-    requires rising { IsNonDecreasingBy (λ (e : Extent). e.offset) gone.now }
-    ensures { result ≡ first (extents_of (without gone.now (placed_in memory.now.items extents.now.items))) quota len }
-{
-    first_gap(extents, gone, memory, quota, len)
-}
-
-/// The least offset at which `len` bytes are free, without the extents that go.
-fn first_gap(
+/// Where so many bytes go once these extents are gone, if they go to `found` before. Only what the extents
+/// that go join is looked at.
+fn least_without(
     extents: &[Extent],
+    found: Option<u64>,
     gone: &[Extent],
-    memory: &[u8],
+    need: u64,
     quota: u64,
-    len: u32,
 ) -> Option<u64>
     requires laid { LaidFrom quota 0 extents.now }
-    requires memory { length memory.now ≡ quota }
     requires small { quota < 2 ^ 29 }
     requires rising { IsNonDecreasingBy (λ (e : Extent). e.offset) gone.now }
-    ensures { result ≡ first (extents_of (without gone.now (placed_in memory.now extents.now))) quota len }
+    requires found { found ≡ gap quota need 0 extents.now }
+    ensures { result ≡ gap quota need 0 (kept gone.now extents.now) }
 {
-    let need = round_up(len);
-    let mut at = 0;
-    for e in extents {
-        if goes(gone, e.offset) {
+    let mut least = found;
+    // Where the free bytes begin that end at the next extent that stays.
+    let mut start = 0;
+    let mut next = 0;
+    for e in gone {
+        let rest = &extents[next..];
+        let passed = place_of(rest, e.offset);
+        if !is_at(rest, passed, e.offset) {
             continue;
         }
-        if e.offset - at >= need {
-            return Some(at);
-        }
-        at = e.offset + e.length;
+        start = end_of_last(start, &rest[..passed]);
+        next = next + passed + 1;
+        let end = start_of_first(&extents[next..], quota);
+        least = with_gap(least, start, end, need);
     }
-    if quota - at >= need { Some(at) } else { None }
+    least
+}
+
+/// The lesser of the least place so far and `start`, if so many bytes fit from there to `end`.
+fn with_gap(least: Option<u64>, start: u64, end: u64, need: u64) -> Option<u64>
+    requires { start ≤ end }
+    ensures { result ≡ gap_among least start end need }
+{
+    if end - start < need {
+        return least;
+    }
+    match least {
+        Some(offset) => Some(offset.min(start)),
+        None => Some(start),
+    }
+}
+
+/// Makes room for one hole more than there are extents.
+fn reserve(rooms: &mut Vec<Room>, alloc: Global, extents: usize) -> Result<(), AllocError>
+    requires { extents ≤ vec_len rooms.old }
+    ensures ok { OnOk result (extents < vec_len rooms.new) }
+    ensures err { extents ≤ vec_len rooms.new }
+{
+    if extents < rooms.len() {
+        return Ok(());
+    }
+    rooms.push(Room::new(alloc)?)?;
+    Ok(())
+}
+
+/// The same if a quota is to grow.
+fn reserve_to_grow(
+    rooms: &mut Vec<Room>,
+    alloc: Global,
+    extents: usize,
+    from: u64,
+    to: u64,
+) -> Result<(), AllocError>
+    requires { extents ≤ vec_len rooms.old }
+    ensures ok { OnOk result (from < to → extents < vec_len rooms.new) }
+    ensures rooms { extents ≤ vec_len rooms.new }
+    ensures err { OnErr result (from < to) }
+{
+    if to <= from {
+        return Ok(());
+    }
+    reserve(rooms, alloc, extents)
+}
+
+/// Takes `need` bytes off the front of a hole.
+fn cut(holes: &mut Holes, hole: Hole, need: u64)
+    requires there { has_hole hole.offset holes.old ≡ true }
+    requires fits { need ≤ hole.length }
+    requires small { hole.offset + hole.length < 2 ^ 29 }
+    ensures { holes.new ≡ cut_hole hole need holes.old }
+{
+    let Some(room) = holes.take(hole.offset) else {
+        unreachable!()
+    };
+    if need < hole.length {
+        holes.put(
+            room,
+            Hole {
+                offset: hole.offset + need,
+                length: hole.length - need,
+            },
+        );
+    }
+}
+
+/// The free bytes round an offset that no extent has: where they begin and end.
+fn stretch(extents: &[Extent], offset: u64, quota: u64) -> (u64, u64)
+    requires laid { LaidFrom quota 0 extents.now }
+    requires small { quota < 2 ^ 29 }
+    ensures { result ≡ stretch_lem quota 0 offset extents.now }
+{
+    let place = place_of(extents, offset);
+    let start = end_of_last(0, &extents[..place]);
+    (start, start_of_first(&extents[place..], quota))
+}
+
+/// Takes back the extent at an offset, if there is one: its bytes and the holes on its sides become one
+/// hole. Takes no memory.
+fn free_at(
+    extents: &mut Vec<Extent>,
+    holes: &mut Holes,
+    rooms: &mut Vec<Room>,
+    offset: u64,
+    quota: u64,
+)
+    requires laid { LaidFrom quota 0 extents.old.items }
+    requires small { quota < 2 ^ 29 }
+    requires free { holes.old ≡ gaps quota 0 extents.old.items }
+    requires spare { length extents.old.items ≤ vec_len rooms.old }
+    ensures left { extents.new.items ≡ without_extent offset extents.old.items }
+    ensures free { holes.new ≡ gaps quota 0 extents.new.items }
+    ensures spare { vec_len rooms.new + length extents.old.items ≡ vec_len rooms.old + length extents.new.items }
+    ensures capacity { vec_capacity extents.new ≡ vec_capacity extents.old }
+{
+    let Some(extent) = take_out(extents, offset) else {
+        return;
+    };
+    let (start, end) = stretch(extents, offset, quota);
+    let Some(room) = rooms.pop() else {
+        unreachable!()
+    };
+    mend(holes, room, start, offset + extent.length, end);
+}
+
+/// Takes back these extents, as far as they are there. Takes no memory.
+fn free_all(
+    extents: &mut Vec<Extent>,
+    holes: &mut Holes,
+    rooms: &mut Vec<Room>,
+    gone: &[Extent],
+    quota: u64,
+)
+    requires laid { LaidFrom quota 0 extents.old.items }
+    requires small { quota < 2 ^ 29 }
+    requires free { holes.old ≡ gaps quota 0 extents.old.items }
+    requires spare { length extents.old.items ≤ vec_len rooms.old }
+    ensures left { extents.new.items ≡ kept gone.now extents.old.items }
+    ensures free { holes.new ≡ gaps quota 0 extents.new.items }
+    ensures spare { vec_len rooms.new + length extents.old.items ≡ vec_len rooms.old + length extents.new.items }
+    ensures capacity { vec_capacity extents.new ≡ vec_capacity extents.old }
+{
+    for e in gone {
+        free_at(extents, holes, rooms, e.offset, quota);
+    }
+}
+
+/// Makes one hole of the bytes from `start` to `end`: those before `stop` were no hole, or begin one, and
+/// those from `stop` on too.
+fn mend(holes: &mut Holes, room: Room, start: u64, stop: u64, end: u64)
+    requires { (start ≤ end) × (start < 2 ^ 29) }
+    ensures { holes.new ≡ mend_holes start stop end holes.old }
+{
+    holes.take(start);
+    holes.take(stop);
+    holes.put(
+        room,
+        Hole {
+            offset: start,
+            length: end - start,
+        },
+    );
+}
+
+/// Makes the last hole, which begins at `end`, reach to the quota. Takes no memory.
+fn end_at(holes: &mut Holes, rooms: &mut Vec<Room>, extents: usize, end: u64, quota: u64)
+    requires rooms { extents ≤ vec_len rooms.old }
+    requires spare { end < quota → has_hole end holes.old ≡ false → extents < vec_len rooms.old }
+    requires small { quota < 2 ^ 29 }
+    ensures holes { holes.new ≡ put_then end quota (take_hole end holes.old) }
+    ensures rooms { extents ≤ vec_len rooms.new }
+{
+    let taken = holes.take(end);
+    if quota <= end {
+        return;
+    }
+    let hole = Hole {
+        offset: end,
+        length: quota - end,
+    };
+    if let Some(room) = taken {
+        holes.put(room, hole);
+        return;
+    }
+    let Some(room) = rooms.pop() else {
+        unreachable!()
+    };
+    holes.put(room, hole);
 }

@@ -1,5 +1,5 @@
 -- A message applied to its job's row.
-use Rattle.std.proofs.Common.{◌≡◌, true, cond, [], Some, None, refl, sym, ap, ◌∙◌, arith}
+use Rattle.std.proofs.Common.{◌≡◌, Bool, true, false, cond, [], Some, None, refl, sym, ap, ◌∙◌, arith}
 use Rattle.std.specs.Prelude.{unwrap_or, OnErr, Ok, Err}
 use Rattle.std.specs.declared.result.Result.{Result}
 use Rattle.std.specs.Map.{lookup}
@@ -42,3 +42,18 @@ module _ (job : JobNo) where
 pub on_err : {T : Type 0} {E : Type 0} {P : Type 0} (r : Result T E) → P → OnErr r P
 on_err (Ok x) p = tt
 on_err (Err e) p = p
+
+-- rows that tell every job the same
+pub applied_on : (old left new : Rows) (job : JobNo) (message : DirectoryMessage) → Applies old left job message → ((other : JobNo) → locations_of new other ≡ locations_of left other) → Applies old new job message
+applied_on old left new job message h same = record { own = same job ∙ h.own; others = λ other differ. same other ∙ h.others other differ }
+
+-- without a row that has nothing
+pub emptied : (job : JobNo) (old new : Rows) → locations_of old job ≡ [] → ((q : JobNo) → lookup (same_job q) new ≡ cond (same_job job q) None (lookup (same_job q) old)) → (other : JobNo) → locations_of new other ≡ locations_of old other
+emptied job old new none updated other = by (same_job job other) refl
+  where
+    by : (b : Bool) → same_job job other ≡ b → locations_of new other ≡ locations_of old other
+    by true t =
+        let number : job.0 ≡ other.0 = grind (arith, nat_tests, t) in
+        let same : job ≡ other = ap (λ n. record { 0 = n }) number in
+        ap (λ o. unwrap_or o []) (updated other ∙ ap (λ b. cond b None (lookup (same_job other) old)) t) ∙ sym (ap (locations_of old) (sym same) ∙ none)
+    by false t = ap (λ o. unwrap_or o []) (updated other ∙ ap (λ b. cond b None (lookup (same_job other) old)) t)

@@ -1,5 +1,5 @@
 -- A map by rising id, each with its entries, is a table of locations.
-use Rattle.std.proofs.Common.{◌≡◌, ◌≢◌, ℕ, ◌==◌, Bool, true, false, cond, List, [], ◌∷◌, Option, Some, None, refl, sym, ap, subst, ◌∙◌}
+use Rattle.std.proofs.Common.{◌≡◌, ◌≢◌, ℕ, ◌==◌, Bool, true, false, cond, List, [], ◌∷◌, Option, Some, None, refl, sym, ap, subst, ◌∙◌, arith}
 use Rattle.std.specs.Prelude.{unwrap_or, nat_lt, IsTrue, ◌↔◌, IfOk, OnOk, OnErr, Ok, Err}
 use Rattle.std.specs.declared.result.Result.{Result}
 use Rattle.std.specs.declared.alloc.AllocError.{AllocError}
@@ -8,13 +8,14 @@ use Rattle.std.specs.List.{cons_option}
 use Rattle.std.specs.List.Sorted.{IsStrictlySortedBy}
 use Rattle.std.specs.Map.{keys_of, lookup, set_value}
 use Rattle.std.specs.Map.Calls.{RetainsPairs}
+use Rattle.std.proofs.lemmas.Bool.Decides.{nat_tests}
 use Rattle.std.proofs.lemmas.Map.Steps.{set_value_same}
 use Rattle.obj_id.specs.declared.ids.ObjectId.{ObjectId}
 use Rattle.obj_id.specs.declared.messages.Location.{Location}
 use Rattle.obj_id.specs.Ids.{id_cmp}
 use Rattle.private_store.specs.Tables.{with_entry, without_entry}
 use Rattle.private_store.specs.Directory.{entries_at, entry_placed, with_entries, without_node, without_entries_at}
-use Rattle.owner_directory.specs.Locations.{Locations}
+use Rattle.owner_directory.specs.Locations.{Locations, is_longer}
 use Rattle.private_store.proofs.ObjectMaps.{is_id, at-lookup, with_entry-insert, with_entry-set, without_entry-absent, without_entry-set}
 use Rattle.private_store.proofs.Tests.{true_false}
 
@@ -111,3 +112,8 @@ pub set_err : (id : ObjectId) (es t : Locations) (xs ys : List Location) (after 
     → es ≡ t → lookup (is_id id) es ≡ Some xs → after ≡ set_value (is_id id) es ys → OnErr r (ys ≡ xs) → OnErr r (after ≡ t)
 set_err id es t xs ys after (Ok u) same found wrote h = h
 set_err id es t xs ys after (Err e) same found wrote h = wrote ∙ ap (set_value (is_id id) es) h ∙ set_value_same (is_id id) es xs found ∙ same
+
+-- a first entry makes entries longer
+pub first_is_longer : (new : Location) (entries : List Location) → entries ≡ [] → is_longer (entry_placed new entries) entries ≡ false → ⊥
+first_is_longer new [] none short = let longer : is_longer (new ∷ []) [] ≡ true = grind (arith, nat_tests) in true_false (sym short ∙ longer)
+first_is_longer new (entry ∷ entries) none short = absurd cc

@@ -1,5 +1,5 @@
 -- The locations of all jobs, and what a message of one job does to them.
-use Rattle.std.specs.Prelude.{◌≡◌, Bool, true, false, List, [], ◌∷◌, unwrap_or}
+use Rattle.std.specs.Prelude.{◌≡◌, Bool, true, false, List, [], ◌∷◌, length, nat_lt, unwrap_or}
 use Rattle.std.specs.Map.{lookup}
 use Rattle.obj_id.specs.declared.ids.JobNo.{JobNo}
 use Rattle.obj_id.specs.declared.messages.Location.{Location}
@@ -10,7 +10,7 @@ use Rattle.obj_id.specs.declared.messages.DirectoryMessage.TheVariants.{AddLocat
 use Rattle.private_store.specs.Jobs.{same_job}
 use Rattle.private_store.specs.Tables.{ById}
 use Rattle.private_store.specs.Private.{Post}
-use Rattle.private_store.specs.Directory.{locations_after}
+use Rattle.private_store.specs.Directory.{locations_after, entries_at, entry_placed}
 use Rattle.owner_directory.specs.declared.DirectoryReply.{DirectoryReply}
 use Rattle.owner_directory.specs.declared.DirectoryReply.TheVariants.{Nothing, Located}
 
@@ -43,3 +43,15 @@ needs_memory (RemoveLocation id node) = false
 needs_memory (Free id) = false
 needs_memory (EndJob node) = false
 needs_memory (Locate id node number) = true
+
+-- whether entries are more than others
+abbrev pub is_longer : List Location → List Location → Bool
+is_longer new old = nat_lt (length old) (length new)
+
+-- whether the message takes memory: for an entry of a node that had none, or for a copy of entries
+abbrev pub takes_memory : Locations → DirectoryMessage → Bool
+takes_memory table (AddLocation id entry) = is_longer (entry_placed entry (entries_at table id)) (entries_at table id)
+takes_memory table (RemoveLocation id node) = false
+takes_memory table (Free id) = false
+takes_memory table (EndJob node) = false
+takes_memory table (Locate id node number) = is_longer (entries_at table id) []

@@ -1,5 +1,6 @@
 //! The entries of one object.
-ghost use Rattle.std.specs.Prelude.{◌≡◌, ◌↔◌, [], IfOk, OnOk, OnErr, IsTrue};
+ghost use Rattle.std.specs.Prelude.{◌≡◌, ◌↔◌, [], false, IfOk, OnOk, OnErr, IsOk, IsTrue};
+ghost use Rattle.owner_directory.specs.Locations.{is_longer};
 ghost use Rattle.private_store.specs.Directory.{entry_placed, without_node};
 
 use obj_id::{Items, Location};
@@ -34,6 +35,7 @@ impl Entries {
     /// Puts the entry in its place among those of other nodes, or in that of its node's own.
     pub fn put(&mut self, entry: Location) -> Result<(), AllocError>
         ensures ok { OnOk result (self.new ≡ entry_placed entry self.old) }
+        ensures succeeds { is_longer (entry_placed entry self.old) self.old ≡ false → IsOk result }
         ensures err { OnErr result (self.new ≡ self.old) }
     {
         put_entry(&mut self.items, entry)
@@ -55,8 +57,12 @@ impl Entries {
 
     /// A copy of the entries.
     pub fn to_items(&self, alloc: Global) -> Result<Items<Location>, AllocError>
-        ensures { IfOk result (λ items. items ≡ self.now) }
+        ensures ok { IfOk result (λ items. items ≡ self.now) }
+        ensures succeeds { self.now ≡ [] → IsOk result }
     {
+        if self.is_empty() {
+            return Ok(Items::new(alloc));
+        }
         let items = Vec::from_slice(alloc, &self.items)?;
         Ok(Items::from_vec(items))
     }
@@ -65,6 +71,7 @@ impl Entries {
 /// Puts the entry in its place.
 fn put_entry(entries: &mut Vec<Location>, entry: Location) -> Result<(), AllocError>
     ensures ok { OnOk result (entries.new.items ≡ entry_placed entry entries.old.items) }
+    ensures succeeds { is_longer (entry_placed entry entries.old.items) entries.old.items ≡ false → IsOk result }
     ensures err { OnErr result (entries.new.items ≡ entries.old.items) }
 {
     let mut at = 0;

@@ -6,8 +6,9 @@ ghost use Rattle.std.specs.Prelude.{◌≡◌, [], false, IfOk, OnOk, OnErr, IsE
 ghost use Rattle.obj_id.specs.declared.messages.DirectoryMessage.TheVariants.{AddLocation, RemoveLocation, Free, EndJob, Locate};
 ghost use Rattle.obj_id.specs.declared.refusals.Refusal.{Refusal};
 ghost use Rattle.obj_id.specs.declared.refusals.Refusal.TheVariants.{NoMemory};
-ghost use Rattle.private_store.specs.Directory.{directory_posts, entries_at};
-ghost use Rattle.owner_directory.specs.Locations.{locations_of, Applies, posts_of, needs_memory};
+ghost use Rattle.obj_id.specs.declared.ids.JobNo.{JobNo};
+ghost use Rattle.private_store.specs.Directory.{directory_posts, entries_at, entry_placed};
+ghost use Rattle.owner_directory.specs.Locations.{locations_of, Applies, posts_of, needs_memory, is_longer, takes_memory};
 
 mod entries;
 mod row;
@@ -59,7 +60,7 @@ impl Directory {
     }
 
     /// Applies a message of a job to that job's locations, and answers it. `NoMemory` changes nothing; only
-    /// `AddLocation` and `Locate` take memory.
+    /// an `AddLocation` of a node without an entry and a `Locate` that finds entries take memory.
     pub fn apply(
         &mut self,
         job: JobNo,
@@ -69,6 +70,7 @@ impl Directory {
         ensures posts { IfOk result (λ reply. posts_of reply ≡ directory_posts (locations_of self.old job) message) }
         ensures refused { (r : Refusal) → IsErrOf result r → r ≡ NoMemory }
         ensures succeeds { needs_memory message ≡ false → IsOk result }
+        ensures grows { takes_memory (locations_of self.old job) message ≡ false → IsOk result }
         ensures err { OnErr result (self.new ≡ self.old) }
     {
         match message {
@@ -104,6 +106,7 @@ impl Directory {
     fn add(&mut self, job: JobNo, id: ObjectId, entry: Location) -> Result<(), Refusal>
         ensures ok { OnOk result (Applies self.old self.new job (AddLocation id entry)) }
         ensures refused { (r : Refusal) → IsErrOf result r → r ≡ NoMemory }
+        ensures succeeds { is_longer (entry_placed entry (entries_at (locations_of self.old job) id)) (entries_at (locations_of self.old job) id) ≡ false → IsOk result }
         ensures err { OnErr result (self.new ≡ self.old) }
     {
         if let Some(row) = self.rows.get_mut(&job) {
@@ -118,7 +121,7 @@ impl Directory {
         }
     }
 
-    /// Takes out the node's entry of the object.
+    /// Takes out the node's entry of the object; a row goes with its last one.
     fn remove(&mut self, job: JobNo, id: ObjectId, node: u32)
         ensures { Applies self.old self.new job (RemoveLocation id node) }
     {
@@ -126,9 +129,10 @@ impl Directory {
             return;
         };
         row.remove(id, node);
+        self.drop_if_empty(job);
     }
 
-    /// Takes out all entries of the object.
+    /// Takes out all entries of the object, and the row if it has no others.
     fn free(&mut self, job: JobNo, id: ObjectId)
         ensures { Applies self.old self.new job (Free id) }
     {
@@ -136,9 +140,10 @@ impl Directory {
             return;
         };
         row.free(id);
+        self.drop_if_empty(job);
     }
 
-    /// Takes out all entries of the node.
+    /// Takes out all entries of the node, and the row if it has no others.
     fn end_at(&mut self, job: JobNo, node: u32)
         ensures { Applies self.old self.new job (EndJob node) }
     {
@@ -146,12 +151,26 @@ impl Directory {
             return;
         };
         row.end_at(node);
+        self.drop_if_empty(job);
+    }
+
+    /// Drops the job's row if it has no locations left.
+    fn drop_if_empty(&mut self, job: JobNo)
+        ensures { (other : JobNo) → locations_of self.new other ≡ locations_of self.old other }
+    {
+        let Some(row) = self.rows.get(&job) else {
+            return;
+        };
+        if row.is_empty() {
+            self.rows.swap_remove(&job);
+        }
     }
 
     /// A copy of the object's entries.
     fn located(&self, job: JobNo, id: ObjectId) -> Result<Items<Location>, Refusal>
         ensures ok { IfOk result (λ entries. entries ≡ entries_at (locations_of self.now job) id) }
         ensures refused { (r : Refusal) → IsErrOf result r → r ≡ NoMemory }
+        ensures succeeds { entries_at (locations_of self.now job) id ≡ [] → IsOk result }
     {
         match self.rows.get(&job) {
             Some(row) => Ok(row.located(self.alloc, id)?),

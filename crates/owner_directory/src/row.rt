@@ -1,5 +1,6 @@
 //! The locations of one job.
-ghost use Rattle.std.specs.Prelude.{◌≡◌, ◌≢◌, ◌↔◌, [], IsTrue, IfOk, OnOk, OnErr};
+ghost use Rattle.std.specs.Prelude.{◌≡◌, ◌≢◌, ◌↔◌, [], false, IsTrue, IfOk, OnOk, OnErr, IsOk};
+ghost use Rattle.owner_directory.specs.Locations.{is_longer};
 ghost use Rattle.private_store.specs.Tables.{without_entry};
 ghost use Rattle.private_store.specs.Directory.{entries_at, entry_placed, with_entries, without_entries_at, without_node};
 
@@ -42,6 +43,7 @@ impl Row {
     /// Sets the entry of its node.
     pub fn set(&mut self, alloc: Global, id: ObjectId, entry: Location) -> Result<(), AllocError>
         ensures ok { OnOk result (self.new ≡ with_entries self.old id (entry_placed entry (entries_at self.old id))) }
+        ensures succeeds { is_longer (entry_placed entry (entries_at self.old id)) (entries_at self.old id) ≡ false → IsOk result }
         ensures err { OnErr result (self.new ≡ self.old) }
     {
         if let Some(entries) = self.objects.get_mut(&id) {
@@ -88,9 +90,17 @@ impl Row {
         );
     }
 
+    /// Whether there are none.
+    pub fn is_empty(&self) -> bool
+        ensures { IsTrue result ↔ (self.now ≡ []) }
+    {
+        self.objects.is_empty()
+    }
+
     /// A copy of the object's entries.
     pub fn located(&self, alloc: Global, id: ObjectId) -> Result<Items<Location>, AllocError>
-        ensures { IfOk result (λ entries. entries ≡ entries_at self.now id) }
+        ensures ok { IfOk result (λ entries. entries ≡ entries_at self.now id) }
+        ensures succeeds { entries_at self.now id ≡ [] → IsOk result }
     {
         match self.objects.get(&id) {
             Some(entries) => entries.to_items(alloc),

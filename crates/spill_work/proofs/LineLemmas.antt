@@ -246,3 +246,19 @@ module _ (job : JobNo) (kind : WorkKind) where
     own_used = own;
     others = λ other apart. record { works = ap (λ ws. part ws other) works ∙ part-numbered_other other apart (used_by old job) ids old.works; used = others other apart };
   }
+
+  -- no works
+  pub asks_none : (line : WorkLine) (ids : List ObjectId) → ids ≡ [] → AsksAll line job kind ids line
+  asks_none line [] none = asks_all line line [] (sym (append_nothing line.works)) (omega arith) (λ other apart. refl)
+  asks_none line (id ∷ ids) none = absurd cc
+
+pub none_of : (ids : List ObjectId) → (length ids == 0) ≡ true → ids ≡ []
+none_of [] t = refl
+none_of (id ∷ ids) t = absurd (omega (arith, is_zero (length (id ∷ ids)) t))
+  where
+    is_zero : (n : ℕ) → (n == 0) ≡ true → n ≡ 0
+    is_zero n t = grind (arith, nat_tests, t)
+
+pub some_of : (ids : List ObjectId) → (length ids == 0) ≡ false → ids ≡ [] → ⊥
+some_of [] t none = absurd cc
+some_of (id ∷ ids) t none = absurd cc

@@ -11,13 +11,11 @@ ghost use Rattle.spill_work.specs.Line.{WorkLine, same_job, used_by, in_flight a
 mod queue;
 
 use indexmap::IndexMap;
+use obj_id::limits::MOST_WORKS;
 use obj_id::{JobNo, ObjectId, Refusal, WorkKind};
 pub use queue::{Asked, Queued};
 use std::alloc::{AllocError, Global};
 use std::marker::Model;
-
-/// How many works of a job may be in flight.
-const MOST_WORKS: u64 = 8;
 
 /// The works in flight of all jobs.
 #[derive(Drop)]
@@ -66,14 +64,13 @@ impl Works {
     pub fn room_for(&self, job: JobNo, n: usize) -> bool
         ensures { result ≡ room_for_lem self.now job n }
     {
-        let n = n as u64;
         n <= MOST_WORKS
-            && self.in_flight(job) as u64 <= MOST_WORKS - n
-            && self.asked(job) <= u64::MAX - n
+            && self.in_flight(job) <= MOST_WORKS - n
+            && self.asked(job) <= u64::MAX - n as u64
     }
 
     /// Asks for a work of the job on the object, under the job's next number, which it gives. `Busy` at
-    /// 8 works in flight, `TooMany` where no number is left, `NoMemory` last. A refusal uses no number
+    /// 8 works in flight, `TooMany` if no number is left, `NoMemory` last. A refusal uses no number
     /// and changes nothing.
     pub fn ask(&mut self, job: JobNo, id: ObjectId, kind: WorkKind) -> Result<u64, Refusal>
         ensures ok { IfOk result (λ number. Asks self.old (record { job = job; number = number; id = id; kind = kind }) self.new) }
@@ -97,22 +94,27 @@ impl Works {
     }
 
     /// Asks for a work of the job on each of these objects, in their order and under the job's next
-    /// numbers. The error is want of memory, and then nothing has changed. Takes a copy of the line.
+    /// numbers. The error is want of memory, and then nothing has changed; to ask for none takes none.
     pub fn ask_all(
         &mut self,
-        alloc: Global,
+        _alloc: Global,
         job: JobNo,
         ids: &[ObjectId],
         kind: WorkKind,
     ) -> Result<(), AllocError>
         requires { room_for_lem self.old job (length ids.now) ≡ true }
         ensures ok { OnOk result (AsksAll self.old job kind ids.now self.new) }
+        ensures succeeds { ids.now ≡ [] → IsOk result }
         ensures err { OnErr result (self.new ≡ self.old) }
     {
+        if ids.is_empty() {
+            return Ok(());
+        }
         let last = self.asked(job);
-        let line = queue::with_numbered(alloc, &self.line, job, kind, last, ids)?;
+        // all growth comes first, so that the pushes can't fail
+        self.line.reserve(ids.len())?;
         self.used.insert(job, last + ids.len() as u64)?;
-        self.line = line;
+        queue::push_numbered(&mut self.line, job, kind, last, ids);
         Ok(())
     }
 
@@ -120,7 +122,7 @@ impl Works {
     pub fn ask_check(&self, job: JobNo) -> Option<Refusal>
         ensures { result ≡ ask_check_lem self.now job }
     {
-        if self.in_flight(job) as u64 >= MOST_WORKS {
+        if self.in_flight(job) >= MOST_WORKS {
             return Some(Refusal::Busy);
         }
         if self.asked(job) < u64::MAX {
@@ -153,7 +155,7 @@ impl Works {
         Some(asked)
     }
 
-    /// A worker answered the work: it leaves the line. `Stale` where the job has no such work in flight
+    /// A worker answered the work: it leaves the line. `Stale` if the job has no such work in flight
     /// or nobody took it, and then nothing changes. Takes no memory.
     pub fn finish(&mut self, job: JobNo, number: u64) -> Result<Asked, Refusal>
         ensures ok { IfOk result (λ asked. Finishes self.old job number asked self.new) }

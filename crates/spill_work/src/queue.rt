@@ -1,10 +1,9 @@
 //! The works of all jobs in one line, and what is done with a line alone.
-ghost use Rattle.std.specs.Prelude.{◌≡◌, ◌+◌, ◌<◌, ◌^◌, ◌++◌, not, find, filter, length, IfOk};
+ghost use Rattle.std.specs.Prelude.{◌≡◌, ◌+◌, ◌<◌, ◌^◌, ◌++◌, ◌≤◌, not, find, filter, length, vec_len, vec_capacity};
 ghost use Rattle.std.specs.List.{position_or_len};
 ghost use Rattle.spill_work.specs.Line.{is_of as is_of_lem, is_at as is_at_lem, front_of, marked, numbered};
 
 use obj_id::{JobNo, ObjectId, WorkKind};
-use std::alloc::{AllocError, Global};
 
 /// A work that was asked of the device, by the number that it has in its job.
 #[derive(Clone, Copy, Debug, PartialEq, Eq)]
@@ -95,20 +94,18 @@ pub fn take_out_all(works: &mut Vec<Queued>, job: JobNo)
     works.retain(|work| !is_of(work, job));
 }
 
-/// The line with a work on each of these objects behind the others.
-pub fn with_numbered(
-    alloc: Global,
-    works: &Vec<Queued>,
+/// A work on each of these objects comes last in the line, which has room for them.
+pub fn push_numbered(
+    works: &mut Vec<Queued>,
     job: JobNo,
     kind: WorkKind,
     last: u64,
     ids: &[ObjectId],
-) -> Result<Vec<Queued>, AllocError>
-    requires { last + length ids.now < 2 ^ 64 }
-    ensures { IfOk result (λ v. v.items ≡ works.now.items ++ numbered job kind last ids.now) }
+)
+    requires numbers { last + length ids.now < 2 ^ 64 }
+    requires room { vec_len works.old + length ids.now ≤ vec_capacity works.old }
+    ensures { works.new.items ≡ works.old.items ++ numbered job kind last ids.now }
 {
-    let mut line = Vec::new(alloc);
-    line.extend_from_slice(works)?;
     let mut number = last;
     for id in ids {
         number += 1;
@@ -118,10 +115,11 @@ pub fn with_numbered(
             id: *id,
             kind,
         };
-        line.push(Queued {
-            asked,
-            taken: false,
-        })?;
+        works
+            .push(Queued {
+                asked,
+                taken: false,
+            })
+            .unwrap();
     }
-    Ok(line)
 }

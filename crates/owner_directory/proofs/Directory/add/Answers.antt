@@ -4,8 +4,9 @@ use Rattle.std.specs.Option.{option_copied_mut}
 use Rattle.std.proofs.lemmas.Map.Steps.{set_value_same}
 use Rattle.obj_id.specs.declared.messages.DirectoryMessage.TheVariants.{AddLocation}
 use Rattle.private_store.specs.Jobs.{same_job}
-use Rattle.private_store.specs.Directory.{locations_after}
-use Rattle.owner_directory.specs.Locations.{Applies}
+use Rattle.private_store.specs.Directory.{locations_after, entries_at, entry_placed}
+use Rattle.owner_directory.specs.Locations.{Locations, Applies, locations_of, is_longer}
+use Rattle.owner_directory.proofs.Objects.{first_is_longer}
 use Rattle.owner_directory.proofs.Jobs.{row_found, no_row, applied, on_err}
 use Rattle.owner_directory.proofs.Directory.add.Goals as goal
 
@@ -36,3 +37,22 @@ returns-clause-ok c =
     subst (λ old. Applies old c.insert.new.self.entries c.args.job m) (at_first ∙ c.self.view_is)
     (applied c.args.job c.get_mut.follows.lender-at-none.entries c.insert.new.self.entries m [] c.set-2.new.self
     (no_row c.args.job _ (ap (lookup (same_job c.args.job)) at_first ∙ none)) first updated)
+
+pub returns-in_err-set-clause-succeeds : goal.returns-in_err-set-clause-succeeds
+returns-in_err-set-clause-succeeds c =
+    let rows = c.self.inside.rows.entries in
+    let found = sym c.get_mut.ensures.value ∙ ap option_copied_mut c.in-Some.is in
+    let same = ap (λ t. locations_of t c.args.job) (sym c.self.view_is) ∙ row_found c.args.job rows c.in-Some.row.now found in
+    λ short. let failed = c.in_err-set.ensures.succeeds (ap (λ (t : Locations). is_longer (entry_placed c.args.entry (entries_at t c.args.id)) (entries_at t c.args.id)) (sym same) ∙ short) in absurd cc
+
+pub returns-in_err-set-2-clause-succeeds : goal.returns-in_err-set-2-clause-succeeds
+returns-in_err-set-2-clause-succeeds c =
+    let none = sym c.get_mut.ensures.value ∙ ap option_copied_mut c.in_default.is in
+    let same = ap (λ t. locations_of t c.args.job) (sym c.self.view_is) ∙ no_row c.args.job c.self.inside.rows.entries none in
+    λ short. absurd (first_is_longer c.args.entry _ (ap (λ (t : Locations). entries_at t c.args.id) same) short)
+
+pub returns-in-Err-clause-succeeds : goal.returns-in-Err-clause-succeeds
+returns-in-Err-clause-succeeds c =
+    let none = sym c.get_mut.ensures.value ∙ ap option_copied_mut c.in_default.is in
+    let same = ap (λ t. locations_of t c.args.job) (sym c.self.view_is) ∙ no_row c.args.job c.self.inside.rows.entries none in
+    λ short. absurd (first_is_longer c.args.entry _ (ap (λ (t : Locations). entries_at t c.args.id) same) short)

@@ -2,7 +2,7 @@ use Rattle.std.proofs.Common.{is_some, sym, ap, subst, ◌∙◌}
 use Rattle.std.specs.Option.{option_copied_mut}
 use Rattle.obj_id.specs.declared.messages.DirectoryMessage.TheVariants.{Free}
 use Rattle.owner_directory.specs.Locations.{Applies}
-use Rattle.owner_directory.proofs.Jobs.{row_found, applied}
+use Rattle.owner_directory.proofs.Jobs.{row_found, applied, applied_on}
 use Rattle.owner_directory.proofs.Directory.free.Goals as goal
 
 pub returns : goal.returns
@@ -12,5 +12,5 @@ returns c =
     let found = sym c.get_mut.ensures.value ∙ ap option_copied_mut c.in-Some.is in
     let wrote = c.get_mut.follows.holds c.free.new.self in
     let m = Free c.args.id in
-    subst (λ old. Applies old new.entries c.args.job m) c.self.view_is
-    (applied c.args.job rows new.entries m c.in-Some.row.now c.free.new.self (row_found c.args.job rows c.in-Some.row.now found) c.free.ensures (wrote.3 (ap is_some found)).0)
+    applied_on c.args.self.now new.entries c.drop_if_empty.new.self c.args.job m (subst (λ old. Applies old new.entries c.args.job m) c.self.view_is
+    (applied c.args.job rows new.entries m c.in-Some.row.now c.free.new.self (row_found c.args.job rows c.in-Some.row.now found) c.free.ensures (wrote.3 (ap is_some found)).0)) c.drop_if_empty.ensures

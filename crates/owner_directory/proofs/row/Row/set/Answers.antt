@@ -3,8 +3,8 @@ use Rattle.std.specs.BTreeMap.{insert_entry}
 use Rattle.std.specs.Option.{option_copied_mut}
 use Rattle.obj_id.specs.Ids.{id_cmp}
 use Rattle.private_store.specs.Directory.{entries_at, entry_placed, with_entries}
-use Rattle.owner_directory.specs.Locations.{Locations}
-use Rattle.owner_directory.proofs.Objects.{set_absent, set_ok, set_err}
+use Rattle.owner_directory.specs.Locations.{Locations, is_longer}
+use Rattle.owner_directory.proofs.Objects.{set_absent, set_ok, set_err, entries_at-found, entries_at-absent, first_is_longer}
 use Rattle.owner_directory.proofs.row.Row.set.Goals as goal
 
 pub returns-in-Some-clause-ok : goal.returns-in-Some-clause-ok
@@ -27,3 +27,21 @@ returns-clause-ok c =
     ∙ ap (insert_entry id_cmp c.self.inside.objects.entries c.args.id) first
     ∙ set_absent c.args.id c.self.inside.objects.entries c.self.invariant c.args.entry none
     ∙ ap after c.self.view_is
+
+pub returns-in-Some-clause-succeeds : goal.returns-in-Some-clause-succeeds
+returns-in-Some-clause-succeeds c =
+    let found = sym c.get_mut.ensures.value ∙ ap option_copied_mut c.in-Some.is in
+    let same = ap (λ t. entries_at t c.args.id) (sym c.self.view_is) ∙ entries_at-found c.args.id c.self.inside.objects.entries c.in-Some.entries.now found in
+    λ short. c.put.ensures.succeeds (ap (λ xs. is_longer (entry_placed c.args.entry xs) xs) (sym same) ∙ short)
+
+pub returns-in_err-put-clause-succeeds : goal.returns-in_err-put-clause-succeeds
+returns-in_err-put-clause-succeeds c =
+    let none = sym c.get_mut.ensures.value ∙ ap option_copied_mut c.in_default.is in
+    let same = ap (λ t. entries_at t c.args.id) (sym c.self.view_is) ∙ entries_at-absent c.args.id c.self.inside.objects.entries none in
+    λ short. absurd (first_is_longer c.args.entry _ same short)
+
+pub returns-in_err-insert-clause-succeeds : goal.returns-in_err-insert-clause-succeeds
+returns-in_err-insert-clause-succeeds c =
+    let none = sym c.get_mut.ensures.value ∙ ap option_copied_mut c.in_default.is in
+    let same = ap (λ t. entries_at t c.args.id) (sym c.self.view_is) ∙ entries_at-absent c.args.id c.self.inside.objects.entries none in
+    λ short. absurd (first_is_longer c.args.entry _ same short)
