@@ -1,8 +1,17 @@
-# The gate, and nothing that needs a network.
+# The gate: every proof from nothing, the must-fail edits, the tests, and the programs with what they print. A crate has no
+# links, so the examples lie twice; that they are the same is looked at first.
 test:
+	diff -r examples crates/schedules/data/examples
+	cmp examples/first.schedule crates/store_server/stdin
+	cmp examples/first.expected crates/store_server/stdout
 	rt ci
 
-# Proves the program over the crates below it, and leaves it as crates/store_server/out/store_server.
+# Proves what changed, lowest crates first, over what earlier checks kept.
+check:
+	rt all check
+
+# Proves the program over the crates below it, and leaves it as crates/store_server/out/store_server. A program is only
+# built to be run, so it is given an empty schedule.
 build:
 	cd crates/store_server && rt run -- run < /dev/null
 
@@ -10,4 +19,19 @@ build:
 run:
 	cd crates/store_server && rt try -- run < ../../examples/first.schedule
 
-.PHONY: test build run
+# The test crates with allocations failing: run N of a crate lets allocation N of each test fail. The gate makes none fail.
+# A run builds anew and takes about half a minute; for more of them, make faults FAULTS="$$(seq 1 60)".
+FAULTS = 1 2 3 5 8 13
+TEST_CRATES = leaf_tests table_tests device_tests text_tests frame_tests session_tests node_tests
+faults:
+	@set -e; for crate in $(TEST_CRATES); do for n in $(FAULTS); do \
+	    echo "$$crate: allocation $$n of each test fails"; \
+	    (cd crates/$$crate && rt try --test --fail-alloc $$n > faults.log 2>&1) || { cat crates/$$crate/faults.log; exit 1; }; \
+	    grep "^test result" crates/$$crate/faults.log; rm crates/$$crate/faults.log; \
+	done; done
+
+# Measures a built program (see bench/growth --help).
+bench: build
+	bench/growth
+
+.PHONY: test check build run faults bench

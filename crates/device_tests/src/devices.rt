@@ -57,7 +57,7 @@ fn own_folder<R: Files + Env + AllocGlobal>(
     Ok(folder)
 }
 
-/// A device in the folder; once more where memory was wanting.
+/// A device in the folder; once more if memory ran out.
 fn over_files<R: Files + AllocGlobal + Clone + Drop>(
     rt: &R,
     folder: &str,
@@ -68,7 +68,7 @@ fn over_files<R: Files + AllocGlobal + Clone + Drop>(
     }
 }
 
-/// Each call is made once more where memory was wanting: then no failure has been counted.
+/// Each call is made once more if memory ran out: then no failure has been counted.
 fn write<D: SpillDevice>(
     rt: &impl Abort,
     device: &mut D,
@@ -212,7 +212,7 @@ fn files_keep_what_was_last_written(rt: HostRuntime) -> Result<(), Fail> {
     let mut next = over_files(&rt, folder.as_str())?;
     assert!(rt; has(&rt, &mut next, OTHER, &[9]));
     assert_eq!(rt; erase(&rt, &mut next, OTHER), Ok(()));
-    // nothing is left behind, under a temporary name either
+    // nothing is left, under a temporary name either
     fs::remove_dir(&rt, folder.as_str())?;
     Ok(())
 }
@@ -274,7 +274,7 @@ fn a_write_that_fails_leaves_what_was_there(rt: HostRuntime) -> Result<(), Fail>
     Ok(())
 }
 
-/// What is printed of the fault, asked for once more where memory was wanting.
+/// What is printed of the fault, asked for once more if memory ran out.
 fn printed(alloc: Global, fault: &FolderFault) -> Result<String, AllocError> {
     match format!(in alloc; "{fault}") {
         Ok(text) => Ok(text),

@@ -9,7 +9,7 @@ fn object(job: u32, task: u64) -> Result<ObjectId, Refusal> {
     ObjectId::new(TaskNo::numbered(task), JobNo(job), 1)
 }
 
-/// Grants, once more where memory was wanting: then nothing has changed.
+/// Grants, once more if memory ran out: then nothing has changed.
 fn grant(
     rt: &impl Abort,
     grants: &mut Grants,
@@ -26,7 +26,7 @@ fn grant(
     }
 }
 
-/// Withdraws, once more where memory was wanting.
+/// Withdraws, once more if memory ran out.
 fn withdraw(
     rt: &impl Abort,
     grants: &mut Grants,

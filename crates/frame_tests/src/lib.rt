@@ -1,5 +1,5 @@
 //! Tests of the frames of a session: every kind both ways against bytes that were written by hand, streams in all
-//! cuts, faults, changed and random bytes, and want of memory.
+//! cuts, faults, changed and random bytes, and allocations that fail.
 #![tactic(auto)]
 
 #[cfg(test)]

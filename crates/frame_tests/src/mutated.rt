@@ -6,7 +6,7 @@ use std::alloc::{AllocError, Global};
 use std::test::Fail;
 use wire_frames::Reader;
 
-/// Every kind of frame, with the bytes of its body; a write has its payload behind them. A body of ones has an id
+/// Every kind of frame, with the bytes of its body; a write has its payload after them. A body of ones has an id
 /// that can be and a copy kind that there is.
 const KINDS: [(u8, u32); 20] = [
     (0x01, 36),
@@ -89,7 +89,7 @@ fn outcome_of(alloc: Global, pieces: &[&[u8]]) -> Result<Outcome, Refusal> {
     })
 }
 
-/// Feeds one piece, and an empty one, which tells a fault that stands behind items. Whether a fault was told.
+/// Feeds one piece, and an empty one, which tells a fault after items. Whether a fault was told.
 fn tells_fault(
     alloc: Global,
     reader: &mut Reader,

@@ -10,7 +10,7 @@ const SESSION: &str =
     "000000250100000001000000000000000000000000000000000000000000000000000000000000000000000022020000000000000000000000000000000000000001000000010000000100000000140000001d04000000000000000000000000000000000000000100000001000000010000001d0500000000000000000000000000000000000000010000000100000001";
 
 /// What is not a frame, whatever follows: lengths out of range, kinds that there aren't, bodies of another length,
-/// and a copy kind that there isn't, once with an id that can't be.
+/// and a copy kind that there isn't, once with an invalid id.
 const FAULTS: [&str; 9] = [
     "00000000",
     "00010041",
@@ -23,7 +23,7 @@ const FAULTS: [&str; 9] = [
     "00000022020000000000000000000000000000000000000000000000000000000002000000ff",
 ];
 
-/// What the piece gives, asked for once more where memory was wanting.
+/// What the piece gives, asked for once more if memory ran out.
 fn fed(alloc: Global, reader: &mut Reader, piece: &[u8]) -> Result<Vec<Item>, Refusal> {
     match reader.feed(alloc, piece) {
         Err(Refusal::NoMemory) => reader.feed(alloc, piece),

@@ -19,7 +19,7 @@ fn first_object() -> Result<ObjectId, Refusal> {
     ObjectId::new(TaskNo::numbered(1), JobNo(1), 1)
 }
 
-/// The items of a frame, asked for once more where memory was wanting.
+/// The items of a frame, asked for once more if memory ran out.
 fn read(alloc: Global, frame: &[u8]) -> Result<Vec<Item>, Refusal> {
     let mut reader = Reader::new(alloc);
     match reader.feed(alloc, frame) {
@@ -28,7 +28,7 @@ fn read(alloc: Global, frame: &[u8]) -> Result<Vec<Item>, Refusal> {
     }
 }
 
-/// The digits of the item's frame, asked for once more where memory was wanting. If another item than this is read
+/// The digits of the item's frame, asked for once more if memory ran out. If another item than this is read
 /// from the frame, that one is printed.
 fn both_ways(alloc: Global, item: &Item) -> Result<String, Fail>
     requires { IsTrue (has_command_frame item.now) }
@@ -47,7 +47,7 @@ fn both_ways(alloc: Global, item: &Item) -> Result<String, Fail>
     }
 }
 
-/// The digits of the reply's frame, asked for once more where memory was wanting.
+/// The digits of the reply's frame, asked for once more if memory ran out.
 fn told(alloc: Global, reply: &Reply<Bytes>) -> Result<String, AllocError>
     requires { IsTrue (has_reply_frame reply.now) }
 {

@@ -143,7 +143,7 @@ fn stands(orders: &UseOrder, job: JobNo, indexes: &[u32]) -> bool {
     left.next().is_none()
 }
 
-/// Enters the id, once more where memory was wanting: nothing has changed then.
+/// Enters the id, once more if memory ran out: nothing has changed then.
 fn enter(orders: &mut UseOrder, job: JobNo, index: u32, before: &[u32]) -> Result<bool, Refusal> {
     let id = object(index)?;
     match orders.enter(job, id) {
@@ -202,7 +202,7 @@ fn planned(
     store.plan(alloc, len, device)
 }
 
-/// The same, once more where memory was wanting.
+/// The same, once more if memory ran out.
 fn plan(
     alloc: Global,
     window: u64,

@@ -22,7 +22,7 @@ fn numbered(task: u64, job: u32, index: u32) -> Result<ObjectId, Refusal> {
     ObjectId::new(TaskNo::numbered(task), JobNo(job), index)
 }
 
-/// The printed text, asked for once more where memory was wanting.
+/// The printed text, asked for once more if memory ran out.
 fn printed(alloc: Global, id: ObjectId) -> Result<String, AllocError> {
     match id.write(alloc, SPEAKER) {
         Ok(text) => Ok(text),
@@ -30,7 +30,7 @@ fn printed(alloc: Global, id: ObjectId) -> Result<String, AllocError> {
     }
 }
 
-/// The task's printed text, asked for once more where memory was wanting.
+/// The task's printed text, asked for once more if memory ran out.
 fn printed_task(alloc: Global, task: TaskNo) -> Result<String, AllocError> {
     match task.write(alloc) {
         Ok(text) => Ok(text),

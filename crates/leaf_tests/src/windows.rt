@@ -8,7 +8,7 @@ use obj_id::{Extent, Refusal};
 use std::alloc::Global;
 use std::test::Fail;
 
-/// A window of so many bytes, asked for once more where memory was wanting.
+/// A window of so many bytes, asked for once more if memory ran out.
 fn window(alloc: Global, quota: u64) -> Result<Window, Refusal> {
     match Window::new(alloc, quota) {
         Err(Refusal::NoMemory) => Window::new(alloc, quota),
@@ -16,7 +16,7 @@ fn window(alloc: Global, quota: u64) -> Result<Window, Refusal> {
     }
 }
 
-/// An extent for so many bytes, asked for once more where memory was wanting.
+/// An extent for so many bytes, asked for once more if memory ran out.
 fn place(window: &mut Window, len: u32) -> Result<Extent, Refusal>
     ensures there { IfOk result (λ e. IsAt e window.new.placed) }
     ensures stays { (e : Extent) → IsAt e window.old.placed → IsAt e window.new.placed }
@@ -146,7 +146,7 @@ fn a_window_is_resized_round_its_extents(rt: HostRuntime) -> Result<(), Fail> {
     Ok(())
 }
 
-/// Gives the window so many bytes, once more where memory was wanting.
+/// Gives the window so many bytes, once more if memory ran out.
 fn resize(window: &mut Window, quota: u64) -> Result<(), Refusal>
     ensures { window.new.placed ≡ window.old.placed }
 {

@@ -1,6 +1,6 @@
 //! The calls of a node that are no events.
 ghost use Rattle.std.specs.Prelude.{◌≡◌, true};
-ghost use Rattle.node_core.specs.Steps.{is_built};
+ghost use Rattle.node_core.specs.Built.{is_built};
 
 use bytes::Bytes;
 use node_core::Node;

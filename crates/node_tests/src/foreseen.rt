@@ -1,6 +1,6 @@
 //! What a node foresees of an event, and what the event sends then.
 ghost use Rattle.std.specs.Prelude.{◌≡◌, true, IfOk};
-ghost use Rattle.node_core.specs.Steps.{is_built};
+ghost use Rattle.node_core.specs.Built.{is_built};
 
 use crate::steps::step_of;
 use node_core::{Node, Outcome};

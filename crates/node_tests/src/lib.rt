@@ -1,13 +1,10 @@
-//! Tests of nodes and of worlds of them: a node's calls that are no events, and what it foresees of one; and
-//! worked schedules with the answers that were written by hand, as the program reads and prints them, and step
-//! by step.
+//! Tests of nodes and of worlds of them: a node's calls that are no events, what it foresees of one, worlds step by step,
+//! and two worlds beside each other. Whole schedules are files, and `schedules` runs them.
 #![tactic(auto)]
 
 #[cfg(test)]
 mod calls;
 #[cfg(test)]
 mod foreseen;
-#[cfg(test)]
-mod schedules;
 #[cfg(test)]
 mod steps;

@@ -35,7 +35,7 @@ pub record IsLongNumber (field : List ℕ) (number : ℕ) : Type 0 where
   pub fits : number < 2 ^ 64
   pub spelled : decimal number ≡ field
 
--- one of so many nodes
+-- the number of a node, below the number of nodes
 pub record IsNode (nodes : ℕ) (field : List ℕ) (node : ℕ) : Type 0 where
   pub exists : node < nodes
   pub spelled : IsNumber field node
@@ -58,7 +58,7 @@ pub record IsBytesField (field bytes : List ℕ) : Type 0 where
   pub are_bytes : (i : ℕ) → slice_index bytes i < 256
   pub spelled : bytes_text bytes ≡ field
 
--- ---- fields behind the word of a command
+-- ---- fields after the word of a command
 
 -- `ID`
 abbrev pub IsId1 : ℕ → List (List ℕ) → ObjectId → Type 0

@@ -49,7 +49,7 @@ own_item_text job item = id_text job item.id ++ codes ":" ++ state_word item.sta
 abbrev pub granted_item_text : ℕ → GrantedItem → List ℕ
 granted_item_text job item = id_text job item.id ++ codes ":granted:" ++ decimal item.length ++ codes ":" ++ decimal item.depth
 
--- each item behind a space
+-- each item after a space
 abbrev pub own_items_text : ℕ → List OwnItem → List ℕ
 own_items_text job [] = []
 own_items_text job (item ∷ items) = codes " " ++ own_item_text job item ++ own_items_text job items
@@ -84,7 +84,7 @@ reply_text job (reply.Work work) = work_text work
 reply_text job reply.NoWork = codes "none"
 reply_text job (reply.Refused refusal) = refusal_text refusal
 
--- what a step is answered: what is told, and of a delivery whether there was a message
+-- the answer to a step: the reply, and of a delivery whether there was a message
 abbrev pub answer_text : ℕ → StepAnswer → List ℕ
 answer_text job (answer.Told reply) = reply_text job reply
 answer_text job (answer.HandedOver message) = codes "ok"

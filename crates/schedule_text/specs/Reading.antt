@@ -25,7 +25,7 @@ use Rattle.schedule_text.specs.Words.{word_text, verb_text, outcome_text}
 
 -- ---- commands
 
--- the command that a word and the fields behind it spell, where the job speaks
+-- the command that a word and the fields after it spell, for the job that speaks
 abbrev pub IsCommand : ℕ → Word → List (List ℕ) → Command (List ℕ) → Type 0
 IsCommand job word.Create fields c = IsMade (IsIdNumber job fields) (λ x. command.Create x.0 Primary x.1) c
 IsCommand job word.Copy fields c = IsMade (IsIdNumber job fields) (λ x. command.Create x.0 Secondary x.1) c
@@ -154,7 +154,7 @@ IsDeliver nodes _ x = ⊥
 abbrev pub no_key : JobKey
 no_key = record { 0 = replicate 32 0 }
 
--- what a line's first word and the fields behind it spell
+-- what a line's first word and the fields after it spell
 abbrev pub IsStep : ℕ → Verb → List (List ℕ) → Line → Type 0
 IsStep nodes verb.Admit fields x = IsMade (IsJobQuota nodes fields) (λ y. line.Step («step».At y.0.node (event.Admit y.0.job y.1 no_key))) x
 IsStep nodes verb.Quota fields x = IsMade (IsJobQuota nodes fields) (λ y. line.Step («step».At y.0.node (event.Requota y.0.job y.1))) x

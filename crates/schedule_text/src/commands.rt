@@ -9,7 +9,7 @@ use bytes::Bytes;
 use obj_id::{Command, JobNo, Kind};
 use std::alloc::{AllocError, Global};
 
-/// The command that a field and those behind it spell, where the job speaks.
+/// The command that a field and those after it spell, for the job that speaks.
 pub(crate) fn command(
     alloc: Global,
     first: &str,
@@ -25,7 +25,7 @@ pub(crate) fn command(
     }
 }
 
-/// The command that a word and the fields behind it spell.
+/// The command that a word and the fields after it spell.
 fn command_of(
     alloc: Global,
     word: Word,

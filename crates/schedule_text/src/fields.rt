@@ -22,7 +22,7 @@ pub(crate) fn long_number(field: &str) -> Option<u64>
     read_u64(field)
 }
 
-/// The number of one of so many nodes.
+/// The number of a node, below the number of nodes.
 pub(crate) fn node(field: &str, nodes: u32) -> Option<u32>
     ensures { Reads result (IsNode nodes field.now) }
 {

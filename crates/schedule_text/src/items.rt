@@ -6,7 +6,7 @@ ghost use Rattle.schedule_text.specs.Printing.{granted_item_text, granted_items_
 use obj_id::{CopyState, GrantedItem, JobNo, Kind, OwnItem};
 use std::alloc::{AllocError, Global};
 
-/// `list`, then each item behind a space, with ids as the job names them.
+/// `list`, then each item after a space, with ids as the job names them.
 pub(crate) fn list_text(
     alloc: Global,
     job: JobNo,
@@ -21,7 +21,7 @@ pub(crate) fn list_text(
     format!(in alloc; "list{own}{granted}")
 }
 
-/// The job's own items, each behind a space.
+/// The job's own items, each after a space.
 fn own_items(alloc: Global, job: JobNo, items: &[OwnItem]) -> Result<String, AllocError>
     ensures { IfOk result (λ text. string_bytes text ≡ own_items_text job.0 items.now) }
 {
@@ -34,7 +34,7 @@ fn own_items(alloc: Global, job: JobNo, items: &[OwnItem]) -> Result<String, All
     Ok(text)
 }
 
-/// The items granted to the job, each behind a space.
+/// The items granted to the job, each after a space.
 fn granted_items(alloc: Global, job: JobNo, items: &[GrantedItem]) -> Result<String, AllocError>
     ensures { IfOk result (λ text. string_bytes text ≡ granted_items_text job.0 items.now) }
 {

@@ -25,8 +25,8 @@ struct Speaker {
     session: u32,
 }
 
-/// What a line of a schedule says, where there are so many nodes, numbered from 0. The text is the
-/// line's without its line feed. `None` where it isn't a step.
+/// What a line of a schedule says to a world with this number of nodes, which are numbered from 0. The
+/// text is the line's without its line feed. `None` if it isn't a step.
 pub fn read_line(alloc: Global, text: &str, nodes: u32) -> Result<Option<Line>, AllocError>
     ensures { IfOk result (λ line. Reads line (IsLine nodes text.now)) }
 {
@@ -67,7 +67,7 @@ fn step_line(alloc: Global, fields: &[&str], nodes: u32) -> Result<Option<Line>,
     }
 }
 
-/// The step that a first word and the fields behind it spell.
+/// The step that a first word and the fields after it spell.
 fn step_of(
     alloc: Global,
     verb: Verb,

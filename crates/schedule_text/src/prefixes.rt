@@ -31,7 +31,7 @@ impl Prefix {
         }
     }
 
-    /// The job that ids are printed for: that of the session, else the number of no job.
+    /// The job that ids are printed for: that of the session, otherwise the number of no job.
     pub fn speaker(self) -> JobNo
         ensures { result.0 ≡ speaker_lem self }
     {

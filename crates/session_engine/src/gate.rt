@@ -12,8 +12,8 @@ pub trait Gate {
     // the gate before, what it is asked, what it answers, and the gate after
     ghost gives: { Self → Asked → Answered → Self → Type 0 };
 
-    /// Lets a session into the job, whose key it shows, and gives its number. `NotAdmitted` where
-    /// the job isn't live here or has another key, `TooMany` where its numbers are used up, and
+    /// Lets a session into the job, whose key it shows, and gives its number. `NotAdmitted` if
+    /// the job isn't live here or has another key, `TooMany` if its numbers are used up, and
     /// `NoMemory`.
     fn enter(&mut self, job: JobNo, key: JobKey) -> Result<u32, Refusal>
         ensures gives { gives self.old (to_enter job key) (entry_of result) self.new }

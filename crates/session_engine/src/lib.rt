@@ -1,5 +1,5 @@
-//! One session over any reader and writer. A contract sees what was read and written as bytes, where
-//! the reader and the writer tell them, and the gate behind the session by a relation of its own.
+//! One session over any reader and writer. A contract sees what was read and written as bytes, as far as
+//! the reader and the writer tell them, and the gate that the session calls by a relation of its own.
 #![tactic(auto)]
 
 mod ending;

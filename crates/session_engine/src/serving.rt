@@ -30,14 +30,14 @@ pub enum Heard {
 /// Serves a session to its end: answers what the reader gives, item by item, and then asks the gate for
 /// the Leave of a session that has entered.
 ///
-/// Before an accepted Hello a command is answered `NotAdmitted`, after it a Hello `Exists`; an id that
-/// can't be is answered `BadId` always, and all else by the gate. What isn't a frame is answered
+/// Before an accepted Hello a command is answered `NotAdmitted`, after it a Hello `Exists`. An invalid id
+/// is always answered `BadId`, and everything else is answered by the gate. What isn't a frame is answered
 /// `Malformed`, once and last.
 ///
-/// `Read` comes where a read fails, or is past the 18,446,744,073,709,551,615th: all that was read is
-/// answered then. `Write` comes where a write or a flush fails, and nothing is said of how much went out.
-/// `Memory` comes where the process has none for what is read or for an answer's frame: what was written
-/// then is the frames of the first replies.
+/// `Read` comes if a read fails, or is past the 18,446,744,073,709,551,615th: all that was read is answered
+/// then. `Write` comes if a write or a flush fails, and nothing is said of how much was written. `Memory`
+/// comes if the process is out of memory for what is read or for an answer's frame: what was written then
+/// is the frames of the first replies.
 pub fn serve<R: Read, W: Write, G: Gate>(
     alloc: Global,
     reader: &mut R,
@@ -95,7 +95,7 @@ fn answer_pieces<R: Read, W: Write, G: Gate>(
             Ok(Heard::NoFrame) => return Ok(Ended::Malformed),
             Ok(Heard::Items) => {}
         }
-        // a fault of the stream that waits behind those items
+        // a fault of the stream that waits after those items
         match hear(alloc, &mut frames, writer, gate, seat, &[]) {
             Err(fault) => return Err(fault),
             Ok(Heard::NoFrame) => return Ok(Ended::Malformed),

@@ -68,7 +68,7 @@ fn answer_seated<G: Gate>(gate: &mut G, seat: Seat, item: Item) -> Reply<Bytes>
     }
 }
 
-/// Releases all that the session holds, where it has entered. The answer is told to nobody.
+/// Releases all that the session holds, if it has entered. The answer isn't written.
 pub(crate) fn leave<G: Gate>(gate: &mut G, seat: Option<Seat>)
     ensures { Leaves G.gives seat gate.old gate.new }
 {

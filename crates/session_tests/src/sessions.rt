@@ -26,7 +26,7 @@ const SEAL: &str = "0000001d0400000000000000000000000000000000000000010000000100
 
 const GET: &str = "0000001d0500000000000000000000000000000000000000010000000100000001";
 
-/// Of an id that can't be.
+/// Of an invalid id.
 const GET_OF_NO_ID: &str = "0000001d0500000000000000000000000000000000000000000000000000000000";
 
 const GET_WAIT: &str = "0000001d1300000000000000000000000000000000000000010000000100000001";
@@ -52,7 +52,7 @@ const EXISTS: &str = "000000028f03";
 
 const MALFORMED: &str = "000000028f14";
 
-/// The bytes of all texts, one behind the other.
+/// The bytes of all texts, one after another.
 fn joined(alloc: Global, texts: &[&str]) -> Result<Vec<u8>, FromHexError> {
     let mut bytes = Vec::new(alloc);
     for text in texts {
@@ -62,7 +62,7 @@ fn joined(alloc: Global, texts: &[&str]) -> Result<Vec<u8>, FromHexError> {
     Ok(bytes)
 }
 
-/// The same, once more where memory was wanting.
+/// The same, once more if memory ran out.
 fn bytes_of(alloc: Global, texts: &[&str]) -> Result<Vec<u8>, FromHexError> {
     match joined(alloc, texts) {
         Err(FromHexError::OutOfMemory) => joined(alloc, texts),
@@ -162,7 +162,7 @@ fn session_once(alloc: Global, input: &[u8], way: Way) -> Result<Session, AllocE
     })
 }
 
-/// A session, once more where memory was wanting: what was written then is a beginning.
+/// A session, once more if memory ran out: what was written then is a beginning.
 fn served(
     rt: &impl Abort,
     alloc: Global,
@@ -209,7 +209,7 @@ const ROWS: [(&[&str], &[&str], Ended); 12] = [
         Ended::Malformed,
     ),
     (&[HELLO, GET_OF_NO_ID], &[OK, BAD_ID], Ended::Clean),
-    // nothing is answered behind what isn't a frame
+    // nothing is answered after what isn't a frame
     (
         &[HELLO, NO_KIND, CREATE],
         &[OK, MALFORMED],
@@ -266,7 +266,7 @@ fn sessions_are_answered_wherever_they_are_cut(rt: HostRuntime) -> Result<(), Fa
     Ok(())
 }
 
-/// Inputs and answers, and how often the gate is told of a Leave.
+/// Inputs and answers, and how often the gate is asked for a Leave.
 const LEAVES: [(&[&str], &[&str], u32); 4] = [
     (&[LEAVE], &[NOT_ADMITTED], 0),
     (&[HELLO_WITH_ANOTHER_KEY], &[NOT_ADMITTED], 0),
@@ -326,7 +326,7 @@ fn each_read_fails_in_turn(rt: HostRuntime) -> Result<(), Fail> {
     let alloc = rt.alloc();
     let input = worked_session(alloc)?;
     let whole = worked_answers(alloc)?;
-    // one byte comes at a time, and the read behind the last one tells the end
+    // one byte comes at a time, and the read after the last one tells the end
     for come in 0..=input.len() {
         let way = Way {
             at_once: 1,

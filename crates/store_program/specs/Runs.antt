@@ -23,7 +23,7 @@ pub record RunsStep (old : Hosting) (step : Step) (new : Hosting) (written_old w
   pub after : (nodes memory : ℕ) (history : List Traced) → IsAfter nodes memory old history → IsAfter nodes memory new (record { step = step; answer = answer } ∷ history)
   pub written : Appends written_old written_new (line_text (prefix_of step) answer)
 
--- a step of which no answer is written, but perhaps a part where the output failed
+-- a step of which no answer is written, but perhaps a part if the output failed
 abbrev pub StopsStep : Option (List ℕ) → Option (List ℕ) → Fault → Type 0
 StopsStep written_old written_new (NotAStep n) = ⊥
 StopsStep written_old written_new Input = ⊥
@@ -38,14 +38,14 @@ pub record RunsLine (nodes : ℕ) (bytes : List ℕ) (old new : Hosting) (writte
   pub after : (memory : ℕ) (history : List Traced) → IsAfter nodes memory old history → IsAfter nodes memory new (with_answered heard.answered history)
   pub written : Appends written_old written_new (printed heard.answered)
 
--- a line at which the run stops: nothing is written, but where the output failed
+-- a line at which the run stops: nothing is written, unless the output failed
 abbrev pub StopsRun : ℕ → ℕ → List ℕ → Option (List ℕ) → Option (List ℕ) → Fault → Type 0
 StopsRun nodes number bytes written_old written_new (NotAStep n) = (n ≡ number) × IsNoLine nodes bytes × Keeps written_old written_new
 StopsRun nodes number bytes written_old written_new Input = ⊥
 StopsRun nodes number bytes written_old written_new Output = ⊤
 StopsRun nodes number bytes written_old written_new NoMemory = Keeps written_old written_new
 
--- reading fails for the input, or for want of memory
+-- reading fails for the input, or out of memory
 abbrev pub IsReadingFault : Fault → Type 0
 IsReadingFault (NotAStep n) = ⊥
 IsReadingFault Input = ⊤
@@ -76,7 +76,7 @@ EndsAt nodes number bytes read_old input (Err Input) = ⊤
 EndsAt nodes number bytes read_old input (Err Output) = ⊤
 EndsAt nodes number bytes read_old input (Err NoMemory) = ⊤
 
--- what a run wrote; where the output failed, nobody knows
+-- what a run wrote; if the output failed, nobody knows
 abbrev pub IsOutput : Option (List ℕ) → Option (List ℕ) → List ℕ → Result ⊤ Fault → Type 0
 IsOutput written_old written_new text (Err Output) = ⊤
 IsOutput written_old written_new text (Err (NotAStep n)) = Appends written_old written_new text

@@ -1,16 +1,49 @@
-//! What ends a run before its input does.
-use thiserror::Error;
+//! What ends a run before its input does, and what the process then says.
+ghost use Rattle.std.specs.Prelude.{◌≡◌};
+ghost use Rattle.store_program.specs.Endings.{status_of as status_of_lem};
 
-/// What ends a run before its input does, as it is printed.
-#[derive(Clone, Copy, Debug, PartialEq, Eq, Error)]
+use std::error::Error;
+use std::fmt;
+use std::fmt::{Display, Formatter};
+
+/// What ends a run before its input does.
+#[derive(Clone, Copy, Debug, PartialEq, Eq)]
 pub enum Fault {
     /// The line of this number, counted from 1, isn't a step that is built, or lacks its line feed.
-    #[error("store: line {0}: not a step")]
     NotAStep(u64),
-    #[error("store: input failed")]
+    /// The input can't be read.
     Input,
-    #[error("store: output failed")]
+    /// The output can't be written.
     Output,
-    #[error("store: no memory")]
+    /// Out of memory outside a step.
     NoMemory,
+}
+
+/// The line that the process writes to standard error, without its line feed.
+impl Display for Fault {
+    ghost use Rattle.std.specs.Prelude.{Some};
+    ghost use Rattle.store_program.specs.Endings.{fault_text};
+
+    ghost output = { λ fault. Some (fault_text fault) };
+
+    fn fmt<W: fmt::Write>(&self, f: &mut Formatter<W>) -> fmt::Result {
+        match self {
+            Fault::NotAStep(line) => write!(f, "store: line {line}: not a step"),
+            Fault::Input => f.write_str("store: input failed"),
+            Fault::Output => f.write_str("store: output failed"),
+            Fault::NoMemory => f.write_str("store: no memory"),
+        }
+    }
+}
+
+impl Error for Fault {}
+
+/// The status with which the process ends: 0 after a run to the end of its input, 1 after a fault.
+pub fn status_of(outcome: &Result<(), Fault>) -> u8
+    ensures { result ≡ status_of_lem outcome.now }
+{
+    match outcome {
+        Ok(()) => 0,
+        Err(_) => 1,
+    }
 }

@@ -19,7 +19,7 @@ pub enum Said {
     NoStep,
 }
 
-/// What a text says, the line's without its line feed, where there are so many nodes.
+/// What the text of a line, without its line feed, says to a world with this number of nodes.
 pub fn hear(alloc: Global, text: &[u8], nodes: u32) -> Result<Said, AllocError>
     ensures { IfOk result (λ said. IsSaid nodes text.now said) }
 {

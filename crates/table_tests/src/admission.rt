@@ -11,7 +11,7 @@ fn quota(window: u64) -> Quota {
     Quota { window, device: 0 }
 }
 
-/// Admits, once more where memory was wanting.
+/// Admits, once more if memory ran out.
 fn admitted(node: &mut Admission, job: u32, window: u64) -> Result<(), Refusal> {
     match node.admit(JobNo(job), quota(window), KEY) {
         Err(Refusal::NoMemory) => node.admit(JobNo(job), quota(window), KEY),

@@ -17,7 +17,7 @@ fn copy_at(node: u32, length: u32) -> Location {
     }
 }
 
-/// Adds an entry, once more where memory was wanting.
+/// Adds an entry, once more if memory ran out.
 fn add(directory: &mut Directory, job: JobNo, id: ObjectId, copy: Location) -> Result<(), Refusal> {
     match directory.apply(job, DirectoryMessage::AddLocation(id, copy)) {
         Ok(_) => Ok(()),
@@ -28,7 +28,7 @@ fn add(directory: &mut Directory, job: JobNo, id: ObjectId, copy: Location) -> R
     }
 }
 
-/// Asks, once more where memory was wanting.
+/// Asks, once more if memory ran out.
 fn located(directory: &mut Directory, job: JobNo, id: ObjectId) -> Result<DirectoryReply, Refusal> {
     match directory.apply(job, DirectoryMessage::Locate(id, 3, 77)) {
         Ok(reply) => Ok(reply),

@@ -36,7 +36,7 @@ fn located_at(node: u32, bytes: &[u8]) -> Location {
     }
 }
 
-/// A fetch that asks the source for both chunks, begun once more where memory was wanting.
+/// A fetch that asks the source for both chunks, begun once more if memory ran out.
 fn pulling(alloc: Global, bytes: &[u8]) -> Result<FetchIn, Refusal> {
     let mut fetch = FetchIn::new(alloc, NUMBER);
     fetch.located(
@@ -54,7 +54,7 @@ fn pulling(alloc: Global, bytes: &[u8]) -> Result<FetchIn, Refusal> {
     Ok(fetch)
 }
 
-/// The chunks that are asked for, once more where memory was wanting.
+/// The chunks that are asked for, once more if memory ran out.
 fn served(alloc: Global, bytes: &[u8], indexes: &[u32]) -> Result<Vec<PeerMessage>, Refusal> {
     match chunks_asked(alloc, bytes, an_id()?, NUMBER, indexes) {
         Ok(chunks) => Ok(chunks),

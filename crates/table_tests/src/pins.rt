@@ -4,7 +4,7 @@ use pins_holds::Pins;
 use std::process::Abort;
 use std::test::Fail;
 
-/// A hold, asked for once more where memory was wanting: then nothing has changed.
+/// A hold, asked for once more if memory ran out: then nothing has changed.
 fn hold(rt: &impl Abort, pins: &mut Pins, session: u32) -> Result<(), Refusal> {
     let before = pins.holds_of(session);
     match pins.hold(session) {
@@ -16,7 +16,7 @@ fn hold(rt: &impl Abort, pins: &mut Pins, session: u32) -> Result<(), Refusal> {
     }
 }
 
-/// A borrow, asked for once more where memory was wanting: then nothing has changed.
+/// A borrow, asked for once more if memory ran out: then nothing has changed.
 fn borrow(rt: &impl Abort, pins: &mut Pins, task: TaskNo) -> Result<(), Refusal> {
     match pins.borrow(task) {
         Err(Refusal::NoMemory) => {

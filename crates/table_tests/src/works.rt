@@ -12,7 +12,7 @@ fn object(job: JobNo, index: u32) -> Result<ObjectId, Refusal> {
     ObjectId::new(TaskNo::numbered(1), job, index)
 }
 
-/// Asks for a write, once more where memory was wanting: then nothing has changed.
+/// Asks for a write, once more if memory ran out: then nothing has changed.
 fn ask(rt: &impl Abort, works: &mut Works, job: JobNo, index: u32) -> Result<u64, Refusal> {
     let id = object(job, index)?;
     let used = works.asked(job);

@@ -15,7 +15,7 @@ const DEVICE: Prefix = Prefix::Device(0);
 
 const OPERATOR: Prefix = Prefix::Operator(1);
 
-/// The line, asked for once more where memory was wanting.
+/// The line, asked for once more if memory ran out.
 fn line(alloc: Global, prefix: Prefix, answer: &StepAnswer) -> Result<String, AllocError> {
     match answer_line(alloc, prefix, answer) {
         Ok(line) => Ok(line),
@@ -47,7 +47,7 @@ fn own(
     Ok(items)
 }
 
-/// One own item, built once more where memory was wanting.
+/// One own item, built once more if memory ran out.
 fn one(
     alloc: Global,
     id: ObjectId,

@@ -6,7 +6,7 @@ use schedule_text::{Line, Outcome, Prefix, read_line};
 use std::alloc::{AllocError, Global};
 use std::test::Fail;
 
-/// What the line says, asked for once more where memory was wanting.
+/// What the line says, asked for once more if memory ran out.
 fn read(alloc: Global, text: &str) -> Result<Option<Line>, AllocError> {
     match read_line(alloc, text, 2) {
         Ok(line) => Ok(line),
