@@ -97,11 +97,7 @@ fn a_restore_seals_again_or_leaves_a_fault(rt: HostRuntime) -> Result<(), Fail> 
             CopyState::Away,
             Some(Fault::DeviceFailed),
         ),
-        (
-            WorkVerdict::Damaged,
-            CopyState::Away,
-            Some(Fault::Damaged),
-        ),
+        (WorkVerdict::Damaged, CopyState::Away, Some(Fault::Damaged)),
     ];
     for (verdict, state, fault) in rows {
         let mut copy = restoring(&rt)?;

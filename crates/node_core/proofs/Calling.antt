@@ -37,10 +37,10 @@ module _ (node job : ℕ) (row : Row) (line : WorkLine) (session : ℕ) (content
   not_granted command.List other = absurd cc
   not_granted command.Usage other = absurd cc
   not_granted command.Leave other = absurd cc
-  not_granted (command.Unpin id task) other = absurd cc
-  not_granted (command.Borrow id task) other = absurd cc
-  not_granted (command.GiveUp id task) other = absurd cc
-  not_granted (command.Delete id) other = absurd cc
+  not_granted (command.Unpin id task) other = stays node row line contents h (input.Call session (command.Unpin id task)) (reply.Refused NotGranted) (foreign_is id (command.Unpin id task) _ other refl) refl refl
+  not_granted (command.Borrow id task) other = stays node row line contents h (input.Call session (command.Borrow id task)) (reply.Refused NotGranted) (foreign_is id (command.Borrow id task) _ other refl) refl refl
+  not_granted (command.GiveUp id task) other = stays node row line contents h (input.Call session (command.GiveUp id task)) (reply.Refused NotGranted) (foreign_is id (command.GiveUp id task) _ other refl) refl refl
+  not_granted (command.Delete id) other = stays node row line contents h (input.Call session (command.Delete id)) (reply.Refused NotGranted) (foreign_is id (command.Delete id) _ other refl) refl refl
   not_granted (command.EndTask task) other = absurd cc
   not_granted (command.Grant id target) other = absurd cc
   not_granted (command.Withdraw id target) other = absurd cc

@@ -10,7 +10,7 @@ use Rattle.spill_work.specs.Line.{WorkLine}
 use Rattle.node_table.specs.Row.{Row}
 use Rattle.node_table.specs.Shown.{IsShown, Given, TakesStep}
 
--- whether the object that a built command names, if it names one, is the job's
+-- whether the object that the command names, if it must name an own one, is the job's
 abbrev pub is_own : ℕ → Command (List ℕ) → Bool
 is_own job (command.Create id kind n) = id.job.0 == job
 is_own job (command.Write id offset bytes) = id.job.0 == job
@@ -18,6 +18,10 @@ is_own job (command.Seal id) = id.job.0 == job
 is_own job (command.Get id) = id.job.0 == job
 is_own job (command.Read id offset n) = id.job.0 == job
 is_own job (command.Release id) = id.job.0 == job
+is_own job (command.Unpin id task) = id.job.0 == job
+is_own job (command.Borrow id task) = id.job.0 == job
+is_own job (command.GiveUp id task) = id.job.0 == job
+is_own job (command.Delete id) = id.job.0 == job
 is_own job _ = true
 
 -- the job's row and works take the command's step, whatever contents it shows

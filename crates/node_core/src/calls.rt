@@ -70,7 +70,7 @@ pub(crate) fn carry_out(
     Ok(Outcome::only(alloc, reply))
 }
 
-/// Whether the object that the command names, if it names one, is the job's.
+/// Whether the object that the command names, if it must name an own one, is the job's.
 fn is_own(job: JobNo, command: &Command<Bytes>) -> bool
     ensures { result ≡ is_own_lem job.0 command.now }
 {
@@ -80,16 +80,13 @@ fn is_own(job: JobNo, command: &Command<Bytes>) -> bool
         | Command::Seal(id)
         | Command::Get(id)
         | Command::Read(id, _, _)
-        | Command::Release(id) => id.job().0 == job.0,
-        Command::List | Command::Usage | Command::Leave => true,
-        // not built
-        Command::Unpin(..)
-        | Command::Borrow(..)
-        | Command::GiveUp(..)
-        | Command::Delete(_)
-        | Command::EndTask(_)
-        | Command::Grant(..)
-        | Command::Withdraw(..)
-        | Command::Peek(..) => true,
+        | Command::Release(id)
+        | Command::Unpin(id, _)
+        | Command::Borrow(id, _)
+        | Command::GiveUp(id, _)
+        | Command::Delete(id) => id.job().0 == job.0,
+        // of hands it is the grants that tell
+        Command::Grant(..) | Command::Withdraw(..) | Command::Peek(..) => true,
+        Command::EndTask(_) | Command::List | Command::Usage | Command::Leave => true,
     }
 }

@@ -31,13 +31,13 @@ use bytes::Bytes;
 pub use foreseen::Foreseen;
 use indexmap::IndexMap;
 use job_admission::Admission;
-use node_table::JobRow;
 pub use node_table::Erase;
-pub use outcome::{Note, Outcome};
+use node_table::JobRow;
 use obj_id::{
     Command, DirectoryMessage, JobKey, JobNo, Message, ObjectId, Place, Quota, Refusal, Reply,
     Usage,
 };
+pub use outcome::{Note, Outcome};
 use private_store::Event;
 use spill_work::Works;
 use std::alloc::Global;
@@ -199,7 +199,12 @@ impl Node {
     }
 
     /// The operator admits a job. All growth comes before the first change.
-    fn admit(&mut self, job: JobNo, quota: Quota, key: JobKey) -> Result<node_table::Outcome, Refusal>
+    fn admit(
+        &mut self,
+        job: JobNo,
+        quota: Quota,
+        key: JobKey,
+    ) -> Result<node_table::Outcome, Refusal>
         ensures ok { IfOk result (λ o. StepsOne self.old (event.Admit job quota key) (row_given_of o) self.new) }
         ensures silent { IfOk result (λ o. o.messages ≡ []) }
         ensures late { OnErr result (admit_check self.old.admissions job quota ≡ None) }

@@ -87,10 +87,10 @@ module _ (store : Shape) (n : ℕ) where
   room_late order = by (victims order store n) (spilled order store n)
     where
       by : (o p : Option (List ObjectId)) → late_offset store (room_by store n (elim o [
-          | Some [] ↦ fits
-          | Some (id ∷ ids) ↦ evict (id ∷ ids)
-          | None ↦ elim p [ Some [] ↦ wait | Some (id ∷ ids) ↦ spill_plan store (id ∷ ids) | None ↦ full ]
-        ])).offset ≡ true
+        | Some [] ↦ fits
+        | Some (id ∷ ids) ↦ evict (id ∷ ids)
+        | None ↦ elim p [ Some [] ↦ wait | Some (id ∷ ids) ↦ spill_plan store (id ∷ ids) | None ↦ full ]
+      ])).offset ≡ true
       by (Some []) p = evicted_late []
       by (Some (id ∷ ids)) p = evicted_late (id ∷ ids)
       by None (Some []) = refl
