@@ -97,10 +97,10 @@ module _ (after : Shape) (bytes : ById (List ℕ)) (digests : ById Digest) (rece
   bytes_there : (id : ObjectId) (copy : Copy) → at after.copies id ≡ Some copy → is_some copy.offset ≡ true → at refilled.bytes id ≡ Some (filled (at bytes id) copy)
   bytes_there id copy e s = at-kept resides zeros bytes after.copies sorted id ∙ ap (kept_row resides zeros bytes id) e ∙ ap (λ b. cond b (Some (filled (at bytes id) copy)) None) s
 
-  digest_there : (id : ObjectId) (copy : Copy) → at after.copies id ≡ Some copy → keeps_digest copy ≡ true → at refilled.digests id ≡ Some (unwrap_or (at digests id) no_digest)
+  pub digest_there : (id : ObjectId) (copy : Copy) → at after.copies id ≡ Some copy → keeps_digest copy ≡ true → at refilled.digests id ≡ Some (unwrap_or (at digests id) no_digest)
   digest_there id copy e s = at-kept keeps_digest (λ copy. no_digest) digests after.copies sorted id ∙ ap (kept_row keeps_digest (λ copy. no_digest) digests id) e ∙ ap (λ b. cond b (Some (unwrap_or (at digests id) no_digest)) None) s
 
-  sealed_keeps : (copy : Copy) → is_sealed copy.state ≡ true → keeps_digest copy ≡ true
+  pub sealed_keeps : (copy : Copy) → is_sealed copy.state ≡ true → keeps_digest copy ≡ true
   sealed_keeps copy e = ap (λ b. cond b true (option_map_or (λ fetch. is_sized fetch.phase) copy.fetch false)) (was copy.state e)
     where
       was : (state : CopyState) → is_sealed state ≡ true → was_sealed state ≡ true

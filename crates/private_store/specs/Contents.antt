@@ -223,6 +223,12 @@ contents_after node view x y told after =
       received = kept (λ seen. true) (λ seen. []) (brought view.contents.received (bytes_received x)) after.received;
     }
 
+-- whether the input can bring the last bytes of a copy: a device answers, or a chunk comes
+abbrev pub completes : Input → Bool
+completes (input.Answer number answer) = true
+completes (input.Arrive (arrival.FromPeer from (peer.Chunk id number index bytes))) = true
+completes _ = false
+
 -- ---- what is told
 
 abbrev pub bytes_told : View → Input → List ℕ

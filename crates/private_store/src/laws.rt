@@ -12,9 +12,11 @@ ghost use Rattle.private_store.specs.declared.schedules.StepAnswer.TheVariants.{
 ghost use Rattle.private_store.specs.declared.schedules.Traced.{Traced};
 ghost use Rattle.private_store.specs.declared.inputs.Judged.{Judged};
 ghost use Rattle.private_store.specs.Extents.{first, is_free};
-ghost use Rattle.private_store.specs.Shape.{Shape, unbegun};
+ghost use Rattle.private_store.specs.Shape.{Copy, Shape, unbegun};
+ghost use Rattle.private_store.specs.Tables.{at};
+ghost use Rattle.private_store.specs.Copies.{is_sealed};
 ghost use Rattle.private_store.specs.Step.{step};
-ghost use Rattle.private_store.specs.Contents.{View, judge};
+ghost use Rattle.private_store.specs.Contents.{View, judge, bytes_at, digest_at, digest_of, completes};
 ghost use Rattle.private_store.specs.Private.{view_of, view_step, view_from, view_replies, no_store, store_from, private_replies};
 ghost use Rattle.private_store.specs.Replay.{Brief, Line, brief_of, unbegun_brief, brief_after, replayed, lines_from, IsReplayed};
 ghost use Rattle.private_store.specs.Refusing.{RefusesCleanly};
@@ -57,8 +59,8 @@ pub fn journals_replay()
 {}
 
 /// A step that refuses leaves the store as it was; but a device fault, damage or a fetch's failure is
-/// told of once and forgotten, and a caller that is to ask again may have made room, asked for works or
-/// begun a fetch.
+/// told of once and forgotten, and a caller that is to ask again may have made room, asked for works, or
+/// begun a fetch, a restore or a pull, and nothing else.
 pub fn refusals_change_nothing()
     ensures { (order : List ObjectId) (store : Shape) (x : Judged) → RefusesCleanly store (step order store x) }
 {}
@@ -100,6 +102,21 @@ pub fn answers_are_small()
 pub fn each_input_sends_its_own()
     ensures own { (order : List ObjectId) (store : Shape) (x : Judged) → list_all (may_send x) (step order store x).sent ≡ true }
     ensures silent { (order : List ObjectId) (store : Shape) (x : Judged) → is_silent x ≡ true → (step order store x).sent ≡ [] }
+{}
+
+/// What a device's answer or a chunk leaves sealed has the bytes of the digest that stood before it: those that
+/// were sealed, unless two texts have that digest.
+pub fn completed_copies_have_the_sealed_bytes()
+    ensures digest { (node : ℕ) (view : View) (x : Input) (id : ObjectId) (copy : Copy)
+        → IsViewKept view → completes x ≡ true
+        → at (view_step node view x).view.shape.copies id ≡ Some copy → is_sealed copy.state ≡ true
+        → digest_of (bytes_at (view_step node view x).view.contents.bytes id) ≡ digest_at view.contents.digests id }
+    ensures bytes { (node : ℕ) (view : View) (x : Input) (id : ObjectId) (copy : Copy) (text : List ℕ)
+        → IsViewKept view → completes x ≡ true
+        → at (view_step node view x).view.shape.copies id ≡ Some copy → is_sealed copy.state ≡ true
+        → digest_at view.contents.digests id ≡ digest_of text
+        → ((other : List ℕ) → digest_of other ≡ digest_of text → other ≡ text)
+        → bytes_at (view_step node view x).view.contents.bytes id ≡ text }
 {}
 
 /// The invariants of a store: what a store that was never admitted keeps, what every input keeps, and so
