@@ -1,5 +1,5 @@
 //! The order of use of one job's copies.
-ghost use Rattle.std.specs.Prelude.{◌≡◌, ◌++◌, ◌∷◌, [], IfOk, OnOk, OnErr, length, nat_eq, reverse};
+ghost use Rattle.std.specs.Prelude.{◌≡◌, ◌++◌, ◌∷◌, [], true, IfOk, OnOk, OnErr, IsOk, length, nat_eq, reverse};
 ghost use Rattle.std.specs.Map.{keys_of};
 ghost use Rattle.private_store.specs.Tables.{is_among};
 ghost use Rattle.lru_evictor.specs.Orders.{without_id, last_used, touched};
@@ -42,6 +42,7 @@ impl JobOrder {
     /// Makes the id the most recently used, whether or not it was there.
     pub(crate) fn enter(&mut self, id: ObjectId) -> Result<(), AllocError>
         ensures ok { OnOk result (self.new ≡ last_used id self.old) }
+        ensures succeeds { is_among self.old id ≡ true → IsOk result }
         ensures err { OnErr result (self.new ≡ self.old) }
     {
         // What the count says of the cache is what the proof needs.

@@ -11,11 +11,9 @@ use crate::facts::{Choice, CopyLookup, DeviceRoom, Plan};
 use crate::search::{gather, shortest};
 use crate::use_order::UseOrder;
 use job_region::Window;
+use obj_id::limits::MOST_WORKS;
 use obj_id::{Items, JobNo, ObjectId, Refusal};
 use std::alloc::Global;
-
-/// As many device works as a job may have in flight.
-const MOST_WORKS: usize = 8;
 
 impl UseOrder {
     /// How room for an object of `len` bytes is made in the job's window, by the rule of room over the

@@ -1,5 +1,5 @@
 //! The order of use of the copies of all jobs.
-ghost use Rattle.std.specs.Prelude.{◌≡◌, ◌≢◌, ℕ, ◌++◌, ◌∷◌, [], IfOk, OnOk, OnErr, length};
+ghost use Rattle.std.specs.Prelude.{◌≡◌, ◌≢◌, ℕ, ◌++◌, ◌∷◌, [], true, IfOk, OnOk, OnErr, IsOk, length};
 ghost use Rattle.obj_id.specs.declared.refusals.Refusal.{Refusal};
 ghost use Rattle.private_store.specs.Tables.{is_among};
 ghost use Rattle.lru_evictor.specs.Orders.{order_of, without_id, without_ids, last_used, touched, ChangesOrder};
@@ -42,9 +42,10 @@ impl UseOrder {
     }
 
     /// Makes the id the job's most recently used, whether or not it was there. `NoMemory` alone, and then
-    /// nothing has changed.
+    /// nothing has changed; an id that is there takes no memory.
     pub fn enter(&mut self, job: JobNo, id: ObjectId) -> Result<(), Refusal>
         ensures ok { OnOk result (ChangesOrder self.old self.new job.0 (last_used id (order_of job.0 self.old))) }
+        ensures succeeds { is_among (order_of job.0 self.old) id ≡ true → IsOk result }
         ensures err { OnErr result (self.new ≡ self.old) }
         ensures memory { (r : Refusal) → result ≡ Err r → r ≡ Refusal.NoMemory }
     {
