@@ -1,18 +1,14 @@
 -- A built event is an input of its own job alone: so what is told of one job at a time is the step of all of them.
-use Rattle.std.proofs.Common.{◌≡◌, ℕ, Bool, true, false, not, cond, ◌==◌, ◌≤◌, ◌&&◌, ◌||◌, length, is_some, is_none, List, [], ◌∷◌, ◌++◌, map, filter, Option, Some, None, option_to_list, refl, sym, ap, subst, ◌∙◌, arith}
+use Rattle.std.proofs.Common.{◌≡◌, ℕ, Bool, true, false, not, cond, ◌==◌, ◌≤◌, ◌&&◌, ◌||◌, length, List, [], ◌∷◌, ◌++◌, map, filter, Option, Some, None, option_to_list, refl, sym, ap, subst, ◌∙◌, arith}
 use Rattle.std.specs.Prelude.{option_map, nat_lt, nat_le}
 use Rattle.std.specs.List.{list_all}
 use Rattle.std.specs.Option.{option_map_or}
-use Rattle.std.specs.Map.{lookup}
-use Rattle.std.proofs.lemmas.Bool.{eqb-true}
 use Rattle.std.proofs.lemmas.Bool.Decides.{nat_tests}
 use Rattle.std.proofs.lemmas.List.{append-nil}
-use Rattle.std.proofs.lemmas.List.Elements.{filter-append}
 use Rattle.obj_id.specs.declared.ids.JobNo.{JobNo}
 use Rattle.obj_id.specs.declared.works.Quota.{Quota}
 use Rattle.obj_id.specs.declared.works.JobKey.{JobKey}
 use Rattle.obj_id.specs.declared.refusals.Refusal.{Refusal}
-use Rattle.obj_id.specs.declared.commands.Command.{Command}
 use Rattle.obj_id.specs.declared.commands.Command.TheVariants as command
 use Rattle.obj_id.specs.declared.commands.Reply.{Reply}
 use Rattle.obj_id.specs.declared.commands.Reply.TheVariants as reply
@@ -23,8 +19,7 @@ use Rattle.private_store.specs.declared.schedules.Event.TheVariants as event
 use Rattle.private_store.specs.declared.schedules.NodeEvent.TheVariants.{Own}
 use Rattle.private_store.specs.Hands.{Hand, hands_ended}
 use Rattle.private_store.specs.Trace.{ends, hands_by}
-use Rattle.private_store.specs.NodeInputs.{JobInput, Before, wants_memory, unless_wanting, own_here, own_due, notes_of, notes_here, hands_after, only_of, inputs_to, withdrawn_here}
-use Rattle.private_store.specs.Shape.{WorkInFlight}
+use Rattle.private_store.specs.NodeInputs.{JobInput, Before, wants_memory, own_here, own_due, notes_of, notes_here, hands_after, only_of, inputs_to, withdrawn_here}
 use Rattle.private_store.specs.Contents.{View, judge}
 use Rattle.job_admission.specs.Admissions.{admit_check}
 use Rattle.private_store.specs.Private.{view_step, view_from}
@@ -34,11 +29,11 @@ use Rattle.node_table.specs.Asked.{HasAsked}
 use Rattle.node_table.specs.Row.{Row}
 use Rattle.node_table.specs.Shown.{Given as RowGiven}
 use Rattle.node_core.specs.Hosted.{Hosted, IsViewBy, Shows, ShowsAll, row_at}
-use Rattle.node_core.specs.Built.{is_built, is_built_command}
+use Rattle.node_core.specs.Built.{is_built}
 use Rattle.node_core.specs.OneJob.{input_of, view_by, view_after, IsGiven as IsRowGiven, IsOperatorAnswer as IsOneAnswer, IsLineAfter, StepsOne}
 use Rattle.node_core.specs.Outcomes.{with_no_notes}
 use Rattle.node_core.specs.Foreseen.{most_messages, unless_refused, judged_of, IsAsForeseen}
-use Rattle.node_core.specs.Steps.{before_of, job_of_event, IsGiven, answered, end_check, judged_notes, queued, line_left, asked_now, line_after, IsEventAnswer, admissions_after, lives_after, StepsFrom, Steps}
+use Rattle.node_core.specs.Steps.{before_of, job_of_event, IsGiven, answered, end_check, judged_notes, queued, line_left, asked_now, line_after, IsEventAnswer, StepsFrom, Steps}
 use Rattle.node_core.proofs.Never.{told_never}
 use Rattle.node_core.proofs.Lines.{above, above-used, asked_now_is}
 

@@ -1,22 +1,21 @@
 -- A step that passed every check is due an answer that is none of the early refusals.
-use Rattle.std.proofs.Common.{◌≡◌, ℕ, true, false, List, Option, Some, None, refl, sym, ap, subst, ◌∙◌}
-use Rattle.obj_id.specs.declared.ids.JobNo.{JobNo}
+use Rattle.std.proofs.Common.{◌≡◌, ℕ, true, List, sym, ap, subst, ◌∙◌}
 use Rattle.obj_id.specs.declared.commands.Command.{Command}
 use Rattle.obj_id.specs.declared.commands.Command.TheVariants as command
 use Rattle.private_store.specs.declared.inputs.Input.TheVariants as input
 use Rattle.private_store.specs.declared.schedules.Event.{Event}
 use Rattle.private_store.specs.declared.schedules.Event.TheVariants as event
 use Rattle.private_store.specs.declared.schedules.NodeEvent.TheVariants.{Own}
-use Rattle.private_store.specs.Contents.{Contents, View}
+use Rattle.private_store.specs.Contents.{Contents}
 use Rattle.private_store.specs.Private.{view_step}
 use Rattle.spill_work.specs.Line.{WorkLine}
 use Rattle.node_table.specs.Row.{Row, shape_of}
 use Rattle.node_table.specs.Late.{may_grow}
 use Rattle.node_table.specs.Shown.{seen, IsShown}
 use Rattle.node_table.proofs.Late.{create_late, seal_late, get_late, read_late, list_late}
-use Rattle.node_core.specs.Hosted.{Hosted, IsRowView, IsViewBy, Shows, ShowsAll, row_at}
+use Rattle.node_core.specs.Hosted.{Hosted, IsRowView, IsViewBy}
 use Rattle.node_core.specs.Built.{is_built, is_built_command}
-use Rattle.node_core.specs.Late.{is_accepted, may_want, IsLate, IsUnrefused, IsEventUnrefused}
+use Rattle.node_core.specs.Late.{is_accepted, IsLate, IsUnrefused, IsEventUnrefused}
 use Rattle.node_core.specs.Steps.{answered}
 use Rattle.node_core.proofs.Views.{view_is}
 

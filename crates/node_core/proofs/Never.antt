@@ -1,12 +1,11 @@
 -- No node answers that there is no memory: that is an error of the call, and never a reply.
-use Rattle.std.proofs.Common.{◌≡◌, ℕ, Bool, true, false, cond, not, ◌==◌, ◌&&◌, ◌||◌, List, [], ◌∷◌, length, Option, Some, None, is_some, is_none, refl, sym, ap, ◌∙◌}
+use Rattle.std.proofs.Common.{◌≡◌, ℕ, Bool, true, false, cond, not, ◌==◌, ◌&&◌, ◌||◌, List, [], ◌∷◌, length, Option, Some, None, is_some, is_none, refl, ap, ◌∙◌}
 use Rattle.std.specs.Prelude.{nat_le}
 use Rattle.std.specs.Option.{option_map_or}
 use Rattle.std.specs.List.{list_all, list_any}
 use Rattle.obj_id.specs.declared.ids.JobNo.{JobNo}
 use Rattle.obj_id.specs.declared.works.Quota.{Quota}
 use Rattle.obj_id.specs.declared.works.Work.{Work}
-use Rattle.obj_id.specs.declared.commands.Reply.{Reply}
 use Rattle.obj_id.specs.declared.commands.Reply.TheVariants as reply
 use Rattle.obj_id.specs.declared.refusals.Refusal.{Refusal}
 use Rattle.obj_id.specs.declared.refusals.Refusal.TheVariants.{NotAdmitted, BadId, BadSize, Exists, Full, NoRoom}
@@ -26,9 +25,9 @@ use Rattle.private_store.proofs.Tests.{true_false}
 use Rattle.spill_work.specs.declared.queue.Asked.{Asked}
 use Rattle.spill_work.specs.declared.queue.Queued.{Queued}
 use Rattle.spill_work.specs.Line.{front_of}
-use Rattle.job_admission.specs.Admissions.{Admissions, lives_of, live_at, admit_check, place_for}
+use Rattle.job_admission.specs.Admissions.{Admissions, lives_of, live_at, place_for}
 use Rattle.node_core.specs.Hosted.{Hosted}
-use Rattle.node_core.specs.Steps.{Given, is_taken, work_of, take_told, answered, requota_check, stale_unless, IsEventAnswer, IsGiven}
+use Rattle.node_core.specs.Steps.{Given, is_taken, work_of, take_told, answered, stale_unless, IsEventAnswer, IsGiven}
 
 abbrev checks_of : Admissions → JobNo → Quota → List (Bool × Refusal)
 checks_of a job quota =

@@ -19,21 +19,21 @@ use Rattle.private_store.specs.declared.inputs.Input.{Input}
 use Rattle.private_store.specs.declared.inputs.Input.TheVariants as input
 use Rattle.private_store.specs.Limits.{most_works, most_holds, has_numbers}
 use Rattle.private_store.specs.Tables.{at}
-use Rattle.private_store.specs.Shape.{Copy, Shape, Change, Fetch, add_location}
+use Rattle.private_store.specs.Shape.{Shape, Change, Fetch, add_location}
 use Rattle.private_store.specs.Copies.{is_created, is_sealed}
 use Rattle.private_store.specs.Kept.{is_fetching}
-use Rattle.private_store.specs.Room.{Plan, set_copy, fits, wait, full, busy, evict, spill, spill_plan, victims, spilled, plan, works_left, offset_without, room_by, make_room, no_room, asked}
+use Rattle.private_store.specs.Room.{set_copy, fits, wait, full, busy, evict, spill, spill_plan, victims, spilled, works_left, offset_without, room_by, make_room, no_room, asked}
 use Rattle.private_store.specs.Change.{refused, replied, done, sending, erasing}
 use Rattle.private_store.specs.Commands.{created, all_holds, holds_of, with_holds}
-use Rattle.private_store.specs.Contents.{Contents, View, brief, judge, whole_reply}
+use Rattle.private_store.specs.Contents.{Contents, View, judge, whole_reply}
 use Rattle.private_store.specs.Private.{view_step}
 use Rattle.private_store.specs.Step.{step}
 use Rattle.private_store.proofs.Checks.{checked-false, checked-nil}
 use Rattle.private_store.proofs.Tests.{true_false, none_some}
 use Rattle.spill_work.specs.Line.{WorkLine}
 use Rattle.node_table.specs.Kept.{Kept}
-use Rattle.node_table.specs.Row.{Row, copies_of, shape_of}
-use Rattle.node_table.specs.Checks.{create_check, seal_check, read_check, fetch_check, hold_check_of, get_check_of, get_check, early_check}
+use Rattle.node_table.specs.Row.{Row, shape_of}
+use Rattle.node_table.specs.Checks.{create_check, seal_check, read_check, fetch_check, hold_check_of, get_check_of, get_check}
 use Rattle.node_table.specs.Late.{is_planned, may_grow}
 use Rattle.node_table.specs.Shown.{seen, is_plain, IsShown}
 use Rattle.node_table.proofs.ByChecks.{unless_refused, called, own, read-by, seal-by, seal_done, sending-is}

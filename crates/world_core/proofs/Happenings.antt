@@ -13,7 +13,7 @@ use Rattle.obj_id.specs.declared.commands.Reply.{Reply}
 use Rattle.obj_id.specs.declared.commands.Reply.TheVariants as reply
 use Rattle.obj_id.specs.declared.commands.Command.{Command}
 use Rattle.obj_id.specs.declared.refusals.Refusal.{Refusal}
-use Rattle.obj_id.specs.declared.refusals.Refusal.TheVariants.{NoMemory, NotAdmitted, BadId, BadSize, Exists, Full, NoRoom, Stale}
+use Rattle.obj_id.specs.declared.refusals.Refusal.TheVariants.{NotAdmitted, BadId, BadSize, Exists, Full, NoRoom, Stale}
 use Rattle.private_store.specs.declared.inputs.Input.{Input}
 use Rattle.private_store.specs.declared.inputs.Input.TheVariants as input
 use Rattle.private_store.specs.declared.schedules.Event.{Event}
@@ -25,7 +25,6 @@ use Rattle.private_store.specs.Limits.{is_quota, most_live_jobs}
 use Rattle.private_store.specs.Extents.{first}
 use Rattle.private_store.specs.Tables.{at}
 use Rattle.private_store.specs.Shape.{Copy, WorkInFlight}
-use Rattle.private_store.specs.Copies.{fits_quota}
 use Rattle.private_store.specs.Jobs.{same_job}
 use Rattle.private_store.specs.Hands.{Hand}
 use Rattle.private_store.specs.Contents.{View}
@@ -33,7 +32,7 @@ use Rattle.private_store.specs.Private.{Store, view_of, view_step, private_outco
 use Rattle.private_store.specs.Cluster.{Cluster, at_node, input_at, told, told_from, cluster_from}
 use Rattle.private_store.specs.Cluster.{Told as ToldTo}
 use Rattle.private_store.specs.Trace.{hands_by, hands_step, hands_at, is_no_memory, out_after, is_out, cluster_until, reply_of, is_answered}
-use Rattle.private_store.specs.Shared.{AskedWork, LiveJob, leaves, waiting, asked_by, works_asked_by, outcome_works, is_admission, first_refusal, ok_unless, can_widen, holds_quota, store_at, admit_answer, requota_answer, take_answer, given_of, is_live_at, shared_answer, answer_due, lives_step}
+use Rattle.private_store.specs.Shared.{AskedWork, LiveJob, leaves, waiting, works_asked_by, outcome_works, is_admission, first_refusal, ok_unless, can_widen, holds_quota, store_at, admit_answer, requota_answer, take_answer, given_of, is_live_at, shared_answer, answer_due, lives_step}
 use Rattle.private_store.specs.Shared as shared
 use Rattle.private_store.proofs.Tests.{true_false, false_true, some_value, none_some, both_left, both_right, both}
 use Rattle.private_store.proofs.Runs.{cluster_until-step}
@@ -45,7 +44,7 @@ use Rattle.spill_work.specs.Line.{is_at, is_of, front_of}
 use Rattle.private_store.specs.declared.schedules.NodeEvent.TheVariants.{Own}
 use Rattle.private_store.specs.NodeInputs.{JobInput, Before, before_at, wants_memory, own_here, own_due, hands_after}
 use Rattle.node_core.specs.Hosted.{Hosted}
-use Rattle.node_core.specs.Steps.{is_taken, taken_if, line_left, work_of, take_told, answered, end_check, requota_check, stale_unless, IsEventAnswer, admissions_after, lives_after, IsGiven}
+use Rattle.node_core.specs.Steps.{is_taken, line_left, work_of, take_told, answered, end_check, requota_check, stale_unless, IsEventAnswer, admissions_after, lives_after, IsGiven}
 use Rattle.node_core.specs.Steps as steps
 use Rattle.world_core.specs.Worlds.{is_waiting, asked_of, untaken, IsNodeAfter}
 use Rattle.private_store.proofs.StepInputs.{given_there, want_same, own_is, inputs_are}

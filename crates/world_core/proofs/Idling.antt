@@ -1,11 +1,9 @@
 -- A world after a step that changes no node: one for which there was no memory.
-use Rattle.std.proofs.Common.{◌≡◌, ℕ, Bool, true, false, cond, not, ◌==◌, ◌||◌, ◌&&◌, List, [], ◌∷◌, ◌++◌, append-nil, length, map, filter, Some, None, option_to_list, slice_get, refl, sym, ap, ◌∙◌}
+use Rattle.std.proofs.Common.{◌≡◌, ℕ, Bool, true, false, cond, not, ◌==◌, ◌||◌, ◌&&◌, List, [], ◌∷◌, ◌++◌, append-nil, length, filter, Some, None, option_to_list, slice_get, refl, sym, ap, ◌∙◌}
 use Rattle.std.specs.Option.{option_map_or}
 use Rattle.std.specs.List.{list_any}
-use Rattle.obj_id.specs.declared.ids.JobNo.{JobNo}
 use Rattle.obj_id.specs.declared.refusals.Refusal.TheVariants.{NoMemory}
 use Rattle.obj_id.specs.declared.commands.Reply.TheVariants as reply
-use Rattle.obj_id.specs.declared.messages.Place.{Place}
 use Rattle.private_store.specs.declared.schedules.Event.TheVariants as event
 use Rattle.private_store.specs.declared.schedules.Step.{Step}
 use Rattle.private_store.specs.declared.schedules.Step.TheVariants.{At, Deliver}
@@ -13,8 +11,8 @@ use Rattle.private_store.specs.declared.schedules.StepAnswer.{StepAnswer}
 use Rattle.private_store.specs.declared.schedules.StepAnswer.TheVariants.{Told}
 use Rattle.private_store.specs.declared.schedules.Traced.{Traced}
 use Rattle.private_store.specs.Hands.{Hand}
-use Rattle.private_store.specs.Cluster.{Cluster, ClusterInput, deliver, cluster_step, cluster_from, told_from}
-use Rattle.private_store.specs.Trace.{Given, hands_at, hands_step, out_after, is_out, is_no_memory, own_input, notes, for_job, inputs_until, cluster_until, reply_of, is_answered}
+use Rattle.private_store.specs.Cluster.{Cluster, ClusterInput, cluster_from, told_from}
+use Rattle.private_store.specs.Trace.{hands_at, hands_step, out_after, is_out, own_input, notes, for_job, inputs_until, cluster_until, reply_of, is_answered}
 use Rattle.private_store.specs.Shared.{AskedWork, LiveJob, leaves, waiting, asked_by, works_asked_by, lives_step, is_admission, answer_due}
 use Rattle.private_store.specs.Shared as shared
 use Rattle.private_store.proofs.Runs.{inputs_now, cluster_until-step}

@@ -1,5 +1,5 @@
 -- A world after one step more, of any kind that is built.
-use Rattle.std.proofs.Common.{◌≡◌, ℕ, true, false, ◌<◌, List, ◌∷◌, length, refl, sym, ap, subst, ◌∙◌}
+use Rattle.std.proofs.Common.{◌≡◌, ℕ, true, false, ◌<◌, List, ◌∷◌, length, sym, subst, ◌∙◌}
 use Rattle.std.specs.Prelude.{nat_lt}
 use Rattle.obj_id.specs.declared.refusals.Refusal.TheVariants.{NoMemory}
 use Rattle.obj_id.specs.declared.commands.Reply.{Reply}
