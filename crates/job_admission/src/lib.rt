@@ -14,12 +14,10 @@ ghost use Rattle.private_store.specs.Shared.{job_is, widened, admitted as admitt
 ghost use Rattle.job_admission.specs.Admissions.{largest_memory, live_at, window_of, lives_of, windows, place_for, admit_check as admit_check_lem, admitted, resize_check as resize_check_lem, resized, enter_check as enter_check_lem, sessions_entered as sessions_entered_lem, entered, finished, AreKept};
 
 use indexmap::IndexMap;
+use obj_id::limits::{GREATEST_DEVICE_QUOTA, MOST_LIVE_JOBS, UNIT, WIDEST_WINDOW};
 use obj_id::{Extent, JobKey, JobNo, Quota, Refusal};
 use std::alloc::Global;
 use std::marker::Model;
-
-/// The jobs that may live at a node at once.
-const MOST_LIVE_JOBS: usize = 64;
 
 /// A live job.
 #[derive(Clone, Copy, Debug)]
@@ -331,7 +329,10 @@ fn is_quota(quota: Quota) -> bool
     ensures { result ≡ is_quota_lem quota }
 {
     let window = quota.window;
-    window >= 16 && window <= 268_435_456 && window % 16 == 0 && quota.device <= 1_099_511_627_776
+    window >= UNIT
+        && window <= WIDEST_WINDOW
+        && window % UNIT == 0
+        && quota.device <= GREATEST_DEVICE_QUOTA
 }
 
 /// Whether no byte lies in both.

@@ -9,13 +9,8 @@ ghost use Rattle.node_table.specs.Row.{copies_of};
 use crate::copies::Copies;
 use crate::copy::RowCopy;
 use crate::row::JobRow;
+use obj_id::limits::{MOST_BYTES, MOST_COPIES};
 use obj_id::{CopyState, ObjectId, Refusal};
-
-/// The bytes that one Write, Read or Peek may carry.
-const MOST_BYTES: usize = 65_536;
-
-/// How many copies a job may have at a node, fetches among them.
-const MOST_COPIES: usize = 1_024;
 
 impl RowCopy {
     /// Why `len` bytes can't be written from the offset on: `Absent`, `AlreadySealed`, `OutOfBounds`.
