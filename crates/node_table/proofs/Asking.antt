@@ -12,6 +12,7 @@ use Rattle.obj_id.specs.declared.refusals.Refusal.TheVariants.{Pending}
 use Rattle.obj_id.specs.Ids.{id_cmp, same_id}
 use Rattle.obj_id.proofs.SameIds.{id_cmp-IsTotalOrder, id_cmp-IsAntisymmetric, same_id-equal}
 use Rattle.private_store.specs.Tables.{ById, at, with_entry, is_among}
+use Rattle.private_store.specs.Hands.{Hand}
 use Rattle.private_store.specs.Shape.{Copy, Shape, WorkInFlight}
 use Rattle.private_store.specs.Copies.{extent_of, is_working, is_idle, is_spillable}
 use Rattle.private_store.specs.Room.{make_room, no_room, asked}
@@ -29,7 +30,7 @@ use Rattle.lru_evictor.proofs.Reorders.{reordered-unused}
 use Rattle.spill_work.specs.Line.{WorkLine, works_of, numbered_works, room_for, AsksAll}
 use Rattle.node_table.specs.Entries.{changed, each_changed}
 use Rattle.node_table.specs.Kept.{Kept, can_spill, spilling, spilling_if}
-use Rattle.node_table.specs.Row.{Row, copies_of, shape_of}
+use Rattle.node_table.specs.Row.{Row, Beside, beside_of, copies_of, shape_of}
 use Rattle.node_table.specs.Checks.{create_check}
 use Rattle.node_table.specs.RoomPlans.{AsksWrites}
 use Rattle.node_table.specs.Shown.{seen, work_on, IsPlain, IsShown, only, TakesStep}
@@ -38,7 +39,7 @@ use Rattle.node_table.proofs.Changes.{changed-found, changed-absent}
 use Rattle.node_table.proofs.CopyTables.{sorted-copies, at-copies_found, copies-changed}
 use Rattle.node_table.proofs.Creating.{x, room_is, each_among}
 use Rattle.node_table.proofs.Described.{working-on}
-use Rattle.node_table.proofs.Stepping.{Moves, moved, same_bytes}
+use Rattle.node_table.proofs.Stepping.{Moves, moved, same_bytes, received_stays}
 
 -- ---- copies whose writes are in flight
 
@@ -170,8 +171,9 @@ work_asked last (id ∷ ids) q = by (same_id q id) (work_asked (last + 1) ids q)
     by false rest = rest
 
 -- a plan asks for no more works than there may be
-pub may_ask : (row : Row) (line : WorkLine) (n : ℕ) (ids : List ObjectId) → AsksWrites (make_room row.order (shape_of row line) n) (shape_of row line) ids → room_for line (record { 0 = row.job }) (length ids) ≡ true
-may_ask row line n ids asks =
+pub may_ask : (row : Row) (line : WorkLine) (hands : List Hand) (bytes : ObjectId → List ℕ) (n : ℕ) (ids : List ObjectId)
+    → AsksWrites (make_room row.order (shape_of row (beside_of line hands bytes row.job)) n) (shape_of row (beside_of line hands bytes row.job)) ids → room_for line (record { 0 = row.job }) (length ids) ≡ true
+may_ask row line hands bytes n ids asks =
     let some = asks.some in
     let few = asks.few in
     both _ _ (fits (length (works_of line (record { 0 = row.job }))) (length ids) some few) asks.numbers
@@ -181,11 +183,18 @@ may_ask row line n ids asks =
 
 -- ---- the step
 
-module _ (node : ℕ) (row : Row) (line : WorkLine) (contents : Contents) (session : ℕ) (id : ObjectId) (kind : Kind) (n : ℕ) (mine : (id.job.0 == row.job) ≡ true) (h : IsShown row line contents)
-    (passed : create_check row id n ≡ None) (ids : List ObjectId) (asks : AsksWrites (make_room row.order (shape_of row line) n) (shape_of row line) ids)
-    (after : WorkLine) (in_line : AsksAll line (record { 0 = row.job }) Write ids after) where
+module _ (node : ℕ) (row : Row) (line : WorkLine) (hands : List Hand) (bytes : ObjectId → List ℕ) (contents : Contents) (session : ℕ) (id : ObjectId) (kind : Kind) (n : ℕ)
+    (mine : (id.job.0 == row.job) ≡ true) (h : IsShown row (beside_of line hands bytes row.job) contents)
+    (passed : create_check row id n ≡ None) (ids : List ObjectId) (asks : AsksWrites (make_room row.order (shape_of row (beside_of line hands bytes row.job)) n) (shape_of row (beside_of line hands bytes row.job)) ids)
+    (line_after : WorkLine) (in_line : AsksAll line (record { 0 = row.job }) Write ids line_after) where
+  abbrev beside : Beside
+  beside = beside_of line hands bytes row.job
+
+  abbrev after : Beside
+  after = beside_of line_after hands bytes row.job
+
   abbrev s : Shape
-  s = shape_of row line
+  s = shape_of row beside
 
   abbrev new : Row
   new = record row { copies = each_changed spilling_if row.copies ids }
@@ -199,9 +208,9 @@ module _ (node : ℕ) (row : Row) (line : WorkLine) (contents : Contents) (sessi
   copies_same : copies_of new.copies ≡ copies_of row.copies
   copies_same = all_same ids row.copies sorted
 
-  change_is : step row.order s (judge node (seen row line contents) (x node row line contents session id kind n mine h)) ≡ erasing s (refused now Pending)
+  change_is : step row.order s (judge node (seen row beside contents) (x node row beside contents session id kind n mine h)) ≡ erasing s (refused now Pending)
   change_is =
-      room_is node row line contents session id kind n mine h passed (no_room (fold (asked true) s ids) Pending) asks.room_is
+      room_is node row beside contents session id kind n mine h passed (no_room (fold (asked true) s ids) Pending) asks.room_is
       ∙ ap (erasing s) (sending-is [] (refused (fold (asked true) s ids) Pending) ∙ ap (λ t. refused t Pending) (all_asked ids s))
 
   shape_now : now ≡ shape_of new after
@@ -228,6 +237,14 @@ module _ (node : ℕ) (row : Row) (line : WorkLine) (contents : Contents) (sessi
       digest true = same_digest z
       digest false = refl
 
+  granted_was : (q : ObjectId) (k z : Kept) → k ≡ cond (is_among ids q) (spilling_if z) z → k.granted ≡ z.granted
+  granted_was q k z is = ap (λ (k : Kept). k.granted) is ∙ by (is_among ids q) (can_spill z)
+    where
+      by : (b may : Bool) → (cond b (cond may (spilling z) z) z).granted ≡ z.granted
+      by true true = refl
+      by true false = refl
+      by false may = refl
+
   -- what is asked for can be written
   may : (q : ObjectId) (z : Kept) → at row.copies q ≡ Some z → is_among ids q ≡ true → (z.working ≡ None) × (can_spill z ≡ true)
   may q z found among =
@@ -239,7 +256,7 @@ module _ (node : ℕ) (row : Row) (line : WorkLine) (contents : Contents) (sessi
       let none = h.working q z found ∙ none_here (work_on s.works q) (working-on s.works q ∙ still) in
       (none, both _ _ (both_left _ (is_idle s q z.copy) (both_left _ (not z.copy.doomed) all)) (ap is_none none))
 
-  working_now : (q : ObjectId) (k : Kept) → at new.copies q ≡ Some k → k.working ≡ work_on (works_of after (record { 0 = row.job })) q
+  working_now : (q : ObjectId) (k : Kept) → at new.copies q ≡ Some k → k.working ≡ work_on after.works q
   working_now q k found =
       let z = was q k found in
       ap (λ (k : Kept). k.working) z.2 ∙ by z.0 z.1 (is_among ids q) refl ∙ ap (λ ws. work_on ws q) (sym in_line.own_works)
@@ -255,7 +272,7 @@ module _ (node : ℕ) (row : Row) (line : WorkLine) (contents : Contents) (sessi
   there_now : AreThere (copies_of new.copies) row.order
   there_now = subst (λ t. AreThere t row.order) (sym copies_same) h.there
 
-  m : Moves node row line contents h (x node row line contents session id kind n mine h) (erasing s (refused now Pending)) (only (reply.Refused Pending)) new after
+  m : Moves node row beside contents h (x node row beside contents session id kind n mine h) (erasing s (refused now Pending)) (only (reply.Refused Pending)) new after
   m = record {
     shape = shape_now;
     order = sym (reordered-unused row.order (copies_of new.copies) there_now);
@@ -264,17 +281,19 @@ module _ (node : ℕ) (row : Row) (line : WorkLine) (contents : Contents) (sessi
     bytes = λ q k e found lies.
         let z = was q k found in
         let same = (copy_was q k z.0 z.2).0 in
-        ap (filled (at contents.bytes q)) same ∙ same_bytes node row line contents h (x node row line contents session id kind n mine h) q z.0 e z.1 (ap extent_of (sym same) ∙ lies)
+        ap (filled (at contents.bytes q)) same ∙ same_bytes node row beside contents h (x node row beside contents session id kind n mine h) q z.0 e z.1 (ap extent_of (sym same) ∙ lies)
         ∙ ap (λ (copy : Copy). take copy.length (placed_bytes e row.window.placed)) (sym same);
     digests = λ q k found keeps.
         let z = was q k found in
         let same = copy_was q k z.0 z.2 in
         h.digests q z.0 z.1 (ap keeps_digest (sym same.0) ∙ keeps) ∙ ap (λ d. unwrap_or d no_digest) (sym same.1);
     working = working_now;
+    granted = λ q k found. let z = was q k found in granted_was q k z.0 z.2 ∙ h.granted q z.0 z.1;
+    received = received_stays node row beside contents h (x node row beside contents session id kind n mine h) refl;
     plain = λ q k found. let z = was q k found in subst IsPlain (sym (copy_was q k z.0 z.2).0) (h.plain q z.0 z.1);
     reply = refl;
     erased = sym (ap (map (key_of row.job)) (keys_none (copies_of row.copies) (copies_of row.copies) (all_found (copies_of row.copies))));
   }
 
-  pub asked_done : TakesStep node row line contents (x node row line contents session id kind n mine h) (only (reply.Refused Pending)) new after
-  asked_done = moved node row line contents h (x node row line contents session id kind n mine h) (erasing s (refused now Pending)) change_is (only (reply.Refused Pending)) new after m refl
+  pub asked_done : TakesStep node row beside contents (x node row beside contents session id kind n mine h) (only (reply.Refused Pending)) new after
+  asked_done = moved node row beside contents h (x node row beside contents session id kind n mine h) (erasing s (refused now Pending)) change_is (only (reply.Refused Pending)) new after m refl

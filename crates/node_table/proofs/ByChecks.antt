@@ -17,9 +17,8 @@ use Rattle.private_store.specs.Change.{replied, refused, done, checked, needing,
 use Rattle.private_store.specs.Commands.{write, seal, read, holds_of, is_unsealed}
 use Rattle.private_store.specs.Step.{step, owned, commanded}
 use Rattle.private_store.proofs.Checks.{checked-nil, checked-false}
-use Rattle.spill_work.specs.Line.{WorkLine}
 use Rattle.node_table.specs.Kept.{Kept}
-use Rattle.node_table.specs.Row.{Row, shape_of}
+use Rattle.node_table.specs.Row.{Row, Beside, shape_of}
 use Rattle.node_table.specs.Checks.{write_check, seal_check, read_check, read_check_of}
 use Rattle.node_table.proofs.CopyTables.{at-copies}
 
@@ -47,22 +46,22 @@ pub last-check : (store : Shape) (c : Change) → checked store [] c ≡ unless_
 last-check store c = checked-nil store c
 
 -- a live job's command of a session
-pub called : (row : Row) (line : WorkLine) (session : ℕ) (c : Command ℕ) → step row.order (shape_of row line) (judged.Call session c) ≡ erasing (shape_of row line) (commanded row.order (shape_of row line) session c)
-called row line session c =
-    checked-false (shape_of row line) false NotAdmitted [] (erasing (shape_of row line) (commanded row.order (shape_of row line) session c)) refl
-    ∙ checked-nil (shape_of row line) (erasing (shape_of row line) (commanded row.order (shape_of row line) session c))
+pub called : (row : Row) (beside : Beside) (session : ℕ) (c : Command ℕ) → step row.order (shape_of row beside) (judged.Call session c) ≡ erasing (shape_of row beside) (commanded row.order (shape_of row beside) session c)
+called row beside session c =
+    checked-false (shape_of row beside) false NotAdmitted [] (erasing (shape_of row beside) (commanded row.order (shape_of row beside) session c)) refl
+    ∙ checked-nil (shape_of row beside) (erasing (shape_of row beside) (commanded row.order (shape_of row beside) session c))
 
 -- a command on the job's own object
-pub own : (row : Row) (line : WorkLine) (id : ObjectId) (c : Change) → (id.job.0 == row.job) ≡ true → owned (shape_of row line) id c ≡ c
-own row line id c mine = checked-false (shape_of row line) (not (id.job.0 == row.job)) NotGranted [] c (ap not mine) ∙ checked-nil (shape_of row line) c
+pub own : (row : Row) (beside : Beside) (id : ObjectId) (c : Change) → (id.job.0 == row.job) ≡ true → owned (shape_of row beside) id c ≡ c
+own row beside id c mine = checked-false (shape_of row beside) (not (id.job.0 == row.job)) NotGranted [] c (ap not mine) ∙ checked-nil (shape_of row beside) c
 
 -- one on another job's
-pub foreign : (row : Row) (line : WorkLine) (id : ObjectId) (c : Change) → (id.job.0 == row.job) ≡ false → owned (shape_of row line) id c ≡ refused (shape_of row line) NotGranted
-foreign row line id c other = checked-if (shape_of row line) (not (id.job.0 == row.job)) NotGranted [] c ∙ ap (λ b. cond (not b) (refused (shape_of row line) NotGranted) (checked (shape_of row line) [] c)) other
+pub foreign : (row : Row) (beside : Beside) (id : ObjectId) (c : Change) → (id.job.0 == row.job) ≡ false → owned (shape_of row beside) id c ≡ refused (shape_of row beside) NotGranted
+foreign row beside id c other = checked-if (shape_of row beside) (not (id.job.0 == row.job)) NotGranted [] c ∙ ap (λ b. cond (not b) (refused (shape_of row beside) NotGranted) (checked (shape_of row beside) [] c)) other
 
-module _ (row : Row) (line : WorkLine) (id : ObjectId) where
+module _ (row : Row) (beside : Beside) (id : ObjectId) where
   abbrev s : Shape
-  s = shape_of row line
+  s = shape_of row beside
 
   -- of a copy that isn't doomed
   in_sight : (f : Copy → Change) (check : Kept → Option Refusal) (d : Change)

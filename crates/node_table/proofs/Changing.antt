@@ -6,6 +6,7 @@ use Rattle.obj_id.specs.Ids.{same_id}
 use Rattle.obj_id.proofs.SameIds.{same_id-equal}
 use Rattle.private_store.specs.declared.inputs.Input.{Input}
 use Rattle.private_store.specs.Tables.{ById, at, with_entry, is_among}
+use Rattle.private_store.specs.Kept.{has_hand}
 use Rattle.private_store.specs.Shape.{Copy, Change}
 use Rattle.private_store.specs.Copies.{extent_of}
 use Rattle.private_store.specs.Change.{keys_gone}
@@ -17,10 +18,9 @@ use Rattle.private_store.proofs.Rows.{at-put}
 use Rattle.private_store.proofs.Tests.{some_value, true_T}
 use Rattle.job_region.specs.Region.{bytes_at as placed_bytes}
 use Rattle.lru_evictor.specs.Orders.{AreThere}
-use Rattle.spill_work.specs.Line.{WorkLine, works_of}
 use Rattle.node_table.specs.Entries.{changed}
 use Rattle.node_table.specs.Kept.{Kept}
-use Rattle.node_table.specs.Row.{Row, copies_of}
+use Rattle.node_table.specs.Row.{Row, Beside, copies_of}
 use Rattle.node_table.specs.Shown.{seen, work_on, IsPlain, IsShown}
 use Rattle.node_table.proofs.Changes.{changed-found}
 use Rattle.node_table.proofs.CopyTables.{copies-changed}
@@ -57,7 +57,7 @@ keys_with es id copy = keys_none es (with_entry es id copy) (subst T (sym (all_w
 
 -- ---- the step
 
-module _ (node : ℕ) (row : Row) (line : WorkLine) (contents : Contents) (h : IsShown row line contents) (x : Input)
+module _ (node : ℕ) (row : Row) (beside : Beside) (contents : Contents) (h : IsShown row beside contents) (x : Input)
     (id : ObjectId) (k : Kept) (found : at row.copies id ≡ Some k) (f : Kept → Kept)
     (keeps : (z : Kept) → ((f z).copy.offset ≡ z.copy.offset) × ((f z).copy.length ≡ z.copy.length)) where
   -- the row with the copy changed, and this order of use
@@ -81,19 +81,19 @@ module _ (node : ℕ) (row : Row) (line : WorkLine) (contents : Contents) (h : I
   same_extent y z o l = ap (λ p. extent_of (record y.copy { offset = p })) o ∙ ap (λ n. extent_of (record z.copy { length = n })) l
 
   -- where no bytes are brought
-  pub bytes_stay : (c : Change) → bytes_brought (seen row line contents) x (judge node (seen row line contents) x) c.reply ≡ None
-      → (q : ObjectId) (y : Kept) (e : Extent) → at (changed f row.copies id) q ≡ Some y → extent_of y.copy ≡ Some e → filled (at (bytes_now node row line contents h x c) q) y.copy ≡ take y.copy.length (placed_bytes e row.window.placed)
+  pub bytes_stay : (c : Change) → bytes_brought (seen row beside contents) x (judge node (seen row beside contents) x) c.reply ≡ None
+      → (q : ObjectId) (y : Kept) (e : Extent) → at (changed f row.copies id) q ≡ Some y → extent_of y.copy ≡ Some e → filled (at (bytes_now node row beside contents h x c) q) y.copy ≡ take y.copy.length (placed_bytes e row.window.placed)
   bytes_stay c none q y e is lies =
       let z = one q y is in
       let same = lies_still q y z.0 z.2 in
       ap (λ b. filled (at (brought contents.bytes b) q) y.copy) none
       ∙ ap (λ n. filled (at contents.bytes q) (record z.0.copy { length = n })) same.1
-      ∙ same_bytes node row line contents h x q z.0 e z.1 (sym (same_extent y z.0 same.0 same.1) ∙ lies)
+      ∙ same_bytes node row beside contents h x q z.0 e z.1 (sym (same_extent y z.0 same.0 same.1) ∙ lies)
       ∙ ap (λ n. take n (placed_bytes e row.window.placed)) (sym same.1)
 
   -- where no digest is brought, and the change keeps it
-  pub digests_stay : (c : Change) → digest_brought node (seen row line contents) x c.reply ≡ None → ((f k).digest ≡ k.digest) → (keeps_digest (f k).copy ≡ true → keeps_digest k.copy ≡ true)
-      → (q : ObjectId) (y : Kept) → at (changed f row.copies id) q ≡ Some y → keeps_digest y.copy ≡ true → unwrap_or (at (digests_now node row line contents h x c) q) no_digest ≡ unwrap_or y.digest no_digest
+  pub digests_stay : (c : Change) → digest_brought node (seen row beside contents) x c.reply ≡ None → ((f k).digest ≡ k.digest) → (keeps_digest (f k).copy ≡ true → keeps_digest k.copy ≡ true)
+      → (q : ObjectId) (y : Kept) → at (changed f row.copies id) q ≡ Some y → keeps_digest y.copy ≡ true → unwrap_or (at (digests_now node row beside contents h x c) q) no_digest ≡ unwrap_or y.digest no_digest
   digests_stay c none digest still q y is keep =
       ap (λ d. unwrap_or (at (brought contents.digests d) q) no_digest) none ∙ by (one q y is).0 (one q y is).1 (one q y is).2
     where
@@ -106,14 +106,24 @@ module _ (node : ℕ) (row : Row) (line : WorkLine) (contents : Contents) (h : I
           ∙ ap (λ z. unwrap_or z.digest no_digest) is ∙ ap (λ d. unwrap_or d no_digest) (sym digest) ∙ ap (λ y. unwrap_or y.digest no_digest) (sym now)
 
   -- where the works are the same
-  pub works_stay : ((f k).working ≡ k.working) → (q : ObjectId) (y : Kept) → at (changed f row.copies id) q ≡ Some y → y.working ≡ work_on (works_of line (record { 0 = row.job })) q
+  pub works_stay : ((f k).working ≡ k.working) → (q : ObjectId) (y : Kept) → at (changed f row.copies id) q ≡ Some y → y.working ≡ work_on beside.works q
   works_stay same q y is = by (one q y is).0 (one q y is).1 (one q y is).2
     where
-      by : (z : Kept) → at row.copies q ≡ Some z → From f row.copies id q y z → y.working ≡ work_on (works_of line (record { 0 = row.job })) q
+      by : (z : Kept) → at row.copies q ≡ Some z → From f row.copies id q y z → y.working ≡ work_on beside.works q
       by z e (inr t) = ap (λ y. y.working) t.1 ∙ h.working q z e
       by z e (inl t) =
           let is : z ≡ k = some_value z k (sym e ∙ ap (at row.copies) (same_id-equal q id t.0) ∙ found) in
           ap (λ y. y.working) (t.1 ∙ ap f is) ∙ same ∙ ap (λ z. z.working) (sym is) ∙ h.working q z e
+
+  -- where the copy is granted or not, as before
+  pub granted_stay : ((f k).granted ≡ k.granted) → (q : ObjectId) (y : Kept) → at (changed f row.copies id) q ≡ Some y → y.granted ≡ has_hand beside.given q
+  granted_stay same q y is = by (one q y is).0 (one q y is).1 (one q y is).2
+    where
+      by : (z : Kept) → at row.copies q ≡ Some z → From f row.copies id q y z → y.granted ≡ has_hand beside.given q
+      by z e (inr t) = ap (λ y. y.granted) t.1 ∙ h.granted q z e
+      by z e (inl t) =
+          let is : z ≡ k = some_value z k (sym e ∙ ap (at row.copies) (same_id-equal q id t.0) ∙ found) in
+          ap (λ y. y.granted) (t.1 ∙ ap f is) ∙ same ∙ ap (λ z. z.granted) (sym is) ∙ h.granted q z e
 
   -- where the change keeps the copy plain
   pub plain_stay : IsPlain (f k).copy → (q : ObjectId) (y : Kept) → at (changed f row.copies id) q ≡ Some y → IsPlain y.copy

@@ -16,7 +16,7 @@ use Rattle.obj_id.specs.declared.commands.CopyState.TheVariants.{Away}
 use Rattle.obj_id.specs.declared.commands.Command.TheVariants as command
 use Rattle.obj_id.specs.declared.commands.Reply.TheVariants as reply
 use Rattle.obj_id.specs.declared.refusals.Refusal.{Refusal}
-use Rattle.obj_id.specs.declared.refusals.Refusal.TheVariants.{BadSize, Gone, Exists, TooMany, Full}
+use Rattle.obj_id.specs.declared.refusals.Refusal.TheVariants.{DeviceFailed, BadSize, Gone, Exists, TooMany, Full}
 use Rattle.obj_id.specs.Ids.{id_cmp, id_eq, same_id}
 use Rattle.obj_id.proofs.SameIds.{id_cmp-IsTotalOrder, id_cmp-IsAntisymmetric, same_id-equal, same_id-itself, same_id-flip, same_id-not_back, same_id-id_eq}
 use Rattle.private_store.specs.declared.inputs.Input.{Input}
@@ -27,7 +27,11 @@ use Rattle.private_store.specs.Extents.{rounded, first, is_size}
 use Rattle.private_store.specs.Shape.{Copy, Shape, Change, Sending, remove_location}
 use Rattle.private_store.specs.Copies.{extent_of, is_primary, is_sealed, is_evictable, is_idle, device_used}
 use Rattle.private_store.specs.Room.{Room, make_room, offset_without, no_room, evict_room, evicted, eviction_notice, set_copy, drop_copy}
-use Rattle.private_store.specs.Change.{replied, refused, sending, erasing, in_room, keys_gone}
+use Rattle.private_store.specs.Change.{replied, refused, sending, erasing, in_room, keys_gone, has_ended}
+use Rattle.private_store.specs.Kept.{has_hand, is_remembered}
+use Rattle.std.proofs.lemmas.Bool.{eqb-true}
+use Rattle.private_store.proofs.RefusingLemmas.{keys_none, all_found}
+use Rattle.lru_evictor.proofs.Reorders.{reordered-unused}
 use Rattle.private_store.specs.Commands.{create, created, new_copy, is_length}
 use Rattle.private_store.specs.Contents.{Contents, View, judge, keeps_digest}
 use Rattle.obj_id.specs.declared.messages.DirectoryMessage.TheVariants.{RemoveLocation}
@@ -44,10 +48,10 @@ use Rattle.job_region.proofs.Places.{lookup-put_in}
 use Rattle.lru_evictor.specs.Orders.{AreThere, last_used, without_id, without_ids}
 use Rattle.lru_evictor.specs.declared.facts.DeviceRoom.{DeviceRoom}
 use Rattle.lru_evictor.proofs.Described.{offset-described}
-use Rattle.spill_work.specs.Line.{WorkLine, works_of}
+use Rattle.spill_work.specs.Line.{works_of}
 use Rattle.node_table.specs.Entries.{without_all}
 use Rattle.node_table.specs.Kept.{Kept, new_kept}
-use Rattle.node_table.specs.Row.{Row, copies_of, shape_of, place_of, ArePlaced}
+use Rattle.node_table.specs.Row.{Row, Beside, copies_of, shape_of, place_of, ArePlaced}
 use Rattle.node_table.specs.Checks.{create_check}
 use Rattle.node_table.specs.Creating.{placed_without, replaced, removals}
 use Rattle.node_table.specs.RoomPlans.{MakesPlace}
@@ -60,7 +64,7 @@ use Rattle.node_table.proofs.Orders.{listed_last, last_listed}
 use Rattle.node_table.proofs.Counting.{length-once, passing_there}
 use Rattle.node_table.proofs.Removing.{without-more, without-last}
 use Rattle.node_table.proofs.Replacing.{at-without, Stands, stands, found_still}
-use Rattle.node_table.proofs.Stepping.{Moves, moved, stays, same_bytes}
+use Rattle.node_table.proofs.Stepping.{Moves, moved, stays, same_bytes, received_stays}
 
 -- ---- tables without some entries
 
@@ -183,9 +187,9 @@ pub in_room-is : (room : Room) (f : Shape → ℕ → Change) → in_room room f
 unfolding in_room
 in_room-is room f = refl
 
-module _ (node : ℕ) (row : Row) (line : WorkLine) (contents : Contents) (session : ℕ) (id : ObjectId) (kind : Kind) (n : ℕ) (mine : (id.job.0 == row.job) ≡ true) (h : IsShown row line contents) where
+module _ (node : ℕ) (row : Row) (beside : Beside) (contents : Contents) (session : ℕ) (id : ObjectId) (kind : Kind) (n : ℕ) (mine : (id.job.0 == row.job) ≡ true) (h : IsShown row beside contents) where
   abbrev s : Shape
-  s = shape_of row line
+  s = shape_of row beside
 
   abbrev pub x : Input
   x = input.Call session (command.Create id kind n)
@@ -200,25 +204,45 @@ module _ (node : ℕ) (row : Row) (line : WorkLine) (contents : Contents) (sessi
       by None = refl
       by (Some k) = refl
 
-  create_is : step row.order s (judge node (seen row line contents) x) ≡ erasing s (unless_refused s (create_check row id n) room_change)
+  create_is : step row.order s (judge node (seen row beside contents) x) ≡ erasing s (unless_refused s (create_check row id n) room_change)
   create_is =
-      called row line session (command.Create id kind n)
-      ∙ ap (erasing s) (own row line id (create row.order s id kind n) mine
+      called row beside session (command.Create id kind n)
+      ∙ ap (erasing s) (own row beside id (create row.order s id kind n) mine
       ∙ first-check s (not (is_length s n)) BadSize _ _ _ room_change
-      (first-check s false Gone _ _ _ room_change
+      (first-check s (has_ended s id.task) Gone _ _ _ room_change
       (first-check s (is_some (at s.copies id)) Exists _ _ _ room_change
       (first-check s (nat_le most_copies (length s.copies)) TooMany [] room_change None room_change (checked-nil s room_change))))
-      ∙ (λ i. unless_refused s (cond (not (is_size row.window.quota n)) (Some BadSize) (cond (same_presence i) (Some Exists) (cond (nat_le most_copies (length-map {B = ObjectId × Copy} (λ e. (e.0, e.1.copy)) row.copies i)) (Some TooMany) None))) room_change))
+      ∙ (λ i. unless_refused s (cond (not (is_size row.window.quota n)) (Some BadSize) (cond (is_remembered row.ended_tasks id.task) (Some Gone) (cond (same_presence i) (Some Exists) (cond (nat_le most_copies (length-map {B = ObjectId × Copy} (λ e. (e.0, e.1.copy)) row.copies i)) (Some TooMany) None)))) room_change))
 
-  pub create_refused : (r : Refusal) → create_check row id n ≡ Some r → TakesStep node row line contents x (only (reply.Refused r)) row line
-  create_refused r e = stays node row line contents h x (reply.Refused r) (create_is ∙ ap (λ o. erasing s (unless_refused s o room_change)) e) refl refl
+  pub create_refused : (r : Refusal) → create_check row id n ≡ Some r → TakesStep node row beside contents x (only (reply.Refused r)) row beside
+  create_refused r e = stays node row beside contents h x (reply.Refused r) (create_is ∙ ap (λ o. erasing s (unless_refused s o room_change)) e) refl refl refl
 
   module _ (passed : create_check row id n ≡ None) where
-    pub room_is : (room : Room) → make_room row.order s n ≡ room → step row.order s (judge node (seen row line contents) x) ≡ erasing s (sending room.sent (elim room.offset [ Ok offset ↦ created id kind n room.shape offset | Err refusal ↦ refused room.shape refusal ]))
+    pub room_is : (room : Room) → make_room row.order s n ≡ room → step row.order s (judge node (seen row beside contents) x) ≡ erasing s (sending room.sent (elim room.offset [ Ok offset ↦ created id kind n room.shape offset | Err refusal ↦ refused room.shape refusal ]))
     room_is room is = create_is ∙ ap (λ o. erasing s (unless_refused s o room_change)) passed ∙ ap (erasing s) (ap (λ r. in_room r (created id kind n)) is ∙ in_room-is room (created id kind n))
 
-    pub room_refused : (r : Refusal) → make_room row.order s n ≡ no_room s r → TakesStep node row line contents x (only (reply.Refused r)) row line
-    room_refused r is = stays node row line contents h x (reply.Refused r) (room_is (no_room s r) is ∙ ap (erasing s) (sending-is [] (refused s r))) refl refl
+    pub room_refused : (r : Refusal) → make_room row.order s n ≡ no_room s r → TakesStep node row beside contents x (only (reply.Refused r)) row beside
+    room_refused r is = stays node row beside contents h x (reply.Refused r) (room_is (no_room s r) is ∙ ap (erasing s) (sending-is [] (refused s r))) refl refl refl
+
+    -- that a spill failed is told, and then forgotten
+    pub failed_told : make_room row.order s n ≡ no_room (record s { spill_failed = false }) DeviceFailed → TakesStep node row beside contents x (only (reply.Refused DeviceFailed)) (record row { spill_failed = false }) beside
+    failed_told is =
+        let told : Shape = record s { spill_failed = false } in
+        moved node row beside contents h x (erasing s (refused told DeviceFailed)) (room_is (no_room told DeviceFailed) is ∙ ap (erasing s) (sending-is [] (refused told DeviceFailed)))
+        (only (reply.Refused DeviceFailed)) (record row { spill_failed = false }) beside (record {
+          shape = refl;
+          order = sym (reordered-unused row.order (copies_of row.copies) h.there);
+          there = h.there;
+          listed = h.listed;
+          bytes = same_bytes node row beside contents h x;
+          digests = h.digests;
+          plain = h.plain;
+          working = h.working;
+          granted = h.granted;
+          received = received_stays node row beside contents h x refl;
+          reply = refl;
+          erased = sym (ap (map (key_of row.job)) (keys_none (copies_of row.copies) (copies_of row.copies) (all_found (copies_of row.copies))));
+        }) refl
 
     absent : at row.copies id ≡ None
     absent = by (at row.copies id) passed
@@ -227,9 +251,13 @@ module _ (node : ℕ) (row : Row) (line : WorkLine) (contents : Contents) (sessi
         sized true o e = none_some BadSize (sym e)
         sized false o e = e
 
-        by : (o : Option Kept) → cond (not (is_size row.window.quota n)) (Some BadSize) (cond (is_some o) (Some Exists) (cond (nat_le most_copies (length row.copies)) (Some TooMany) None)) ≡ None → o ≡ None
+        stays_on : (b : Bool) (o : Option Refusal) → cond b (Some Gone) o ≡ None → o ≡ None
+        stays_on true o e = none_some Gone (sym e)
+        stays_on false o e = e
+
+        by : (o : Option Kept) → cond (not (is_size row.window.quota n)) (Some BadSize) (cond (is_remembered row.ended_tasks id.task) (Some Gone) (cond (is_some o) (Some Exists) (cond (nat_le most_copies (length row.copies)) (Some TooMany) None))) ≡ None → o ≡ None
         by None e = refl
-        by (Some k) e = none_some Exists (sym (sized (not (is_size row.window.quota n)) (Some Exists) e))
+        by (Some k) e = none_some Exists (sym (stays_on (is_remembered row.ended_tasks id.task) (Some Exists) (sized (not (is_size row.window.quota n)) _ e)))
 
     -- ---- where a place is made
 
@@ -269,7 +297,7 @@ module _ (node : ℕ) (row : Row) (line : WorkLine) (contents : Contents) (sessi
 
         -- the window's place is the store's
         same_place : first (extents_of (placed_without row victims)) row.window.quota n ≡ offset_without s n victims
-        same_place = offset-described s row.window device (facts_at row.copies) (described row line contents h placed device refl refl refl) n victims
+        same_place = offset-described s row.window device (facts_at row.copies) (described row beside contents h placed device refl refl refl) n victims
 
         pub has_place : first (extents_of (placed_without row victims)) row.window.quota n ≡ None → ⊥
         has_place none = true_false (sym (ap is_some (sym same_place ∙ none)) ∙ makes.place)
@@ -291,7 +319,7 @@ module _ (node : ℕ) (row : Row) (line : WorkLine) (contents : Contents) (sessi
           append_nil [] = refl
           append_nil (y ∷ ys) = ap (λ zs. y ∷ zs) (append_nil ys)
 
-          change_is : step row.order s (judge node (seen row line contents) x) ≡ erasing s c
+          change_is : step row.order s (judge node (seen row beside contents) x) ≡ erasing s c
           change_is =
               room_is (evict_room s n victims) makes.room_is
               ∙ (λ i. erasing s (sending (all_told s victims chosen i) (elim (option_map_or Ok ((sym same_place ∙ least) i) (Err Full)) [
@@ -340,8 +368,11 @@ module _ (node : ℕ) (row : Row) (line : WorkLine) (contents : Contents) (sessi
           stands_at : (q : ObjectId) (k : Kept) → at new.copies q ≡ Some k → Stands row.copies row.window.placed placed victims id kind n offset absent not_victim free q k
           stands_at = stands row.copies row.window.placed placed victims id kind n offset absent not_victim free
 
-          no_work : work_on (works_of line (record { 0 = row.job })) id ≡ None
-          no_work = ap (option_map (λ w. if w.writes then Write else Read)) (nothing_found (λ w. same_id id w.id) (works_of line (record { 0 = row.job })) (h.kept.kept.shape.works_of_copies id (at-copies_none row.copies id absent)))
+          no_work : work_on beside.works id ≡ None
+          no_work = ap (option_map (λ w. if w.writes then Write else Read)) (nothing_found (λ w. same_id id w.id) beside.works (h.kept.kept.shape.works_of_copies id (at-copies_none row.copies id absent)))
+
+          no_hand : has_hand beside.given id ≡ false
+          no_hand = h.kept.kept.shape.hands_of_copies id (eqb-true id.job.0 row.job mine) (at-copies_none row.copies id absent)
 
           no_bytes : at contents.bytes id ≡ None
           no_bytes = by (at contents.bytes id) refl
@@ -359,7 +390,7 @@ module _ (node : ℕ) (row : Row) (line : WorkLine) (contents : Contents) (sessi
               ∙ ap (λ o. take n (unwrap_or o [])) (sym (lookup-put_in (offset, replicate (rounded n) 0) (placed_without row victims)))
               ∙ ap (λ (e : Extent). take n (placed_bytes e new.window.placed)) (some_value (record { offset = offset; length = rounded n }) e lies)
 
-          m : Moves node row line contents h x (erasing s c) told new line
+          m : Moves node row beside contents h x (erasing s c) told new beside
           m = record {
             shape = ap (λ t. record s { copies = t }) copies_is;
             order = order_is;
@@ -370,7 +401,7 @@ module _ (node : ℕ) (row : Row) (line : WorkLine) (contents : Contents) (sessi
             ];
             bytes = λ q k e found lies. elim (stands_at q k found) [
               | inl t ↦ ap (λ i. filled (at contents.bytes i) k.copy) (same_id-equal q id t.0) ∙ subst (λ (z : Kept). filled (at contents.bytes id) z.copy ≡ take z.copy.length (placed_bytes e new.window.placed)) t.1 (new_bytes e (ap (λ (z : Kept). extent_of z.copy) t.1 ∙ lies))
-              | inr t ↦ same_bytes node row line contents h x q k e t.2 lies
+              | inr t ↦ same_bytes node row beside contents h x q k e t.2 lies
                   ∙ ap (λ o. take k.copy.length (unwrap_or o [])) (sym (found_still row.copies row.window.placed placed victims id kind n offset absent not_victim free q e t.1 (ap (option_and_then (λ (z : Kept). extent_of z.copy)) t.2 ∙ lies)).1)
             ];
             digests = λ q k found keeps. elim (stands_at q k found) [
@@ -378,9 +409,14 @@ module _ (node : ℕ) (row : Row) (line : WorkLine) (contents : Contents) (sessi
               | inr t ↦ h.digests q k t.2 keeps
             ];
             working = λ q k found. elim (stands_at q k found) [
-              | inl t ↦ ap (λ (z : Kept). z.working) (sym t.1) ∙ sym (ap (work_on (works_of line (record { 0 = row.job }))) (same_id-equal q id t.0) ∙ no_work)
+              | inl t ↦ ap (λ (z : Kept). z.working) (sym t.1) ∙ sym (ap (work_on beside.works) (same_id-equal q id t.0) ∙ no_work)
               | inr t ↦ h.working q k t.2
             ];
+            granted = λ q k found. elim (stands_at q k found) [
+              | inl t ↦ ap (λ (z : Kept). z.granted) (sym t.1) ∙ sym (ap (has_hand beside.given) (same_id-equal q id t.0) ∙ no_hand)
+              | inr t ↦ h.granted q k t.2
+            ];
+            received = received_stays node row beside contents h x refl;
             plain = λ q k found. elim (stands_at q k found) [
               | inl t ↦ subst (λ (z : Kept). IsPlain z.copy) t.1 (record { state = refl; doomed = refl; backed = refl; fault = refl })
               | inr t ↦ h.plain q k t.2
@@ -393,8 +429,8 @@ module _ (node : ℕ) (row : Row) (line : WorkLine) (contents : Contents) (sessi
           posts_are [] o = refl
           posts_are (q ∷ ids) o = ap (λ ps. to_directory (RemoveLocation q node) ++ ps) (posts_are ids o)
 
-          pub placed_done : TakesStep node row line contents x told new line
-          placed_done = moved node row line contents h x (erasing s c) change_is told new line m (posts_are victims (view_after node (seen row line contents) x (judge node (seen row line contents) x) (erasing s c)))
+          pub placed_done : TakesStep node row beside contents x told new beside
+          placed_done = moved node row beside contents h x (erasing s c) change_is told new beside m (posts_are victims (view_after node (seen row beside contents) x (judge node (seen row beside contents) x) (erasing s c)))
 
 -- whether an id is among others, by the `==` of ids
 pub among-eq : (ids : List ObjectId) (id : ObjectId) → list_any (λ y. id_eq y id) ids ≡ is_among ids id

@@ -15,6 +15,7 @@ use Rattle.obj_id.specs.Ids.{id_cmp, same_id}
 use Rattle.private_store.specs.Tables.{ById, at}
 use Rattle.private_store.specs.Extents.{rounded}
 use Rattle.private_store.specs.Shape.{Copy, Shape, WorkInFlight}
+use Rattle.private_store.specs.Kept.{has_hand}
 use Rattle.private_store.specs.Copies.{extent_of, is_held, is_sealed, is_primary, is_working, device_used}
 use Rattle.private_store.specs.Contents.{Contents}
 use Rattle.private_store.proofs.Tests.{T_true, and_right, none_some, some_value}
@@ -22,9 +23,8 @@ use Rattle.job_region.specs.Region.{extents_of, IsAt}
 use Rattle.lru_evictor.specs.declared.facts.DeviceRoom.{DeviceRoom}
 use Rattle.lru_evictor.specs.Facts.{Looked}
 use Rattle.lru_evictor.specs.Plans.{IsDescribed, extents_in, facts_of as store_facts}
-use Rattle.spill_work.specs.Line.{WorkLine}
 use Rattle.node_table.specs.Kept.{Kept}
-use Rattle.node_table.specs.Row.{Row, copies_of, shape_of, place_of, ArePlaced}
+use Rattle.node_table.specs.Row.{Row, Beside, copies_of, shape_of, place_of, ArePlaced}
 use Rattle.node_table.specs.Shown.{IsShown, work_on}
 use Rattle.node_table.specs.RoomPlans.{facts_of}
 use Rattle.node_table.proofs.CopyTables.{at-first, at-rest, at-copies, at-copies_found}
@@ -51,22 +51,20 @@ working-on (w ∷ ws) id = by (same_id id w.id) (working-on ws id)
 
 -- ---- facts
 
-and_yes : (b : Bool) → b ≡ b && true
-and_yes true = refl
-and_yes false = refl
+idle_same : (held kept granted working : Bool) (o : Option WorkKind) → kept ≡ granted → is_some o ≡ working → not held && not kept && is_none o ≡ not held && not granted && not working
+idle_same held kept granted working o g e = (λ i. not held && not (g i) && is_none o) ∙ ap (λ b. not held && not granted && b) (none_is o ∙ ap not e)
+  where
+    none_is : (o : Option WorkKind) → is_none o ≡ not (is_some o)
+    none_is None = refl
+    none_is (Some kind) = refl
 
-idle_same : (held working : Bool) (o : Option WorkKind) → is_some o ≡ working → not held && is_none o ≡ not held && true && not working
-idle_same true working o e = refl
-idle_same false working None e = ap not e
-idle_same false working (Some kind) e = ap not e
-
-facts_same : (row : Row) (line : WorkLine) (id : ObjectId) (k : Kept) → is_some k.working ≡ is_working (shape_of row line) id → facts_of k ≡ store_facts (shape_of row line) id k.copy
-facts_same row line id k e = λ i. record {
+facts_same : (row : Row) (beside : Beside) (id : ObjectId) (k : Kept) → k.granted ≡ has_hand beside.given id → is_some k.working ≡ is_working (shape_of row beside) id → facts_of k ≡ store_facts (shape_of row beside) id k.copy
+facts_same row beside id k g e = λ i. record {
   extent = extent_of k.copy;
   bytes = rounded k.copy.length;
-  evictable = is_sealed k.copy.state && idle_same (is_held k.copy) (is_working (shape_of row line) id) k.working e i && (not (is_primary k.copy.kind) || is_some k.copy.backed);
-  passing = (ap (λ w. w && is_some k.copy.offset && not (is_held k.copy)) e ∙ and_yes (is_working (shape_of row line) id && is_some k.copy.offset && not (is_held k.copy))) i;
-  spillable = is_sealed k.copy.state && is_primary k.copy.kind && is_none k.copy.backed && idle_same (is_held k.copy) (is_working (shape_of row line) id) k.working e i && not k.copy.doomed;
+  evictable = is_sealed k.copy.state && idle_same (is_held k.copy) k.granted (has_hand beside.given id) (is_working (shape_of row beside) id) k.working g e i && (not (is_primary k.copy.kind) || is_some k.copy.backed);
+  passing = (e i) && is_some k.copy.offset && not (is_held k.copy) && not (g i);
+  spillable = is_sealed k.copy.state && is_primary k.copy.kind && is_none k.copy.backed && idle_same (is_held k.copy) k.granted (has_hand beside.given id) (is_working (shape_of row beside) id) k.working g e i && not k.copy.doomed;
 }
 
 -- ---- extents
@@ -135,9 +133,9 @@ placed_in (p ∷ placed) x h = by (nat_eq x.offset p.0) refl (placed_in placed x
 abbrev pub facts_at : ById Kept → Looked
 facts_at copies id = option_map facts_of (at copies id)
 
-module _ (row : Row) (line : WorkLine) (contents : Contents) (h : IsShown row line contents) (placed : ArePlaced row.window.placed (place_of row.copies)) where
+module _ (row : Row) (beside : Beside) (contents : Contents) (h : IsShown row beside contents) (placed : ArePlaced row.window.placed (place_of row.copies)) where
   abbrev s : Shape
-  s = shape_of row line
+  s = shape_of row beside
 
   sorted : T (is_sorted id_cmp (copies_of row.copies))
   sorted = T_true _ h.kept.kept.shape.by_id
@@ -147,7 +145,7 @@ module _ (row : Row) (line : WorkLine) (contents : Contents) (h : IsShown row li
     where
       by : (o : Option Kept) → at row.copies id ≡ o → option_map facts_of o ≡ option_map (store_facts s id) (option_map (λ k. k.copy) o)
       by None e = refl
-      by (Some k) e = ap Some (facts_same row line id k (ap is_some (h.working id k e) ∙ working-on s.works id))
+      by (Some k) e = ap Some (facts_same row beside id k (h.granted id k e) (ap is_some (h.working id k e) ∙ working-on s.works id))
 
   place_is : (id : ObjectId) (copy : Copy) → at s.copies id ≡ Some copy → place_of row.copies id ≡ extent_of copy
   place_is id copy found = let k = kept_found row.copies id copy found in place_found row.copies id k.0 k.1 ∙ ap extent_of k.2

@@ -1,5 +1,5 @@
 -- A row takes Get of a copy that is sealed.
-use Rattle.std.proofs.Common.{◌≡◌, ◌≢◌, ℕ, ◌+◌, true, false, cond, ◌==◌, nat_le, [], ◌∷◌, map, Option, Some, None, is_some, option_map, refl, sym, ap, subst, ◌∙◌}
+use Rattle.std.proofs.Common.{◌≡◌, ◌≢◌, ℕ, ◌+◌, true, false, cond, ◌==◌, nat_le, [], ◌∷◌, map, Option, Some, None, is_some, option_map, refl, sym, ap, subst, ◌∙◌, Bool, not}
 use Rattle.obj_id.specs.declared.ids.ObjectId.{ObjectId}
 use Rattle.obj_id.specs.declared.refusals.Refusal.{Refusal}
 use Rattle.obj_id.specs.declared.refusals.Refusal.TheVariants.{Absent, Gone, NoMemory, TooMany, Pending, NotSealed}
@@ -14,31 +14,30 @@ use Rattle.private_store.specs.Tables.{ById, at, with_entry, is_among}
 use Rattle.private_store.specs.Shape.{Copy, Shape, Change}
 use Rattle.private_store.specs.Copies.{is_sealed, is_created}
 use Rattle.private_store.specs.Room.{set_copy}
-use Rattle.private_store.specs.Change.{replied, refused, erasing, checked, needing}
-use Rattle.private_store.specs.Commands.{get_copy, get_sealed, get_away, get_fetching, begin_fetch, with_holds, holds_of, all_holds}
+use Rattle.private_store.specs.Change.{replied, refused, erasing, checked, needing, has_ended}
+use Rattle.private_store.specs.Commands.{get, get_copy, get_sealed, get_away, get_fetching, begin_fetch, with_holds, holds_of, all_holds}
 use Rattle.private_store.specs.Contents.{Contents, judge}
 use Rattle.private_store.specs.Private.{key_of}
 use Rattle.private_store.specs.Step.{step}
-use Rattle.private_store.proofs.Checks.{checked-false, checked-nil}
+use Rattle.private_store.proofs.Checks.{checked-true, checked-false, checked-nil}
 use Rattle.private_store.proofs.Rows.{at-put_here}
 use Rattle.std.specs.Prelude.{IfOk, Ok, Err}
 use Rattle.std.specs.declared.result.Result.{Result}
-use Rattle.private_store.specs.Kept.{is_fetching}
-use Rattle.private_store.proofs.Tests.{true_false, false_true, some_value, none_some}
+use Rattle.private_store.specs.Kept.{is_fetching, is_remembered}
+use Rattle.private_store.proofs.Tests.{true_false, false_true, some_value, none_some, both_left, both_right, not_true}
 use Rattle.lru_evictor.specs.Orders.{AreThere, last_used, touched}
 use Rattle.lru_evictor.proofs.Reorders.{reordered-used}
-use Rattle.spill_work.specs.Line.{WorkLine}
 use Rattle.node_table.specs.Entries.{changed}
-use Rattle.node_table.specs.Kept.{Kept, held}
-use Rattle.node_table.specs.Row.{Row, copies_of, shape_of}
-use Rattle.node_table.specs.Checks.{hold_check_of, fetch_check, get_check_of, get_check}
+use Rattle.node_table.specs.Kept.{Kept, held, is_ready}
+use Rattle.node_table.specs.Row.{Row, Beside, copies_of, shape_of}
+use Rattle.node_table.specs.Checks.{hold_check_of, fetch_check, get_check_of, copy_check, get_check, visible_state}
 use Rattle.node_table.specs.Holding.{IsRowHeld, IsHoldRefusedAt}
 use Rattle.node_table.specs.Shown.{seen, is_plain, IsPlain, IsShown, only, TakesStep}
 use Rattle.node_table.proofs.ByChecks.{unless_refused, first-check, called, own}
 use Rattle.node_table.proofs.CopyTables.{at-copies_found, copies-changed}
-use Rattle.node_table.proofs.Changing.{there_still, bytes_stay, digests_stay, works_stay, plain_stay, listed_stay, keys_with}
+use Rattle.node_table.proofs.Changing.{there_still, bytes_stay, digests_stay, works_stay, plain_stay, listed_stay, keys_with, granted_stay}
 use Rattle.node_table.proofs.Orders.{touched-listed, there_last, listed_last}
-use Rattle.node_table.proofs.Stepping.{Moves, moved, stays}
+use Rattle.node_table.proofs.Stepping.{Moves, moved, stays, received_stays}
 
 -- what is so of each answer
 pub each_ok : {T E : Type 0} {P Q : T → Type 0} (r : Result T E) → ((t : T) → P t → Q t) → IfOk r P → IfOk r Q
@@ -46,10 +45,11 @@ each_ok (Ok t) f h = f t h
 each_ok (Err e) f h = tt
 
 -- where a hold wanted memory, nothing else stood against it
-pub held_late : (copies new : ById Kept) (begun : ℕ) (id : ObjectId) (r : Refusal) → r ≡ NoMemory → IsHoldRefusedAt copies id r new → get_check copies begun id ≡ None
+pub held_late : (copies new : ById Kept) (begun : ℕ) (id : ObjectId) (r : Refusal) → r ≡ NoMemory → IsHoldRefusedAt copies id r new → copy_check copies begun id ≡ None
 held_late copies new begun id r e h =
     ap (λ (o : Option Kept). elim o [ None ↦ fetch_check copies begun | Some kept ↦ get_check_of kept ]) h.found
-    ∙ by h.kept.copy.state h.sealed
+    ∙ ap (λ b. cond b (Some Absent) (cond (is_created h.kept.copy.state) (Some NotSealed) (cond (is_sealed h.kept.copy.state) (hold_check_of h.kept) None))) (not_true h.kept.copy.doomed (both_right (is_sealed h.kept.copy.state) _ h.ready))
+    ∙ by h.kept.copy.state (both_left _ (not h.kept.copy.doomed) h.ready)
     ∙ h.late e
   where
     by : (state : CopyState) → is_sealed state ≡ true → cond (is_created state) (Some NotSealed) (cond (is_sealed state) (hold_check_of h.kept) None) ≡ hold_check_of h.kept
@@ -60,30 +60,65 @@ held_late copies new begun id r e h =
     by Away e = true_false e
 
 -- where there is no copy, what stands against its fetch
-pub absent_late : (copies : ById Kept) (begun : ℕ) (id : ObjectId) → at copies id ≡ None → fetch_check copies begun ≡ None → get_check copies begun id ≡ None
+pub absent_late : (copies : ById Kept) (begun : ℕ) (id : ObjectId) → at copies id ≡ None → fetch_check copies begun ≡ None → copy_check copies begun id ≡ None
 absent_late copies begun id none passed =
     ap (λ (o : Option Kept). elim o [ None ↦ fetch_check copies begun | Some kept ↦ get_check_of kept ]) none ∙ passed
 
 -- nothing stands against an object that is on its way
-pub fetching_late : (copies : ById Kept) (begun : ℕ) (id : ObjectId) (k : Kept) → at copies id ≡ Some k → k.copy.state ≡ Fetching → get_check copies begun id ≡ None
-fetching_late copies begun id k found is =
+pub fetching_late : (copies : ById Kept) (begun : ℕ) (id : ObjectId) (k : Kept) → at copies id ≡ Some k → k.copy.doomed ≡ false → k.copy.state ≡ Fetching → copy_check copies begun id ≡ None
+fetching_late copies begun id k found stays is =
     ap (λ (o : Option Kept). elim o [ None ↦ fetch_check copies begun | Some kept ↦ get_check_of kept ]) found
+    ∙ ap (λ b. cond b (Some Absent) (cond (is_created k.copy.state) (Some NotSealed) (cond (is_sealed k.copy.state) (hold_check_of k) None))) stays
     ∙ ap (λ state. cond (is_created state) (Some NotSealed) (cond (is_sealed state) (hold_check_of k) None)) is
 
--- the copy whose state was looked up
-pub some_at : (copies : ById Kept) (id : ObjectId) (state : CopyState) → option_map (λ k. k.copy.state) (at copies id) ≡ Some state → (k : Kept) × (at copies id ≡ Some k) × (k.copy.state ≡ state)
-some_at copies id state e = by (at copies id) e
-  where
-    by : (o : Option Kept) → option_map (λ k. k.copy.state) o ≡ Some state → (k : Kept) × (o ≡ Some k) × (k.copy.state ≡ state)
-    by (Some k) e = (k, refl, some_value k.copy.state state e)
-    by None e = none_some state e
+-- an object whose task hasn't ended
+pub alive_late : (row : Row) (id : ObjectId) → is_remembered row.ended_tasks id.task ≡ false → copy_check row.copies row.fetches_begun id ≡ None → get_check row id ≡ None
+alive_late row id alive passed = ap (λ b. cond b (Some Gone) (copy_check row.copies row.fetches_begun id)) alive ∙ passed
 
-pub none_at : (copies : ById Kept) (id : ObjectId) → option_map (λ k. k.copy.state) (at copies id) ≡ None → at copies id ≡ None
+abbrev looked : Bool → Kept → Result (Option CopyState) Refusal
+looked doomed k = cond doomed (Err Absent) (Ok (Some k.copy.state))
+
+-- the copy whose state was looked up
+pub record Visible (copies : ById Kept) (id : ObjectId) (state : CopyState) : Type 0 where
+  pub k : Kept
+  pub found : at copies id ≡ Some k
+  pub stays : k.copy.doomed ≡ false
+  pub is : k.copy.state ≡ state
+
+pub some_at : (copies : ById Kept) (id : ObjectId) (state : CopyState) → visible_state (at copies id) ≡ Ok (Some state) → Visible copies id state
+some_at copies id state e = by (at copies id) refl e
+  where
+    seen : (k : Kept) → at copies id ≡ Some k → (b : Bool) → k.copy.doomed ≡ b → looked b k ≡ Ok (Some state) → Visible copies id state
+    seen k found true t e = absurd cc
+    seen k found false t e = record { k = k; found = found; stays = t; is = cc }
+
+    by : (o : Option Kept) → at copies id ≡ o → visible_state o ≡ Ok (Some state) → Visible copies id state
+    by (Some k) found e = seen k found k.copy.doomed refl e
+    by None found e = absurd cc
+
+pub none_at : (copies : ById Kept) (id : ObjectId) → visible_state (at copies id) ≡ Ok None → at copies id ≡ None
 none_at copies id e = by (at copies id) e
   where
-    by : (o : Option Kept) → option_map (λ k. k.copy.state) o ≡ None → o ≡ None
-    by (Some k) e = none_some k.copy.state (sym e)
+    seen : (k : Kept) (b : Bool) → looked b k ≡ Ok None → Some k ≡ None
+    seen k true e = absurd cc
+    seen k false e = absurd cc
+
+    by : (o : Option Kept) → visible_state o ≡ Ok None → o ≡ None
+    by (Some k) e = seen k k.copy.doomed e
     by None e = refl
+
+-- the one refusal of a look-up is of a doomed copy
+pub doomed_at : (copies : ById Kept) (id : ObjectId) (r : Refusal) → visible_state (at copies id) ≡ Err r → (k : Kept) × (at copies id ≡ Some k) × (k.copy.doomed ≡ true) × (r ≡ Absent)
+doomed_at copies id r e = by (at copies id) refl e
+  where
+    seen : (k : Kept) → at copies id ≡ Some k → (b : Bool) → k.copy.doomed ≡ b → looked b k ≡ Err r
+        → (k : Kept) × (at copies id ≡ Some k) × (k.copy.doomed ≡ true) × (r ≡ Absent)
+    seen k found true t e = (k, found, t, cc)
+    seen k found false t e = absurd cc
+
+    by : (o : Option Kept) → at copies id ≡ o → visible_state o ≡ Err r → (k : Kept) × (at copies id ≡ Some k) × (k.copy.doomed ≡ true) × (r ≡ Absent)
+    by (Some k) found e = seen k found k.copy.doomed refl e
+    by None found e = absurd cc
 
 sealed_is : (state : CopyState) → is_sealed state ≡ true → state ≡ Sealed
 sealed_is Created e = true_false e
@@ -92,9 +127,21 @@ sealed_is Restoring e = true_false e
 sealed_is Fetching e = true_false e
 sealed_is Away e = true_false e
 
-module _ (node : ℕ) (row : Row) (line : WorkLine) (contents : Contents) (session : ℕ) (id : ObjectId) (mine : (id.job.0 == row.job) ≡ true) (h : IsShown row line contents) where
+-- of an object whose task has ended
+pub gone_told : (node : ℕ) (row : Row) (beside : Beside) (contents : Contents) (session : ℕ) (id : ObjectId) → (id.job.0 == row.job) ≡ true → IsShown row beside contents → is_remembered row.ended_tasks id.task ≡ true
+    → TakesStep node row beside contents (input.Call session (command.Get id)) (only (reply.Refused Gone)) row beside
+gone_told node row beside contents session id mine h ended =
+    stays node row beside contents h (input.Call session (command.Get id)) (reply.Refused Gone)
+    (called row beside session (command.Get id)
+    ∙ ap (erasing (shape_of row beside)) (own row beside id (get row.order (shape_of row beside) session id) mine
+    ∙ checked-true (shape_of row beside) (has_ended (shape_of row beside) id.task) Gone [] (elim (at (copies_of row.copies) id) [
+      | None ↦ begin_fetch (shape_of row beside) id
+      | Some copy ↦ checked (shape_of row beside) ((copy.doomed, Absent) ∷ []) (get_copy row.order (shape_of row beside) session id copy)
+    ]) ended)) refl refl refl
+
+module _ (node : ℕ) (row : Row) (beside : Beside) (contents : Contents) (session : ℕ) (id : ObjectId) (mine : (id.job.0 == row.job) ≡ true) (alive : is_remembered row.ended_tasks id.task ≡ false) (h : IsShown row beside contents) where
   abbrev pub s : Shape
-  s = shape_of row line
+  s = shape_of row beside
 
   abbrev pub x : Input
   x = input.Call session (command.Get id)
@@ -103,14 +150,20 @@ module _ (node : ℕ) (row : Row) (line : WorkLine) (contents : Contents) (sessi
   abbrev pub by_copy : Option Copy → Change
   by_copy o = elim o [ None ↦ begin_fetch s id | Some copy ↦ checked s ((copy.doomed, Absent) ∷ []) (get_copy row.order s session id copy) ]
 
-  pub get_is : step row.order s (judge node (seen row line contents) x) ≡ erasing s (by_copy (at s.copies id))
+  pub get_is : step row.order s (judge node (seen row beside contents) x) ≡ erasing s (by_copy (at s.copies id))
   get_is =
-      called row line session (command.Get id)
-      ∙ ap (erasing s) (own row line id _ mine ∙ checked-false s false Gone [] (by_copy (at s.copies id)) refl ∙ checked-nil s (by_copy (at s.copies id)))
+      called row beside session (command.Get id)
+      ∙ ap (erasing s) (own row beside id _ mine ∙ checked-false s (has_ended s id.task) Gone [] (by_copy (at s.copies id)) alive ∙ checked-nil s (by_copy (at s.copies id)))
 
-  module _ (k : Kept) (found : at row.copies id ≡ Some k) where
-    pub get_found : step row.order s (judge node (seen row line contents) x) ≡ erasing s (get_copy row.order s session id k.copy)
-    get_found = get_is ∙ ap (erasing s) (ap by_copy (at-copies_found row.copies id k found) ∙ checked-false s k.copy.doomed Absent [] (get_copy row.order s session id k.copy) (h.plain id k found).doomed ∙ checked-nil s (get_copy row.order s session id k.copy))
+  -- a doomed copy isn't there for who asks
+  pub doomed_told : (k : Kept) → at row.copies id ≡ Some k → k.copy.doomed ≡ true → TakesStep node row beside contents x (only (reply.Refused Absent)) row beside
+  doomed_told k found is =
+      stays node row beside contents h x (reply.Refused Absent)
+      (get_is ∙ ap (erasing s) (ap by_copy (at-copies_found row.copies id k found) ∙ checked-true s k.copy.doomed Absent [] (get_copy row.order s session id k.copy) is)) refl refl refl
+
+  module _ (k : Kept) (found : at row.copies id ≡ Some k) (unmarked : k.copy.doomed ≡ false) where
+    pub get_found : step row.order s (judge node (seen row beside contents) x) ≡ erasing s (get_copy row.order s session id k.copy)
+    get_found = get_is ∙ ap (erasing s) (ap by_copy (at-copies_found row.copies id k found) ∙ checked-false s k.copy.doomed Absent [] (get_copy row.order s session id k.copy) unmarked ∙ checked-nil s (get_copy row.order s session id k.copy))
 
     -- what Get does by the state of the copy
     abbrev pub by_state : CopyState → Change
@@ -122,21 +175,21 @@ module _ (node : ℕ) (row : Row) (line : WorkLine) (contents : Contents) (sessi
       | Away ↦ get_away row.order s id k.copy
     ]
 
-    pub get_at : (state : CopyState) → k.copy.state ≡ state → step row.order s (judge node (seen row line contents) x) ≡ erasing s (by_state state)
+    pub get_at : (state : CopyState) → k.copy.state ≡ state → step row.order s (judge node (seen row beside contents) x) ≡ erasing s (by_state state)
     get_at state is = get_found ∙ ap (λ st. erasing s (by_state st)) is
 
     -- where the copy is being written, or is read back
-    pub created_told : k.copy.state ≡ Created → TakesStep node row line contents x (only (reply.Refused NotSealed)) row line
-    created_told is = stays node row line contents h x (reply.Refused NotSealed) (get_at Created is) refl refl
+    pub created_told : k.copy.state ≡ Created → TakesStep node row beside contents x (only (reply.Refused NotSealed)) row beside
+    created_told is = stays node row beside contents h x (reply.Refused NotSealed) (get_at Created is) refl refl refl
 
-    pub restoring_told : k.copy.state ≡ Restoring → TakesStep node row line contents x (only (reply.Refused Pending)) row line
-    restoring_told is = stays node row line contents h x (reply.Refused Pending) (get_at Restoring is) refl refl
+    pub restoring_told : k.copy.state ≡ Restoring → TakesStep node row beside contents x (only (reply.Refused Pending)) row beside
+    restoring_told is = stays node row beside contents h x (reply.Refused Pending) (get_at Restoring is) refl refl refl
 
     -- a copy that is away can't be there
-    pub pending_told : is_created k.copy.state ≡ false → is_sealed k.copy.state ≡ false → is_fetching k.copy.state ≡ false → TakesStep node row line contents x (only (reply.Refused Pending)) row line
+    pub pending_told : is_created k.copy.state ≡ false → is_sealed k.copy.state ≡ false → is_fetching k.copy.state ≡ false → TakesStep node row beside contents x (only (reply.Refused Pending)) row beside
     pending_told made sealed fetching = by k.copy.state refl made sealed fetching
       where
-        by : (state : CopyState) → k.copy.state ≡ state → is_created state ≡ false → is_sealed state ≡ false → is_fetching state ≡ false → TakesStep node row line contents x (only (reply.Refused Pending)) row line
+        by : (state : CopyState) → k.copy.state ≡ state → is_created state ≡ false → is_sealed state ≡ false → is_fetching state ≡ false → TakesStep node row beside contents x (only (reply.Refused Pending)) row beside
         by Created is a b f = false_true a
         by Sealed is a b f = false_true b
         by Restoring is a b f = restoring_told is
@@ -150,13 +203,13 @@ module _ (node : ℕ) (row : Row) (line : WorkLine) (contents : Contents) (sessi
       abbrev c : Change
       c = record (replied (set_copy s id now) (reply.Got k.copy.length)) { used = Some id }
 
-      sealed_change : step row.order s (judge node (seen row line contents) x) ≡ erasing s (unless_refused s (hold_check_of k) c)
+      sealed_change : step row.order s (judge node (seen row beside contents) x) ≡ erasing s (unless_refused s (hold_check_of k) c)
       sealed_change =
           get_at Sealed (sealed_is k.copy.state is)
           ∙ ap (erasing s) (first-check s (nat_le most_holds (all_holds k.copy)) TooMany [] c None c (checked-nil s c))
 
-      hold_refused : (r : Refusal) → hold_check_of k ≡ Some r → TakesStep node row line contents x (only (reply.Refused r)) row line
-      hold_refused r e = stays node row line contents h x (reply.Refused r) (sealed_change ∙ ap (λ o. erasing s (unless_refused s o c)) e) refl refl
+      hold_refused : (r : Refusal) → hold_check_of k ≡ Some r → TakesStep node row beside contents x (only (reply.Refused r)) row beside
+      hold_refused r e = stays node row beside contents h x (reply.Refused r) (sealed_change ∙ ap (λ o. erasing s (unless_refused s o c)) e) refl refl refl
 
       keeps : (z : Kept) → ((held session z).copy.offset ≡ z.copy.offset) × ((held session z).copy.length ≡ z.copy.length)
       keeps z = (refl, refl)
@@ -176,33 +229,41 @@ module _ (node : ℕ) (row : Row) (line : WorkLine) (contents : Contents) (sessi
       plain_now : IsPlain now
       plain_now = let p = h.plain id k found in record { state = p.state; doomed = p.doomed; backed = p.backed; fault = p.fault }
 
-      m : Moves node row line contents h x (erasing s c) (only (reply.Got k.copy.length)) row_held line
+      m : Moves node row beside contents h x (erasing s c) (only (reply.Got k.copy.length)) row_held beside
       m = record {
         shape = ap (λ t. record s { copies = t }) copies_is;
-        order = sym (last ∙ reordered-used row.order (copies_of row_held.copies) id (there_still node row line contents h x id k found (held session) keeps row.order h.there));
+        order = sym (last ∙ reordered-used row.order (copies_of row_held.copies) id (there_still node row beside contents h x id k found (held session) keeps row.order h.there));
         there = subst (λ ids. AreThere (copies_of row_held.copies) ids) (sym last)
-            (there_last (copies_of row_held.copies) id row.order (there_still node row line contents h x id k found (held session) keeps row.order h.there) here);
-        listed = λ q y e. ap (λ ids. is_among ids q) last ∙ listed_last id q row.order (listed_stay node row line contents h x id k found (held session) keeps row.order h.listed q y e);
-        bytes = bytes_stay node row line contents h x id k found (held session) keeps (erasing s c) refl;
-        digests = digests_stay node row line contents h x id k found (held session) keeps (erasing s c) refl refl (λ e. e);
-        working = works_stay node row line contents h x id k found (held session) keeps refl;
-        plain = plain_stay node row line contents h x id k found (held session) keeps plain_now;
+            (there_last (copies_of row_held.copies) id row.order (there_still node row beside contents h x id k found (held session) keeps row.order h.there) here);
+        listed = λ q y e. ap (λ ids. is_among ids q) last ∙ listed_last id q row.order (listed_stay node row beside contents h x id k found (held session) keeps row.order h.listed q y e);
+        bytes = bytes_stay node row beside contents h x id k found (held session) keeps (erasing s c) refl;
+        digests = digests_stay node row beside contents h x id k found (held session) keeps (erasing s c) refl refl (λ e. e);
+        working = works_stay node row beside contents h x id k found (held session) keeps refl;
+        plain = plain_stay node row beside contents h x id k found (held session) keeps plain_now;
+        granted = granted_stay node row beside contents h x id k found (held session) keeps refl;
+        received = received_stays node row beside contents h x refl;
         reply = refl;
         erased = sym (ap (map (key_of row.job)) (keys_with (copies_of row.copies) id now));
       }
 
-      hold_done : hold_check_of k ≡ None → TakesStep node row line contents x (only (reply.Got k.copy.length)) row_held line
-      hold_done passed = moved node row line contents h x (erasing s c) (sealed_change ∙ ap (λ o. erasing s (unless_refused s o c)) passed) (only (reply.Got k.copy.length)) row_held line m refl
+      hold_done : hold_check_of k ≡ None → TakesStep node row beside contents x (only (reply.Got k.copy.length)) row_held beside
+      hold_done passed = moved node row beside contents h x (erasing s c) (sealed_change ∙ ap (λ o. erasing s (unless_refused s o c)) passed) (only (reply.Got k.copy.length)) row_held beside m refl
+
+  sealed_of : (k : Kept) → is_ready k.copy ≡ true → is_sealed k.copy.state ≡ true
+  sealed_of k ready = both_left _ (not k.copy.doomed) ready
+
+  unmarked_of : (k : Kept) → is_ready k.copy ≡ true → k.copy.doomed ≡ false
+  unmarked_of k ready = not_true k.copy.doomed (both_right (is_sealed k.copy.state) _ ready)
 
   -- a hold was given
-  pub sealed_held : (n : ℕ) (new : Row) → IsRowHeld row session id n new → TakesStep node row line contents x (only (reply.Got n)) new line
+  pub sealed_held : (n : ℕ) (new : Row) → IsRowHeld row session id n new → TakesStep node row beside contents x (only (reply.Got n)) new beside
   sealed_held n new is =
-      subst (λ r. TakesStep node row line contents x (only (reply.Got n)) r line) (sym is.row)
-      (subst (λ m. TakesStep node row line contents x (only (reply.Got m)) (row_held is.kept is.found is.sealed) line) (sym is.length)
-      (hold_done is.kept is.found is.sealed is.passed))
+      subst (λ r. TakesStep node row beside contents x (only (reply.Got n)) r beside) (sym is.row)
+      (subst (λ m. TakesStep node row beside contents x (only (reply.Got m)) (row_held is.kept is.found (unmarked_of is.kept is.ready) (sealed_of is.kept is.ready)) beside) (sym is.length)
+      (hold_done is.kept is.found (unmarked_of is.kept is.ready) (sealed_of is.kept is.ready) is.passed))
 
   -- it was refused, and not for want of memory
-  pub sealed_refused : (r : Refusal) (new : Row) → r ≢ NoMemory → IsHoldRefusedAt row.copies id r new.copies → new ≡ row → TakesStep node row line contents x (only (reply.Refused r)) new line
+  pub sealed_refused : (r : Refusal) (new : Row) → r ≢ NoMemory → IsHoldRefusedAt row.copies id r new.copies → new ≡ row → TakesStep node row beside contents x (only (reply.Refused r)) new beside
   sealed_refused r new known is same =
-      subst (λ t. TakesStep node row line contents x (only (reply.Refused r)) t line) (sym same)
-      (hold_refused is.kept is.found is.sealed r (is.refused known))
+      subst (λ t. TakesStep node row beside contents x (only (reply.Refused r)) t beside) (sym same)
+      (hold_refused is.kept is.found (unmarked_of is.kept is.ready) (sealed_of is.kept is.ready) r (is.refused known))

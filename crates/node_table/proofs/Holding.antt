@@ -8,11 +8,10 @@ use Rattle.obj_id.specs.declared.ids.ObjectId.{ObjectId}
 use Rattle.obj_id.specs.declared.refusals.Refusal.{Refusal}
 use Rattle.obj_id.specs.Ids.{id_eq}
 use Rattle.private_store.specs.Tables.{ById, at}
-use Rattle.private_store.specs.Copies.{is_sealed}
 use Rattle.private_store.proofs.Tests.{true_false}
 use Rattle.node_table.specs.Entries.{by_rising_id, changed}
-use Rattle.node_table.specs.Kept.{Kept, held}
-use Rattle.node_table.specs.Holding.{IsHeld, IsUnsealed, IsHoldRefused, IsHeldAt, IsUnsealedAt, IsHoldRefusedAt}
+use Rattle.node_table.specs.Kept.{Kept, is_ready, held}
+use Rattle.node_table.specs.Holding.{IsHeld, IsUnready, IsHoldRefused, IsHeldAt, IsUnreadyAt, IsHoldRefusedAt}
 use Rattle.node_table.proofs.Changes.{written, unwritten, checked_there, checked_absent}
 
 module _ (session : ℕ) (id : ObjectId) (es : List (ObjectId × Kept)) (now : ById Kept) (seen : by_rising_id es ≡ now) (x y : Kept) (found : lookup (id_eq id) es ≡ Some x) (new : List (ObjectId × Kept)) (set : new ≡ set_value (id_eq id) es y) where
@@ -20,22 +19,22 @@ module _ (session : ℕ) (id : ObjectId) (es : List (ObjectId × Kept)) (now : B
   there = checked_there (λ (o : Option Kept). o) id es now x seen found
 
   pub held_at : (r : Result (Option ℕ) Refusal) → IfOk r (λ o. IfSome o (λ n. IsHeld x session n y)) → IfOk r (λ o. IfSome o (λ n. IsHeldAt now session id n (by_rising_id new)))
-  held_at (Ok (Some n)) h = record { kept = x; found = there; sealed = h.sealed; passed = h.passed; length = h.length; copies = written (held session) id es now seen new x y found h.copy set }
+  held_at (Ok (Some n)) h = record { kept = x; found = there; ready = h.ready; passed = h.passed; length = h.length; copies = written (held session) id es now seen new x y found h.copy set }
   held_at (Ok None) h = tt
   held_at (Err e) h = tt
 
-  pub unsealed_at : (r : Result (Option ℕ) Refusal) → IfOk r (λ o. IfNone o (IsUnsealed x y)) → IfOk r (λ o. IfNone o (IsUnsealedAt now id (by_rising_id new)))
-  unsealed_at (Ok (Some n)) h = tt
-  unsealed_at (Ok None) h = record { unsealed = ap (λ (o : Option Kept). option_map_or (λ k. is_sealed k.copy.state) o false) there ∙ h.unsealed; same = unwritten (held session) id es now seen new x y found h.same set }
-  unsealed_at (Err e) h = tt
+  pub unready_at : (r : Result (Option ℕ) Refusal) → IfOk r (λ o. IfNone o (IsUnready x y)) → IfOk r (λ o. IfNone o (IsUnreadyAt now id (by_rising_id new)))
+  unready_at (Ok (Some n)) h = tt
+  unready_at (Ok None) h = record { unready = ap (λ (o : Option Kept). option_map_or (λ k. is_ready k.copy) o false) there ∙ h.unready; same = unwritten (held session) id es now seen new x y found h.same set }
+  unready_at (Err e) h = tt
 
   pub refused_at : (r : Result (Option ℕ) Refusal) → IfErr r (λ refusal. IsHoldRefused x refusal y) → IfErr r (λ refusal. IsHoldRefusedAt now id refusal (by_rising_id new))
   refused_at (Ok o) h = tt
-  refused_at (Err e) h = record { kept = x; found = there; sealed = h.sealed; refused = h.refused; late = h.late; same = unwritten (held session) id es now seen new x y found h.same set }
+  refused_at (Err e) h = record { kept = x; found = there; ready = h.ready; refused = h.refused; late = h.late; same = unwritten (held session) id es now seen new x y found h.same set }
 
 -- where there is no copy
-pub none_at : (id : ObjectId) (es : List (ObjectId × Kept)) (now : ById Kept) (new : List (ObjectId × Kept)) → by_rising_id es ≡ now → lookup (id_eq id) es ≡ None → new ≡ es → IsUnsealedAt now id (by_rising_id new)
-none_at id es now new seen none same = record { unsealed = checked_absent (λ (o : Option Kept). option_map_or (λ k. is_sealed k.copy.state) o false) id es now seen none; same = ap by_rising_id same ∙ seen }
+pub none_at : (id : ObjectId) (es : List (ObjectId × Kept)) (now : ById Kept) (new : List (ObjectId × Kept)) → by_rising_id es ≡ now → lookup (id_eq id) es ≡ None → new ≡ es → IsUnreadyAt now id (by_rising_id new)
+none_at id es now new seen none same = record { unready = checked_absent (λ (o : Option Kept). option_map_or (λ k. is_ready k.copy) o false) id es now seen none; same = ap by_rising_id same ∙ seen }
 
 -- the copies after a hold that was given
 pub copies_held : (old new : ById Kept) (session : ℕ) (id : ObjectId) (o : Option ℕ) → is_some o ≡ true → IfSome o (λ n. IsHeldAt old session id n new) → new ≡ changed (held session) old id

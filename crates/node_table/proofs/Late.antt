@@ -7,7 +7,7 @@ use Rattle.std.proofs.lemmas.Bool.Decides.{nat_tests}
 use Rattle.std.proofs.lemmas.List.{length-take}
 use Rattle.obj_id.specs.declared.ids.ObjectId.{ObjectId}
 use Rattle.obj_id.specs.declared.refusals.Refusal.{Refusal}
-use Rattle.obj_id.specs.declared.refusals.Refusal.TheVariants.{Absent, DeviceFailed, Full, NotSealed, Pending, TooMany}
+use Rattle.obj_id.specs.declared.refusals.Refusal.TheVariants.{Absent, Gone, DeviceFailed, Full, NotSealed, Pending, TooMany}
 use Rattle.obj_id.specs.declared.commands.Kind.{Kind}
 use Rattle.obj_id.specs.declared.commands.CopyState.{CopyState}
 use Rattle.obj_id.specs.declared.commands.CopyState.TheVariants.{Created, Sealed, Restoring, Fetching, Away}
@@ -21,19 +21,18 @@ use Rattle.private_store.specs.Limits.{most_works, most_holds, has_numbers}
 use Rattle.private_store.specs.Tables.{at}
 use Rattle.private_store.specs.Shape.{Shape, Change, Fetch, add_location}
 use Rattle.private_store.specs.Copies.{is_created, is_sealed}
-use Rattle.private_store.specs.Kept.{is_fetching}
+use Rattle.private_store.specs.Kept.{is_fetching, is_remembered}
 use Rattle.private_store.specs.Room.{set_copy, fits, wait, full, busy, evict, spill, spill_plan, victims, spilled, works_left, offset_without, room_by, make_room, no_room, asked}
 use Rattle.private_store.specs.Change.{refused, replied, done, sending, erasing}
-use Rattle.private_store.specs.Commands.{created, all_holds, holds_of, with_holds}
+use Rattle.private_store.specs.Commands.{created, granted_items, all_holds, holds_of, with_holds}
 use Rattle.private_store.specs.Contents.{Contents, View, judge, whole_reply}
 use Rattle.private_store.specs.Private.{view_step}
 use Rattle.private_store.specs.Step.{step}
 use Rattle.private_store.proofs.Checks.{checked-false, checked-nil}
 use Rattle.private_store.proofs.Tests.{true_false, none_some}
-use Rattle.spill_work.specs.Line.{WorkLine}
 use Rattle.node_table.specs.Kept.{Kept}
-use Rattle.node_table.specs.Row.{Row, shape_of}
-use Rattle.node_table.specs.Checks.{create_check, seal_check, read_check, fetch_check, hold_check_of, get_check_of, get_check}
+use Rattle.node_table.specs.Row.{Row, Beside, shape_of}
+use Rattle.node_table.specs.Checks.{create_check, seal_check, read_check, fetch_check, hold_check_of, get_check_of, copy_check, get_check}
 use Rattle.node_table.specs.Late.{is_planned, may_grow}
 use Rattle.node_table.specs.Shown.{seen, is_plain, IsShown}
 use Rattle.node_table.proofs.ByChecks.{unless_refused, called, own, read-by, seal-by, seal_done, sending-is}
@@ -112,69 +111,79 @@ whole_late store view x (reply.Refused refusal) = refl
 
 -- ---- of each command
 
-module _ (node : ℕ) (row : Row) (line : WorkLine) (contents : Contents) (session : ℕ) (h : IsShown row line contents) where
+module _ (node : ℕ) (row : Row) (beside : Beside) (contents : Contents) (session : ℕ) (h : IsShown row beside contents) where
   abbrev s : Shape
-  s = shape_of row line
+  s = shape_of row beside
 
   abbrev is_late : Command (List ℕ) → Type 0
-  is_late c = may_grow s (view_step node (seen row line contents) (input.Call session c)).reply ≡ true
+  is_late c = may_grow s (view_step node (seen row beside contents) (input.Call session c)).reply ≡ true
 
   -- by the change that the command is
-  by_change : (c : Command (List ℕ)) (d : Change) → step row.order s (judge node (seen row line contents) (input.Call session c)) ≡ erasing s d → may_grow s d.reply ≡ true → is_late c
+  by_change : (c : Command (List ℕ)) (d : Change) → step row.order s (judge node (seen row beside contents) (input.Call session c)) ≡ erasing s d → may_grow s d.reply ≡ true → is_late c
   by_change c d is late =
-      whole_late s (seen row line contents) (input.Call session c) (step row.order s (judge node (seen row line contents) (input.Call session c))).reply
+      whole_late s (seen row beside contents) (input.Call session c) (step row.order s (judge node (seen row beside contents) (input.Call session c))).reply
       ∙ ap (λ (e : Change). may_grow s e.reply) is ∙ late
 
   pub seal_late : (id : ObjectId) → (id.job.0 == row.job) ≡ true → seal_check row.copies id ≡ None → is_late (command.Seal id)
   seal_late id mine passed =
       let k = seal_passed row.copies id passed in
-      by_change (command.Seal id) (seal_done row line id)
-      (called row line session (command.Seal id) ∙ ap (erasing s) (own row line id _ mine ∙ seal-by row line id ∙ ap (λ o. unless_refused s o (seal_done row line id)) passed))
+      by_change (command.Seal id) (seal_done row beside id)
+      (called row beside session (command.Seal id) ∙ ap (erasing s) (own row beside id _ mine ∙ seal-by row beside id ∙ ap (λ o. unless_refused s o (seal_done row beside id)) passed))
       (ap (λ o. may_grow s (option_map_or (λ copy. sending (add_location id ∷ []) (done (set_copy s id (record copy { state = Sealed })))) o (refused s Absent)).reply) (at-copies_found row.copies id k.copy k.found) ∙ ap (λ (c : Change). may_grow s c.reply) (sending-is _ _))
 
   pub read_late : (id : ObjectId) (offset n : ℕ) → (id.job.0 == row.job) ≡ true → read_check row.copies session id offset n ≡ None → is_late (command.Read id offset n)
   read_late id offset n mine passed =
       by_change (command.Read id offset n) (replied s (reply.Bytes n))
-      (called row line session (command.Read id offset n) ∙ ap (erasing s) (own row line id _ mine ∙ read-by row line id session offset n ∙ ap (λ o. unless_refused s o (replied s (reply.Bytes n))) passed))
+      (called row beside session (command.Read id offset n) ∙ ap (erasing s) (own row beside id _ mine ∙ read-by row beside id session offset n ∙ ap (λ o. unless_refused s o (replied s (reply.Bytes n))) passed))
       refl
 
   pub list_late : is_late command.List
-  list_late = ap (may_grow s) (sym (list_done node row line contents session h (map item_of row.copies) [] refl refl).reply)
+  list_late = ap (may_grow s) (sym (list_done node row beside contents session h (map item_of row.copies) (granted_items s) refl refl).reply)
 
   pub create_late : (id : ObjectId) (kind : Kind) (n : ℕ) → (id.job.0 == row.job) ≡ true → create_check row id n ≡ None → is_late (command.Create id kind n)
   create_late id kind n mine passed =
       by_change (command.Create id kind n) (sending (make_room row.order s n).sent (elim (make_room row.order s n).offset as (λ _. Change) [ Ok offset ↦ created id kind n (make_room row.order s n).shape offset | Err refusal ↦ refused (make_room row.order s n).shape refusal ]))
-      (room_is node row line contents session id kind n mine h passed (make_room row.order s n) refl)
+      (room_is node row beside contents session id kind n mine h passed (make_room row.order s n) refl)
       (ap (λ (c : Change). may_grow s c.reply) (sending-is _ _) ∙ by (make_room row.order s n).offset (room_late s n row.order))
     where
       by : (o : Result ℕ Refusal) → late_offset s o ≡ true → may_grow s (elim o as (λ _. Change) [ Ok offset ↦ created id kind n (make_room row.order s n).shape offset | Err refusal ↦ refused (make_room row.order s n).shape refusal ]).reply ≡ true
       by (Ok offset) late = refl
       by (Err refusal) late = late
 
-  held_late : (id : ObjectId) (mine : (id.job.0 == row.job) ≡ true) (k : Kept) → at row.copies id ≡ Some k → k.copy.state ≡ Sealed → hold_check_of k ≡ None → is_late (command.Get id)
-  held_late id mine k found is passed =
+  held_late : (id : ObjectId) (mine : (id.job.0 == row.job) ≡ true) → is_remembered row.ended_tasks id.task ≡ false → (k : Kept) → at row.copies id ≡ Some k → k.copy.doomed ≡ false → k.copy.state ≡ Sealed → hold_check_of k ≡ None → is_late (command.Get id)
+  held_late id mine alive k found unmarked is passed =
       by_change (command.Get id) (record (replied (set_copy s id (with_holds k.copy session (holds_of k.copy session + 1))) (reply.Got k.copy.length)) { used = Some id })
-      (get_at node row line contents session id mine h k found Sealed is
+      (get_at node row beside contents session id mine alive h k found unmarked Sealed is
       ∙ ap (erasing s) (checked-false s (nat_le most_holds (all_holds k.copy)) TooMany [] _ (fits_still (nat_le most_holds (all_holds k.copy)) passed) ∙ checked-nil s _)) refl
     where
       fits_still : (b : Bool) → cond b (Some TooMany) None ≡ None → b ≡ false
       fits_still true e = none_some TooMany (sym e)
       fits_still false e = refl
 
-  pub get_late : (id : ObjectId) → (id.job.0 == row.job) ≡ true → get_check row.copies row.fetches_begun id ≡ None → is_late (command.Get id)
-  get_late id mine passed = by (at row.copies id) refl passed
+  pub get_late : (id : ObjectId) → (id.job.0 == row.job) ≡ true → get_check row id ≡ None → is_late (command.Get id)
+  get_late id mine passed = by_task (is_remembered row.ended_tasks id.task) refl passed
     where
-      by_state : (k : Kept) → at row.copies id ≡ Some k → (state : CopyState) → k.copy.state ≡ state → cond (is_created state) (Some NotSealed) (cond (is_sealed state) (hold_check_of k) None) ≡ None → is_late (command.Get id)
-      by_state k found Created is e = none_some NotSealed (sym e)
-      by_state k found Sealed is e = held_late id mine k found is e
-      by_state k found Restoring is e = by_change (command.Get id) (refused s Pending) (get_at node row line contents session id mine h k found Restoring is) refl
-      by_state k found Fetching is e =
-          ap (may_grow s) (sym (again node row line contents session id mine h k found (ap is_fetching is) (number k) (λ f fetch. ap (λ (o : Option Fetch). option_map_or (λ f. f.number) o 0) fetch) _ refl).reply)
+      by_state : is_remembered row.ended_tasks id.task ≡ false → (k : Kept) → at row.copies id ≡ Some k → k.copy.doomed ≡ false → (state : CopyState) → k.copy.state ≡ state
+          → cond (is_created state) (Some NotSealed) (cond (is_sealed state) (hold_check_of k) None) ≡ None → is_late (command.Get id)
+      by_state alive k found unmarked Created is e = none_some NotSealed (sym e)
+      by_state alive k found unmarked Sealed is e = held_late id mine alive k found unmarked is e
+      by_state alive k found unmarked Restoring is e = by_change (command.Get id) (refused s Pending) (get_at node row beside contents session id mine alive h k found unmarked Restoring is) refl
+      by_state alive k found unmarked Fetching is e =
+          ap (may_grow s) (sym (again node row beside contents session id mine alive h k found unmarked (ap is_fetching is) (number k) (λ f fetch. ap (λ (o : Option Fetch). option_map_or (λ f. f.number) o 0) fetch) _ refl).reply)
         where
           number : Kept → ℕ
           number k = option_map_or (λ (f : Fetch). f.number) k.copy.fetch 0
-      by_state k found Away is e = true_false (ap (λ state. is_plain state k.copy.fetch) (sym is) ∙ (h.plain id k found).state)
+      by_state alive k found unmarked Away is e = true_false (ap (λ state. is_plain state k.copy.fetch) (sym is) ∙ (h.plain id k found).state)
 
-      by : (o : Option Kept) → at row.copies id ≡ o → elim o as (λ _. Option Refusal) [ None ↦ fetch_check row.copies row.fetches_begun | Some kept ↦ get_check_of kept ] ≡ None → is_late (command.Get id)
-      by None none e = ap (may_grow s) (sym (fetch_done node row line contents session id mine h none e).reply)
-      by (Some k) found e = by_state k found k.copy.state refl e
+      by_mark : is_remembered row.ended_tasks id.task ≡ false → (k : Kept) → at row.copies id ≡ Some k → (b : Bool) → k.copy.doomed ≡ b
+          → cond b (Some Absent) (cond (is_created k.copy.state) (Some NotSealed) (cond (is_sealed k.copy.state) (hold_check_of k) None)) ≡ None → is_late (command.Get id)
+      by_mark alive k found true t e = none_some Absent (sym e)
+      by_mark alive k found false t e = by_state alive k found t k.copy.state refl e
+
+      by : is_remembered row.ended_tasks id.task ≡ false → (o : Option Kept) → at row.copies id ≡ o → elim o as (λ _. Option Refusal) [ None ↦ fetch_check row.copies row.fetches_begun | Some kept ↦ get_check_of kept ] ≡ None → is_late (command.Get id)
+      by alive None none e = ap (may_grow s) (sym (fetch_done node row beside contents session id mine alive h none e).reply)
+      by alive (Some k) found e = by_mark alive k found k.copy.doomed refl e
+
+      by_task : (b : Bool) → is_remembered row.ended_tasks id.task ≡ b → cond b (Some Gone) (copy_check row.copies row.fetches_begun id) ≡ None → is_late (command.Get id)
+      by_task true t e = none_some Gone (sym e)
+      by_task false t e = by t (at row.copies id) refl e

@@ -31,16 +31,15 @@ use Rattle.private_store.proofs.Tests.{and_left, and_right, both, some_value, no
 use Rattle.job_region.specs.Region.{bytes_at as placed_bytes}
 use Rattle.lru_evictor.specs.Orders.{AreThere}
 use Rattle.lru_evictor.proofs.Reorders.{reordered-unused}
-use Rattle.spill_work.specs.Line.{WorkLine}
 use Rattle.node_table.specs.Entries.{changed, all_changed}
 use Rattle.node_table.specs.Kept.{Kept, left}
-use Rattle.node_table.specs.Row.{Row, copies_of, shape_of, place_of, ArePlaced}
+use Rattle.node_table.specs.Row.{Row, Beside, copies_of, shape_of, place_of, ArePlaced}
 use Rattle.node_table.specs.Shown.{seen, IsPlain, IsShown, only, TakesStep}
 use Rattle.node_table.proofs.ByChecks.{called}
 use Rattle.node_table.proofs.CopyTables.{at-copies}
 use Rattle.node_table.proofs.Places.{same_places}
 use Rattle.node_table.proofs.Releasing.{settled-stays, plain-holds}
-use Rattle.node_table.proofs.Stepping.{Moves, moved, same_bytes}
+use Rattle.node_table.proofs.Stepping.{Moves, moved, same_bytes, received_stays}
 
 -- ---- a table whose entries are changed one after another
 
@@ -153,9 +152,9 @@ leaves-each session (id ∷ ids) store h =
 
 -- ---- the step
 
-module _ (node : ℕ) (row : Row) (line : WorkLine) (contents : Contents) (session : ℕ) (h : IsShown row line contents) where
+module _ (node : ℕ) (row : Row) (beside : Beside) (contents : Contents) (session : ℕ) (h : IsShown row beside contents) where
   abbrev s : Shape
-  s = shape_of row line
+  s = shape_of row beside
 
   abbrev x : Input
   x = input.Call session command.Leave
@@ -165,7 +164,7 @@ module _ (node : ℕ) (row : Row) (line : WorkLine) (contents : Contents) (sessi
   row_left = record row { copies = all_changed (left session) row.copies }
 
   abbrev c : Change
-  c = erasing s (done (shape_of row_left line))
+  c = erasing s (done (shape_of row_left beside))
 
   one : (q : ObjectId) (y : Kept) → at row_left.copies q ≡ Some y → (z : Kept) × (at row.copies q ≡ Some z) × (y ≡ left session z)
   one = from_all (left session) row.copies
@@ -175,13 +174,13 @@ module _ (node : ℕ) (row : Row) (line : WorkLine) (contents : Contents) (sessi
       let k = from_copies row.copies q copy found in
       ap (λ y. y.doomed) (sym k.2) ∙ (h.plain q k.0 k.1).doomed
 
-  leave-is : leave s session ≡ done (shape_of row_left line)
+  leave-is : leave s session ≡ done (shape_of row_left beside)
   leave-is =
       leaves-each session (ids_of s.copies) s sound
       ∙ ap (λ t. done (record s { copies = t })) (turns-all (unheld session) s.copies (T_true _ h.kept.kept.shape.by_id) ∙ sym (copies-left session row.copies))
 
-  step_is : step row.order s (judge node (seen row line contents) x) ≡ c
-  step_is = called row line session command.Leave ∙ ap (erasing s) leave-is
+  step_is : step row.order s (judge node (seen row beside contents) x) ≡ c
+  step_is = called row beside session command.Leave ∙ ap (erasing s) leave-is
 
   still : (q : ObjectId) → is_some (at s.copies q) ≡ true → is_some (at (copies_of row_left.copies) q) ≡ true
   still q t = ap (λ es. is_some (at es q)) (copies-left session row.copies) ∙ found_all (unheld session) s.copies q t
@@ -192,7 +191,7 @@ module _ (node : ℕ) (row : Row) (line : WorkLine) (contents : Contents) (sessi
   keys : T (list_all (λ e. is_some (at (copies_of row_left.copies) e.0)) s.copies)
   keys = T_true _ (all_weaker (λ e. is_some (at s.copies e.0)) (λ e. is_some (at (copies_of row_left.copies) e.0)) s.copies (λ e. still e.0) (true_T _ (all_found s.copies)))
 
-  m : Moves node row line contents h x c (only reply.Ok) row_left line
+  m : Moves node row beside contents h x c (only reply.Ok) row_left beside
   m = record {
     shape = refl;
     order = sym (reordered-unused row.order (copies_of row_left.copies) there);
@@ -201,19 +200,21 @@ module _ (node : ℕ) (row : Row) (line : WorkLine) (contents : Contents) (sessi
     bytes = λ q y e is lies.
         let z = one q y is in
         ap (λ y. filled (at contents.bytes q) y.copy) z.2
-        ∙ same_bytes node row line contents h x q z.0 e z.1 (sym (ap (λ y. extent_of y.copy) z.2) ∙ lies)
+        ∙ same_bytes node row beside contents h x q z.0 e z.1 (sym (ap (λ y. extent_of y.copy) z.2) ∙ lies)
         ∙ ap (λ y. take y.copy.length (placed_bytes e row.window.placed)) (sym z.2);
     digests = λ q y is keep.
         let z = one q y is in
         h.digests q z.0 z.1 (ap (λ y. keeps_digest y.copy) (sym z.2) ∙ keep) ∙ ap (λ y. unwrap_or y.digest no_digest) (sym z.2);
     working = λ q y is. let z = one q y is in ap (λ y. y.working) z.2 ∙ h.working q z.0 z.1;
     plain = λ q y is. let z = one q y is in subst (λ y. IsPlain y.copy) (sym z.2) (plain-holds z.0.copy session 0 (h.plain q z.0 z.1));
+    granted = λ q y is. let z = one q y is in ap (λ y. y.granted) z.2 ∙ h.granted q z.0 z.1;
+    received = received_stays node row beside contents h x refl;
     reply = refl;
     erased = sym (ap (map (key_of row.job)) (keys_none s.copies (copies_of row_left.copies) keys));
   }
 
-  pub leave_done : TakesStep node row line contents x (only reply.Ok) row_left line
-  leave_done = moved node row line contents h x c step_is (only reply.Ok) row_left line m refl
+  pub leave_done : TakesStep node row beside contents x (only reply.Ok) row_left beside
+  leave_done = moved node row beside contents h x c step_is (only reply.Ok) row_left beside m refl
 
 -- ---- where the copies lie
 

@@ -14,9 +14,8 @@ use Rattle.private_store.specs.Contents.{Contents, bytes_at}
 use Rattle.private_store.specs.Kept.{are_held}
 use Rattle.private_store.proofs.Tests.{some_value}
 use Rattle.job_region.specs.Region.{bytes_at as placed_bytes}
-use Rattle.spill_work.specs.Line.{WorkLine}
 use Rattle.node_table.specs.Kept.{Kept}
-use Rattle.node_table.specs.Row.{Row, copies_of}
+use Rattle.node_table.specs.Row.{Row, Beside, copies_of}
 use Rattle.node_table.specs.Checks.{lend_check, lend_check_of}
 use Rattle.node_table.specs.Shown.{IsShown, IsLent}
 use Rattle.node_table.proofs.CopyTables.{at-copies, at-copies_found}
@@ -41,7 +40,7 @@ lend-by es session id o is = ap (by_copy session) (at-copies es id ∙ ap (optio
     by None = refl
     by (Some k) = refl
 
-module _ (row : Row) (line : WorkLine) (contents : Contents) (h : IsShown row line contents) (session : ℕ) (id : ObjectId) where
+module _ (row : Row) (beside : Beside) (contents : Contents) (h : IsShown row beside contents) (session : ℕ) (id : ObjectId) where
   module _ (k : Kept) (found : at row.copies id ≡ Some k) (held : (holds_of k.copy session == 0) ≡ false) where
     -- what is held is sealed
     held_sealed : is_sealed k.copy.state ≡ true

@@ -2,6 +2,7 @@ mod Changes
 pub mod CopyTables
 pub mod Places
 pub mod Rising
+mod Received
 pub mod Stepping
 pub mod ByChecks
 pub mod Passed

@@ -28,15 +28,15 @@ use Rattle.lru_evictor.specs.declared.facts.Plan.{Plan as Found}
 use Rattle.lru_evictor.specs.Orders.{Orders, order_of}
 use Rattle.lru_evictor.specs.Plans.{IsDescribed, shown}
 use Rattle.lru_evictor.proofs.Described.{fits-described}
-use Rattle.spill_work.specs.Line.{WorkLine, in_flight, used_by}
+use Rattle.spill_work.specs.Line.{WorkLine, works_of, in_flight, used_by}
 use Rattle.node_table.specs.Kept.{Kept}
-use Rattle.node_table.specs.Row.{Row, shape_of, place_of, ArePlaced}
+use Rattle.node_table.specs.Row.{Row, Beside, shape_of, place_of, ArePlaced}
 use Rattle.node_table.specs.Shown.{IsShown}
 use Rattle.node_table.specs.RoomPlans.{IsPlanned, MakesPlace, plan_by}
 use Rattle.node_table.specs.Usages.{total, device_bytes}
 use Rattle.node_table.proofs.Telling.{device_is}
 use Rattle.node_table.specs.declared.room.RoomPlan.{RoomPlan}
-use Rattle.node_table.specs.declared.room.RoomPlan.TheVariants.{Place, Ask, Refuse}
+use Rattle.node_table.specs.declared.room.RoomPlan.TheVariants.{Place, Ask, TellFailedSpill, Refuse}
 use Rattle.node_table.proofs.Described.{described, facts_at}
 
 -- what is so of each among the ids is so of all
@@ -51,10 +51,10 @@ at_once : {X : Type 0} (test : List X → Bool) (xs : List X) → test [] ≡ tr
 at_once test [] t = ap (λ b. cond b (Some []) None) t
 at_once test (x ∷ xs) t = ap (λ b. elim b [ true ↦ Some [] | false ↦ shortest_from test ([] ++ x ∷ []) xs ]) t
 
-module _ (order : List ObjectId) (once : IsOrderOfUse order) (store : Shape) (unfailed : store.spill_failed ≡ false) (n : ℕ) where
+module _ (order : List ObjectId) (once : IsOrderOfUse order) (store : Shape) (n : ℕ) where
   -- what a plan does is what is to be done
   abbrev IsDone : Plan → Type 0
-  IsDone p = IsPlanned (room_by store n p) store n (plan_by store.works_asked p)
+  IsDone p = IsPlanned (room_by store n p) store n (plan_by store.works_asked store.spill_failed p)
 
   evicts : (ids : List ObjectId) → victims order store n ≡ Some ids → MakesPlace (room_by store n (evict ids)) store n ids
   evicts ids e =
@@ -63,15 +63,22 @@ module _ (order : List ObjectId) (once : IsOrderOfUse order) (store : Shape) (un
 
   spills : (ids : List ObjectId) → AreChosen store (is_spillable store) ids → 0 < length ids → length ids ≤ works_left store → IsDone (spill ids)
   spills ids chosen some few =
-      elim (has_numbers store.works_asked (length ids)) as (λ b. has_numbers store.works_asked (length ids) ≡ b → IsPlanned (room_by store n (spill ids)) store n (cond b (Ask ids) (Refuse TooMany))) [
-        | true ↦ λ t. record { room_is = spill_is true t; spillable = all_among _ ids chosen.pass; once = chosen.once; some = some; few = few; numbers = t }
-        | false ↦ λ t. spill_is false t
+      elim store.spill_failed as (λ f. store.spill_failed ≡ f → IsPlanned (room_by store n (spill ids)) store n (cond f TellFailedSpill (cond (has_numbers store.works_asked (length ids)) (Ask ids) (Refuse TooMany)))) [
+        | true ↦ λ failed. spill_by true failed
+        | false ↦ λ unfailed.
+          elim (has_numbers store.works_asked (length ids)) as (λ b. has_numbers store.works_asked (length ids) ≡ b → IsPlanned (room_by store n (spill ids)) store n (cond b (Ask ids) (Refuse TooMany))) [
+            | true ↦ λ t. record { room_is = spill_is unfailed true t; spillable = all_among _ ids chosen.pass; once = chosen.once; some = some; few = few; numbers = t }
+            | false ↦ λ t. spill_is unfailed false t
+          ] refl
       ] refl
     where
-      spill_is : (b : Bool) → has_numbers store.works_asked (length ids) ≡ b → spill_room store ids ≡ cond b (no_room (fold (asked true) store ids) Pending) (no_room store TooMany)
-      spill_is b t =
-          ap (λ f. cond f (no_room (record store { spill_failed = false }) DeviceFailed) (cond (has_numbers store.works_asked (length ids)) (no_room (fold (asked true) store ids) Pending) (no_room store TooMany))) unfailed
-          ∙ ap (λ b. cond b (no_room (fold (asked true) store ids) Pending) (no_room store TooMany)) t
+      spill_by : (f : Bool) → store.spill_failed ≡ f
+          → spill_room store ids ≡ cond f (no_room (record store { spill_failed = false }) DeviceFailed) (cond (has_numbers store.works_asked (length ids)) (no_room (fold (asked true) store ids) Pending) (no_room store TooMany))
+      spill_by f is =
+          ap (λ f. cond f (no_room (record store { spill_failed = false }) DeviceFailed) (cond (has_numbers store.works_asked (length ids)) (no_room (fold (asked true) store ids) Pending) (no_room store TooMany))) is
+
+      spill_is : store.spill_failed ≡ false → (b : Bool) → has_numbers store.works_asked (length ids) ≡ b → spill_room store ids ≡ cond b (no_room (fold (asked true) store ids) Pending) (no_room store TooMany)
+      spill_is unfailed b t = spill_by false unfailed ∙ ap (λ b. cond b (no_room (fold (asked true) store ids) Pending) (no_room store TooMany)) t
 
   spills_first : (id : ObjectId) (ids : List ObjectId) → AreChosen store (is_spillable store) (id ∷ ids) → IsDone (spill_plan store (id ∷ ids))
   spills_first id ids chosen =
@@ -125,18 +132,18 @@ passes_check window n = by (is_size window.quota n) (is_some (place_for window n
     by true false e = absurd cc
     by false place e = absurd cc
 
-module _ (row : Row) (line : WorkLine) (contents : Contents) (h : IsShown row line contents) (placed : ArePlaced row.window.placed (place_of row.copies)) (n : ℕ) where
+module _ (row : Row) (beside : Beside) (contents : Contents) (h : IsShown row beside contents) (placed : ArePlaced row.window.placed (place_of row.copies)) (n : ℕ) where
   abbrev s : Shape
-  s = shape_of row line
+  s = shape_of row beside
 
-  pub planned : IsPlanned (make_room row.order s n) s n (plan_by s.works_asked (plan row.order s n))
-  planned = plan_done row.order h.kept.order s refl n
+  pub planned : IsPlanned (make_room row.order s n) s n (plan_by s.works_asked s.spill_failed (plan row.order s n))
+  planned = plan_done row.order h.kept.order s n
 
   pub place_planned : place_check row.window n ≡ None → IsPlanned (make_room row.order s n) s n (Place [])
   place_planned none =
       let device : DeviceRoom = record { quota = row.device; used = device_used s; works = length s.works } in
-      place_done row.order h.kept.order s refl n
-      (sym (fits-described s row.window device (facts_at row.copies) (described row line contents h placed device refl refl refl) n [])
+      place_done row.order h.kept.order s n
+      (sym (fits-described s row.window device (facts_at row.copies) (described row beside contents h placed device refl refl refl) n [])
       ∙ ap (λ ps. is_some (first (extents_of ps) row.window.quota n)) (none_go row.window.placed)
       ∙ passes_check row.window n none)
 
@@ -149,19 +156,19 @@ module _ (row : Row) (line : WorkLine) (contents : Contents) (h : IsShown row li
 
   module _ (job : JobNo) (own : job ≡ record { 0 = row.job }) where
     module _ (window : Region) (here : window ≡ row.window) (copies : ById Kept) (same : copies ≡ row.copies) (quota used works : ℕ)
-        (of_job : quota ≡ row.device) (walked : used ≡ total device_bytes copies) (counted : works ≡ in_flight line job) where
+        (of_job : quota ≡ row.device) (walked : used ≡ total device_bytes copies) (line : WorkLine) (works_are : beside.works ≡ works_of line (record { 0 = row.job })) (used_is : beside.used ≡ used_by line (record { 0 = row.job })) (counted : works ≡ in_flight line job) where
       abbrev device : DeviceRoom
       device = record { quota = quota; used = used; works = works }
 
       as_described : IsDescribed s window device (facts_at copies)
       as_described =
           subst (λ w. IsDescribed s w device (facts_at copies)) (sym here) (subst (λ t. IsDescribed s row.window device (facts_at t)) (sym same)
-          (described row line contents h placed device of_job
-          (walked ∙ ap (total device_bytes) same ∙ device_is row line contents h) (counted ∙ ap (in_flight line) own)))
+          (described row beside contents h placed device of_job
+          (walked ∙ ap (total device_bytes) same ∙ device_is row beside contents h) (counted ∙ ap (in_flight line) own ∙ ap length (sym works_are))))
 
       pub plan_exit : (orders : Orders) → order_of row.job orders ≡ row.order → (p : Found)
           → ((store : Shape) → IsDescribed store window device (facts_at copies) → shown p ≡ plan (order_of job.0 orders) store n)
-          → (asked : ℕ) → asked ≡ used_by line job → (told : RoomPlan) → told ≡ plan_by asked (shown p) → IsPlanned (make_room row.order s n) s n told
-      plan_exit orders order p is_plan asked is_asked told is =
+          → (asked : ℕ) → asked ≡ used_by line job → (failed : Bool) → failed ≡ row.spill_failed → (told : RoomPlan) → told ≡ plan_by asked failed (shown p) → IsPlanned (make_room row.order s n) s n told
+      plan_exit orders order p is_plan asked is_asked failed is_failed told is =
           subst (IsPlanned (make_room row.order s n) s n)
-          (sym (is ∙ (λ i. plan_by ((is_asked ∙ ap (used_by line) own) i) ((is_plan s as_described ∙ ap (λ o. plan o s n) (ap (λ (j : JobNo). order_of j.0 orders) own ∙ order)) i)))) planned
+          (sym (is ∙ (λ i. plan_by ((is_asked ∙ ap (used_by line) own ∙ sym used_is) i) (is_failed i) ((is_plan s as_described ∙ ap (λ o. plan o s n) (ap (λ (j : JobNo). order_of j.0 orders) own ∙ order)) i)))) planned

@@ -20,17 +20,16 @@ use Rattle.private_store.specs.Step.{step}
 use Rattle.private_store.proofs.Checks.{checked-nil}
 use Rattle.private_store.proofs.Rows.{at-put_here}
 use Rattle.lru_evictor.proofs.Reorders.{reordered-unused}
-use Rattle.spill_work.specs.Line.{WorkLine}
 use Rattle.node_table.specs.Entries.{changed}
 use Rattle.node_table.specs.Kept.{Kept, released}
-use Rattle.node_table.specs.Row.{Row, copies_of, shape_of}
+use Rattle.node_table.specs.Row.{Row, Beside, copies_of, shape_of}
 use Rattle.node_table.specs.Checks.{release_check}
 use Rattle.node_table.specs.Shown.{seen, IsPlain, IsShown, only, TakesStep}
 use Rattle.node_table.proofs.ByChecks.{unless_refused, first-check, in_table, called, own}
 use Rattle.node_table.proofs.CopyTables.{at-copies, at-copies_found, copies-changed}
 use Rattle.node_table.proofs.Passed.{there}
-use Rattle.node_table.proofs.Changing.{there_still, bytes_stay, digests_stay, works_stay, plain_stay, listed_stay, keys_with}
-use Rattle.node_table.proofs.Stepping.{Moves, moved, stays}
+use Rattle.node_table.proofs.Changing.{there_still, bytes_stay, digests_stay, works_stay, plain_stay, listed_stay, keys_with, granted_stay}
+use Rattle.node_table.proofs.Stepping.{Moves, moved, stays, received_stays}
 
 -- what isn't doomed stays
 pub settled-stays : (store : Shape) (id : ObjectId) (copy : Copy) → at store.copies id ≡ Some copy → copy.doomed ≡ false → settled store id ≡ store
@@ -42,9 +41,9 @@ settled-stays store id copy found sound =
 pub plain-holds : (copy : Copy) (session n : ℕ) → IsPlain copy → IsPlain (with_holds copy session n)
 plain-holds copy session n p = record { state = p.state; doomed = p.doomed; backed = p.backed; fault = p.fault }
 
-module _ (node : ℕ) (row : Row) (line : WorkLine) (contents : Contents) (session : ℕ) (id : ObjectId) (mine : (id.job.0 == row.job) ≡ true) (h : IsShown row line contents) where
+module _ (node : ℕ) (row : Row) (beside : Beside) (contents : Contents) (session : ℕ) (id : ObjectId) (mine : (id.job.0 == row.job) ≡ true) (h : IsShown row beside contents) where
   abbrev s : Shape
-  s = shape_of row line
+  s = shape_of row beside
 
   abbrev x : Input
   x = input.Call session (command.Release id)
@@ -59,14 +58,14 @@ module _ (node : ℕ) (row : Row) (line : WorkLine) (contents : Contents) (sessi
 
   release-by : release s session id ≡ unless_refused s (release_check row.copies session id) release_done
   release-by =
-      in_table row line id _ (λ k. cond (holds_of k.copy session == 0) (Some NotHeld) None) release_done (λ k found.
+      in_table row beside id _ (λ k. cond (holds_of k.copy session == 0) (Some NotHeld) None) release_done (λ k found.
       first-check s (holds_of k.copy session == 0) NotHeld [] _ None release_done
       (checked-nil s _ ∙ sym (ap (λ o. option_map_or less o (refused s Absent)) (at-copies row.copies id ∙ ap (option_map (λ k. k.copy)) found))))
 
-  pub release_refused : (r : Refusal) → release_check row.copies session id ≡ Some r → TakesStep node row line contents x (only (reply.Refused r)) row line
+  pub release_refused : (r : Refusal) → release_check row.copies session id ≡ Some r → TakesStep node row beside contents x (only (reply.Refused r)) row beside
   release_refused r e =
-      stays node row line contents h x (reply.Refused r)
-      (called row line session (command.Release id) ∙ ap (erasing s) (own row line id _ mine ∙ release-by ∙ ap (λ o. unless_refused s o release_done) e)) refl refl
+      stays node row beside contents h x (reply.Refused r)
+      (called row beside session (command.Release id) ∙ ap (erasing s) (own row beside id _ mine ∙ release-by ∙ ap (λ o. unless_refused s o release_done) e)) refl refl refl
 
   -- the row with a hold less
   abbrev pub row_released : Row
@@ -82,31 +81,33 @@ module _ (node : ℕ) (row : Row) (line : WorkLine) (contents : Contents) (sessi
     keeps : (z : Kept) → ((released session z).copy.offset ≡ z.copy.offset) × ((released session z).copy.length ≡ z.copy.length)
     keeps z = (refl, refl)
 
-    m : Moves node row line contents h x c (only reply.Ok) row_released line
+    m : Moves node row beside contents h x c (only reply.Ok) row_released beside
     m = record {
       shape = ap (λ t. record s { copies = t }) (sym (copies-changed (released session) row.copies id k found));
-      order = sym (reordered-unused row.order (copies_of row_released.copies) (there_still node row line contents h x id k found (released session) keeps row.order h.there));
-      there = there_still node row line contents h x id k found (released session) keeps row.order h.there;
-      listed = listed_stay node row line contents h x id k found (released session) keeps row.order h.listed;
-      bytes = bytes_stay node row line contents h x id k found (released session) keeps c refl;
-      digests = digests_stay node row line contents h x id k found (released session) keeps c refl refl (λ keep. keep);
-      working = works_stay node row line contents h x id k found (released session) keeps refl;
-      plain = plain_stay node row line contents h x id k found (released session) keeps (plain-holds k.copy session (holds_of k.copy session - 1) (h.plain id k found));
+      order = sym (reordered-unused row.order (copies_of row_released.copies) (there_still node row beside contents h x id k found (released session) keeps row.order h.there));
+      there = there_still node row beside contents h x id k found (released session) keeps row.order h.there;
+      listed = listed_stay node row beside contents h x id k found (released session) keeps row.order h.listed;
+      bytes = bytes_stay node row beside contents h x id k found (released session) keeps c refl;
+      digests = digests_stay node row beside contents h x id k found (released session) keeps c refl refl (λ keep. keep);
+      working = works_stay node row beside contents h x id k found (released session) keeps refl;
+      plain = plain_stay node row beside contents h x id k found (released session) keeps (plain-holds k.copy session (holds_of k.copy session - 1) (h.plain id k found));
+      granted = granted_stay node row beside contents h x id k found (released session) keeps refl;
+      received = received_stays node row beside contents h x refl;
       reply = refl;
       erased = sym (ap (map (key_of row.job)) (keys_with (copies_of row.copies) id now));
     }
 
-    step_is : step row.order s (judge node (seen row line contents) x) ≡ c
+    step_is : step row.order s (judge node (seen row beside contents) x) ≡ c
     step_is =
-        called row line session (command.Release id)
-        ∙ ap (erasing s) (own row line id _ mine ∙ release-by ∙ ap (λ o. unless_refused s o release_done) passed
+        called row beside session (command.Release id)
+        ∙ ap (erasing s) (own row beside id _ mine ∙ release-by ∙ ap (λ o. unless_refused s o release_done) passed
         ∙ ap (λ o. option_map_or less o (refused s Absent)) (at-copies_found row.copies id k found)
         ∙ ap done (settled-stays (set_copy s id now) id now (at-put_here (copies_of row.copies) id now) ((h.plain id k found).doomed)))
 
-    released_there : TakesStep node row line contents x (only reply.Ok) row_released line
-    released_there = moved node row line contents h x c step_is (only reply.Ok) row_released line m refl
+    released_there : TakesStep node row beside contents x (only reply.Ok) row_released beside
+    released_there = moved node row beside contents h x c step_is (only reply.Ok) row_released beside m refl
 
-  pub release_done_so : release_check row.copies session id ≡ None → TakesStep node row line contents x (only reply.Ok) row_released line
+  pub release_done_so : release_check row.copies session id ≡ None → TakesStep node row beside contents x (only reply.Ok) row_released beside
   release_done_so passed =
       let k = there (λ k. cond (holds_of k.copy session == 0) (Some NotHeld) None) Absent (at row.copies id) passed in
       released_there k.0 k.1 passed

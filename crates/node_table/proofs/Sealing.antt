@@ -29,30 +29,29 @@ use Rattle.private_store.proofs.Rows.{at-put, at-put_here}
 use Rattle.private_store.proofs.Tests.{true_false}
 use Rattle.job_region.specs.Region.{bytes_at as placed_bytes}
 use Rattle.lru_evictor.proofs.Reorders.{reordered-unused}
-use Rattle.spill_work.specs.Line.{WorkLine}
 use Rattle.node_table.specs.Entries.{changed}
 use Rattle.node_table.specs.Kept.{Kept, sealed}
-use Rattle.node_table.specs.Row.{Row, copies_of, shape_of}
+use Rattle.node_table.specs.Row.{Row, Beside, copies_of, shape_of}
 use Rattle.node_table.specs.Checks.{seal_check}
 use Rattle.node_table.specs.Shown.{seen, is_plain, IsPlain, IsShown, Given, only, TakesStep}
 use Rattle.node_table.proofs.ByChecks.{unless_refused, called, own, seal_done, seal-by, sending-is}
 use Rattle.node_table.proofs.Changes.{changed-found}
 use Rattle.node_table.proofs.CopyTables.{at-copies_found, copies-changed}
 use Rattle.node_table.proofs.Passed.{IsUnwritten, seal_passed, placed_at, created_resides}
-use Rattle.node_table.proofs.Changing.{there_still, from_changed, bytes_stay, works_stay, plain_stay, listed_stay, keys_with}
-use Rattle.node_table.proofs.Stepping.{Moves, moved, shown_now, stays, digests_now}
+use Rattle.node_table.proofs.Changing.{there_still, from_changed, bytes_stay, works_stay, plain_stay, listed_stay, keys_with, granted_stay}
+use Rattle.node_table.proofs.Stepping.{Moves, moved, shown_now, stays, digests_now, received_stays}
 
-module _ (node : ℕ) (row : Row) (line : WorkLine) (contents : Contents) (session : ℕ) (id : ObjectId) (mine : (id.job.0 == row.job) ≡ true) (h : IsShown row line contents) where
+module _ (node : ℕ) (row : Row) (beside : Beside) (contents : Contents) (session : ℕ) (id : ObjectId) (mine : (id.job.0 == row.job) ≡ true) (h : IsShown row beside contents) where
   abbrev s : Shape
-  s = shape_of row line
+  s = shape_of row beside
 
   abbrev x : Input
   x = input.Call session (command.Seal id)
 
-  pub seal_refused : (r : Refusal) → seal_check row.copies id ≡ Some r → TakesStep node row line contents x (only (reply.Refused r)) row line
+  pub seal_refused : (r : Refusal) → seal_check row.copies id ≡ Some r → TakesStep node row beside contents x (only (reply.Refused r)) row beside
   seal_refused r e =
-      stays node row line contents h x (reply.Refused r)
-      (called row line session (command.Seal id) ∙ ap (erasing s) (own row line id _ mine ∙ seal-by row line id ∙ ap (λ o. unless_refused s o (seal_done row line id)) e)) refl refl
+      stays node row beside contents h x (reply.Refused r)
+      (called row beside session (command.Seal id) ∙ ap (erasing s) (own row beside id _ mine ∙ seal-by row beside id ∙ ap (λ o. unless_refused s o (seal_done row beside id)) e)) refl refl refl
 
   module _ (passed : seal_check row.copies id ≡ None) (digest : Digest) where
     abbrev w : IsUnwritten row.copies id
@@ -84,7 +83,7 @@ module _ (node : ℕ) (row : Row) (line : WorkLine) (contents : Contents) (sessi
       abbrev post_of : Location → List Post
       post_of e = (Directory, ToDirectory (AddLocation id e)) ∷ []
 
-      digest_now : (q : ObjectId) (y : Kept) → at row_sealed.copies q ≡ Some y → keeps_digest y.copy ≡ true → unwrap_or (at (digests_now node row line contents h x c) q) no_digest ≡ unwrap_or y.digest no_digest
+      digest_now : (q : ObjectId) (y : Kept) → at row_sealed.copies q ≡ Some y → keeps_digest y.copy ≡ true → unwrap_or (at (digests_now node row beside contents h x c) q) no_digest ≡ unwrap_or y.digest no_digest
       digest_now q y there keep =
           let z = from_changed (sealed digest) row.copies id k found q y there in
           ap (λ p. unwrap_or p no_digest) (at-put contents.digests id (digest_of (bytes_at contents.bytes id)) q) ∙ by z.0 z.1 z.2
@@ -109,24 +108,26 @@ module _ (node : ℕ) (row : Row) (line : WorkLine) (contents : Contents) (sessi
           by Fetching e p = true_false e
           by Away e p = true_false e
 
-      m : Moves node row line contents h x c told row_sealed line
+      m : Moves node row beside contents h x c told row_sealed beside
       m = record {
         shape = ap (λ t. record s { copies = t }) copies_is;
-        order = sym (reordered-unused row.order (copies_of row_sealed.copies) (there_still node row line contents h x id k found (sealed digest) keeps row.order h.there));
-        there = there_still node row line contents h x id k found (sealed digest) keeps row.order h.there;
-        listed = listed_stay node row line contents h x id k found (sealed digest) keeps row.order h.listed;
-        bytes = bytes_stay node row line contents h x id k found (sealed digest) keeps c refl;
+        order = sym (reordered-unused row.order (copies_of row_sealed.copies) (there_still node row beside contents h x id k found (sealed digest) keeps row.order h.there));
+        there = there_still node row beside contents h x id k found (sealed digest) keeps row.order h.there;
+        listed = listed_stay node row beside contents h x id k found (sealed digest) keeps row.order h.listed;
+        bytes = bytes_stay node row beside contents h x id k found (sealed digest) keeps c refl;
         digests = digest_now;
-        working = works_stay node row line contents h x id k found (sealed digest) keeps refl;
-        plain = plain_stay node row line contents h x id k found (sealed digest) keeps plain_now;
+        working = works_stay node row beside contents h x id k found (sealed digest) keeps refl;
+        plain = plain_stay node row beside contents h x id k found (sealed digest) keeps plain_now;
+        granted = granted_stay node row beside contents h x id k found (sealed digest) keeps refl;
+        received = received_stays node row beside contents h x refl;
         reply = refl;
         erased = sym (ap (map (key_of row.job)) (keys_with (copies_of row.copies) id now));
       }
 
-      step_is : step row.order s (judge node (seen row line contents) x) ≡ c
+      step_is : step row.order s (judge node (seen row beside contents) x) ≡ c
       step_is =
-          called row line session (command.Seal id)
-          ∙ ap (erasing s) (own row line id _ mine ∙ seal-by row line id ∙ ap (λ p. unless_refused s p (seal_done row line id)) passed
+          called row beside session (command.Seal id)
+          ∙ ap (erasing s) (own row beside id _ mine ∙ seal-by row beside id ∙ ap (λ p. unless_refused s p (seal_done row beside id)) passed
           ∙ ap (λ p. option_map_or (λ copy. sending (add_location id ∷ []) (done (set_copy s id (record copy { state = Sealed })))) p (refused s Absent)) (at-copies_found row.copies id k found)
           ∙ sending-is (add_location id ∷ []) (done (set_copy s id now)))
 
@@ -134,13 +135,13 @@ module _ (node : ℕ) (row : Row) (line : WorkLine) (contents : Contents) (sessi
       there_now = ap (λ t. at t id) (changed-found (sealed digest) id row.copies k found) ∙ at-put_here row.copies id (sealed digest k)
 
       pub seal_done_so : (entry : Location) → entry.node ≡ node → ((z : Kept) → at row.copies id ≡ Some z → entry.length ≡ z.copy.length) → entry.digest ≡ digest
-          → messages ≡ post_of entry → TakesStep node row line contents x told row_sealed line
+          → messages ≡ post_of entry → TakesStep node row beside contents x told row_sealed beside
       seal_done_so entry at_node long its posts =
-          moved node row line contents h x c step_is told row_sealed line m
+          moved node row beside contents h x c step_is told row_sealed beside m
           (posts ∙ ap post_of (
           ap (λ n. record { node = n; length = entry.length; digest = entry.digest }) at_node
           ∙ ap (λ n. record { node = node; length = n; digest = entry.digest }) (long k found ∙ sym (ap (λ p. option_map_or (λ copy. copy.length) p 0) (at-put_here (copies_of row.copies) id now)))
-          ∙ ap (λ d. record { node = node; length = length_at c.shape id; digest = d }) (its ∙ sym ((shown_now node row line contents h x c step_is told row_sealed line m).digests id (sealed digest k) there_now refl))))
+          ∙ ap (λ d. record { node = node; length = length_at c.shape id; digest = d }) (its ∙ sym ((shown_now node row beside contents h x c step_is told row_sealed beside m).digests id (sealed digest k) there_now refl))))
 
     pub seal_digest : (result : Digest) → result ≡ digest → ((k : Kept) (e : Extent) → at row.copies id ≡ Some k → extent_of k.copy ≡ Some e → result ≡ digest_of (take k.copy.length (placed_bytes e row.window.placed))) → digest ≡ digest_of (bytes_at contents.bytes id)
     seal_digest result same its =

@@ -8,13 +8,13 @@ use Rattle.obj_id.specs.declared.commands.Reply.{Reply}
 use Rattle.obj_id.specs.Ids.{id_cmp}
 use Rattle.private_store.specs.declared.inputs.Input.{Input}
 use Rattle.private_store.specs.Tables.{ById, at, is_among}
-use Rattle.private_store.specs.Shape.{Copy, Change}
+use Rattle.private_store.specs.Shape.{Copy, Seen, Change}
 use Rattle.private_store.specs.Copies.{extent_of}
 use Rattle.private_store.specs.Change.{replied, erasing}
 use Rattle.private_store.specs.Step.{step, reordered}
-use Rattle.private_store.specs.Contents.{Contents, View, judge, bytes_at, keeps_digest, no_digest, bytes_brought, digest_brought, brought, whole_reply}
+use Rattle.private_store.specs.Contents.{Contents, View, judge, bytes_at, keeps_digest, no_digest, bytes_brought, digest_brought, bytes_received, brought, kept, whole_reply}
 use Rattle.private_store.specs.Private.{posts_of, key_of, view_step, view_after}
-use Rattle.private_store.specs.Kept.{IsViewKept}
+use Rattle.private_store.specs.Kept.{IsViewKept, has_hand}
 use Rattle.private_store.proofs.Filling.{at-kept, kept_row, filled}
 use Rattle.private_store.proofs.RowContents.{default_same}
 use Rattle.private_store.proofs.RefusingLemmas.{keys_none, all_found}
@@ -22,18 +22,18 @@ use Rattle.private_store.proofs.StepsKept.{view_keeps}
 use Rattle.job_region.specs.Region.{bytes_at as placed_bytes}
 use Rattle.lru_evictor.specs.Orders.{AreThere}
 use Rattle.lru_evictor.proofs.Reorders.{reordered-unused}
-use Rattle.spill_work.specs.Line.{WorkLine, works_of}
 use Rattle.node_table.specs.Kept.{Kept}
-use Rattle.node_table.specs.Row.{Row, copies_of, shape_of}
+use Rattle.node_table.specs.Row.{Row, Beside, copies_of, received_bytes, shape_of}
 use Rattle.node_table.specs.Shown.{seen, work_on, IsPlain, IsShown, Given, only, TakesStep}
 use Rattle.node_table.proofs.CopyTables.{at-copies_found}
+use Rattle.node_table.proofs.Received.{kept_as_they_are}
 
-module _ (node : ℕ) (row : Row) (line : WorkLine) (contents : Contents) (h : IsShown row line contents) (x : Input) where
+module _ (node : ℕ) (row : Row) (beside : Beside) (contents : Contents) (h : IsShown row beside contents) (x : Input) where
   abbrev pub before : View
-  before = seen row line contents
+  before = seen row beside contents
 
   abbrev pub change : Change
-  change = step row.order (shape_of row line) (judge node before x)
+  change = step row.order (shape_of row beside) (judge node before x)
 
   -- the tables of bytes and digests with what the input brings
   abbrev pub bytes_now : Change → ById (List ℕ)
@@ -43,19 +43,21 @@ module _ (node : ℕ) (row : Row) (line : WorkLine) (contents : Contents) (h : I
   digests_now c = brought contents.digests (digest_brought node before x c.reply)
 
   -- what has to be shown of the row after a step whose change this is
-  pub record Moves (c : Change) (told : Given) (new : Row) (after : WorkLine) : Type 0 where
+  pub record Moves (c : Change) (told : Given) (new : Row) (after : Beside) : Type 0 where
     pub shape : c.shape ≡ shape_of new after
     pub order : reordered row.order (copies_of new.copies) c.used ≡ new.order
     pub there : AreThere (copies_of new.copies) new.order
     pub listed : (id : ObjectId) (k : Kept) → at new.copies id ≡ Some k → is_among new.order id ≡ true
     pub bytes : (id : ObjectId) (k : Kept) (e : Extent) → at new.copies id ≡ Some k → extent_of k.copy ≡ Some e → filled (at (bytes_now c) id) k.copy ≡ take k.copy.length (placed_bytes e new.window.placed)
     pub digests : (id : ObjectId) (k : Kept) → at new.copies id ≡ Some k → keeps_digest k.copy ≡ true → unwrap_or (at (digests_now c) id) no_digest ≡ unwrap_or k.digest no_digest
-    pub working : (id : ObjectId) (k : Kept) → at new.copies id ≡ Some k → k.working ≡ work_on (works_of after (record { 0 = new.job })) id
+    pub working : (id : ObjectId) (k : Kept) → at new.copies id ≡ Some k → k.working ≡ work_on after.works id
+    pub granted : (id : ObjectId) (k : Kept) → at new.copies id ≡ Some k → k.granted ≡ has_hand after.given id
+    pub received : kept (λ seen. true) (λ seen. []) (brought contents.received (bytes_received x)) after.received ≡ received_bytes after
     pub plain : (id : ObjectId) (k : Kept) → at new.copies id ≡ Some k → IsPlain k.copy
     pub reply : told.reply ≡ whole_reply before x c.reply
     pub erased : told.erased ≡ map (key_of row.job) c.erased
 
-  module _ (c : Change) (is : change ≡ c) (told : Given) (new : Row) (after : WorkLine) (m : Moves c told new after) where
+  module _ (c : Change) (is : change ≡ c) (told : Given) (new : Row) (after : Beside) (m : Moves c told new after) where
     abbrev pub o : View
     o = view_after node before x (judge node before x) c
 
@@ -101,9 +103,11 @@ module _ (node : ℕ) (row : Row) (line : WorkLine) (contents : Contents) (h : I
           ∙ m.digests id k found keeps;
       plain = m.plain;
       working = m.working;
+      granted = m.granted;
+      received = ap (λ s. kept (λ seen. true) (λ seen. []) (brought contents.received (bytes_received x)) s.received) m.shape ∙ m.received;
     }
 
-    pub moved : told.posts ≡ flat_map (posts_of node o x) c.sent → TakesStep node row line contents x told new after
+    pub moved : told.posts ≡ flat_map (posts_of node o x) c.sent → TakesStep node row beside contents x told new after
     moved posts = record {
       shape = ap (λ v. v.shape) same_view ∙ m.shape;
       order = ap (λ v. v.order) same_view ∙ order_is;
@@ -125,10 +129,16 @@ module _ (node : ℕ) (row : Row) (line : WorkLine) (contents : Contents) (h : I
       by (Some offset) is = refl
       by None is = cc
 
+  -- what others granted stays, if nothing is brought of it
+  pub received_stays : bytes_received x ≡ None → kept (λ seen. true) (λ seen. []) (brought contents.received (bytes_received x)) beside.received ≡ received_bytes beside
+  received_stays none =
+      ap (λ o. kept (λ (seen : Seen). true) (λ seen. []) (brought contents.received o) beside.received) none
+      ∙ ap (λ t. kept (λ (seen : Seen). true) (λ seen. []) t beside.received) h.received ∙ kept_as_they_are beside.bytes beside.received
+
   -- a step that leaves the store as it was
-  pub stays : (r : Reply ℕ) → change ≡ erasing (shape_of row line) (replied (shape_of row line) r) → bytes_brought before x (judge node before x) r ≡ None → digest_brought node before x r ≡ None
-      → TakesStep node row line contents x (only (whole_reply before x r)) row line
-  stays r is bytes digests = moved (erasing (shape_of row line) (replied (shape_of row line) r)) is (only (whole_reply before x r)) row line (record {
+  pub stays : (r : Reply ℕ) → change ≡ erasing (shape_of row beside) (replied (shape_of row beside) r) → bytes_brought before x (judge node before x) r ≡ None → digest_brought node before x r ≡ None → bytes_received x ≡ None
+      → TakesStep node row beside contents x (only (whole_reply before x r)) row beside
+  stays r is bytes digests none = moved (erasing (shape_of row beside) (replied (shape_of row beside) r)) is (only (whole_reply before x r)) row beside (record {
     shape = refl;
     order = sym (reordered-unused row.order (copies_of row.copies) h.there);
     there = h.there;
@@ -137,6 +147,8 @@ module _ (node : ℕ) (row : Row) (line : WorkLine) (contents : Contents) (h : I
     digests = λ id k found keeps. ap (λ d. unwrap_or (at (brought contents.digests d) id) no_digest) digests ∙ h.digests id k found keeps;
     plain = h.plain;
     working = h.working;
+    granted = h.granted;
+    received = received_stays none;
     reply = refl;
     erased = sym (ap (map (key_of row.job)) (keys_none (copies_of row.copies) (copies_of row.copies) (all_found (copies_of row.copies))));
   }) refl

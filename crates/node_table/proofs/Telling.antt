@@ -20,6 +20,7 @@ use Rattle.private_store.specs.declared.inputs.Input.TheVariants as input
 use Rattle.private_store.specs.Limits.{is_quota, is_window, greatest_device_quota}
 use Rattle.private_store.specs.Extents.{rounded, end_of}
 use Rattle.private_store.specs.Tables.{ById, at}
+use Rattle.private_store.specs.Hands.{Hand}
 use Rattle.private_store.specs.Shape.{Copy, Shape, WorkInFlight}
 use Rattle.private_store.specs.Copies.{extent_of, is_writing, window_used, device_used}
 use Rattle.private_store.specs.Commands.{own_items, granted_items, usage_of}
@@ -28,7 +29,7 @@ use Rattle.private_store.specs.Kept.{is_placed}
 use Rattle.private_store.proofs.Tests.{and_right, both_left, both_right, T_true, or_false}
 use Rattle.spill_work.specs.Line.{WorkLine, is_write}
 use Rattle.node_table.specs.Kept.{Kept}
-use Rattle.node_table.specs.Row.{Row, copies_of, shape_of}
+use Rattle.node_table.specs.Row.{Row, Beside, beside_of, copies_of, shape_of}
 use Rattle.node_table.specs.Shown.{work_on, IsShown, only, TakesStep}
 use Rattle.node_table.specs.Usages.{item_of, is_spilling, window_bytes, device_bytes, total, used}
 use Rattle.node_table.proofs.ByChecks.{called}
@@ -41,20 +42,20 @@ items-own : (es : ById Kept) → map item_of es ≡ map (λ (e : ObjectId × Cop
 items-own [] = refl
 items-own (e ∷ es) = ap (λ t. item_of e ∷ t) (items-own es)
 
-module _ (node : ℕ) (row : Row) (line : WorkLine) (contents : Contents) (session : ℕ) (h : IsShown row line contents) where
+module _ (node : ℕ) (row : Row) (beside : Beside) (contents : Contents) (session : ℕ) (h : IsShown row beside contents) where
   abbrev s : Shape
-  s = shape_of row line
+  s = shape_of row beside
 
-  pub list_done : (told : List OwnItem) (granted : List GrantedItem) → told ≡ map item_of row.copies → granted ≡ [] → TakesStep node row line contents (input.Call session command.List) (only (reply.List told granted)) row line
-  list_done told granted is none =
-      subst (λ g. TakesStep node row line contents (input.Call session command.List) (only (reply.List told g)) row line) (sym none)
-      (subst (λ t. TakesStep node row line contents (input.Call session command.List) (only (reply.List t [])) row line) (sym (is ∙ items-own row.copies))
-      (stays node row line contents h (input.Call session command.List) (reply.List (own_items s) (granted_items s)) (called row line session command.List) refl refl))
+  pub list_done : (told : List OwnItem) (granted : List GrantedItem) → told ≡ map item_of row.copies → granted ≡ granted_items s → TakesStep node row beside contents (input.Call session command.List) (only (reply.List told granted)) row beside
+  list_done told granted is given =
+      subst (λ g. TakesStep node row beside contents (input.Call session command.List) (only (reply.List told g)) row beside) (sym given)
+      (subst (λ t. TakesStep node row beside contents (input.Call session command.List) (only (reply.List t (granted_items s))) row beside) (sym (is ∙ items-own row.copies))
+      (stays node row beside contents h (input.Call session command.List) (reply.List (own_items s) (granted_items s)) (called row beside session command.List) refl refl refl))
 
-  pub usage_done : (told : Usage) → told ≡ usage_of s → TakesStep node row line contents (input.Call session command.Usage) (only (reply.Usage told)) row line
+  pub usage_done : (told : Usage) → told ≡ usage_of s → TakesStep node row beside contents (input.Call session command.Usage) (only (reply.Usage told)) row beside
   usage_done told is =
-      subst (λ t. TakesStep node row line contents (input.Call session command.Usage) (only (reply.Usage t)) row line) (sym is)
-      (stays node row line contents h (input.Call session command.Usage) (reply.Usage (usage_of s)) (called row line session command.Usage) refl refl)
+      subst (λ t. TakesStep node row beside contents (input.Call session command.Usage) (only (reply.Usage t)) row beside) (sym is)
+      (stays node row beside contents h (input.Call session command.Usage) (reply.Usage (usage_of s)) (called row beside session command.Usage) refl refl refl)
 
 -- ---- the window's bytes
 
@@ -131,9 +132,9 @@ length-copies (e ∷ es) = let rest = length-copies es in omega (arith, rest)
 small : (n : ℕ) → n ≤ 1099511627776 → min n (2 ^ 64 - 1) ≡ n
 small n le = grind (arith, nat_tests, le)
 
-module _ (row : Row) (line : WorkLine) (contents : Contents) (h : IsShown row line contents) where
+module _ (row : Row) (beside : Beside) (contents : Contents) (h : IsShown row beside contents) where
   abbrev store : Shape
-  store = shape_of row line
+  store = shape_of row beside
 
   sorted : T (is_sorted id_cmp row.copies)
   sorted = T_true _ (sym (sorted-copies row.copies) ∙ h.kept.kept.shape.by_id)
@@ -171,14 +172,18 @@ module _ (row : Row) (line : WorkLine) (contents : Contents) (h : IsShown row li
       let q = device_most in
       small (sum_by (λ e. device_bytes e.1) row.copies) (omega (arith, is, d, q)) ∙ is
 
-  pub used-is : used row line ≡ usage_of store
+module _ (row : Row) (line : WorkLine) (hands : List Hand) (bytes : ObjectId → List ℕ) (contents : Contents) (h : IsShown row (beside_of line hands bytes row.job) contents) where
+  abbrev beside : Beside
+  beside = beside_of line hands bytes row.job
+
+  pub used-is : used row line ≡ usage_of (shape_of row beside)
   used-is =
       let copies = sym (length-copies row.copies) in
       λ i. record {
         window = row.window.quota;
-        window_used = window_is i;
+        window_used = window_is row beside contents h i;
         device = row.device;
-        device_used = device_is i;
+        device_used = device_is row beside contents h i;
         copies = copies i;
-        works = length store.works;
+        works = length beside.works;
       }

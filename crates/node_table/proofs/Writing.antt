@@ -23,9 +23,8 @@ use Rattle.private_store.specs.Private.{key_of}
 use Rattle.job_region.specs.Region.{bytes_at as placed_bytes}
 use Rattle.job_region.proofs.Parts.{part_over_within}
 use Rattle.lru_evictor.proofs.Reorders.{reordered-unused}
-use Rattle.spill_work.specs.Line.{WorkLine}
 use Rattle.node_table.specs.Kept.{Kept}
-use Rattle.node_table.specs.Row.{Row, copies_of, shape_of, place_of, ArePlaced}
+use Rattle.node_table.specs.Row.{Row, Beside, copies_of, shape_of, place_of, ArePlaced}
 use Rattle.node_table.specs.Checks.{write_check, read_check}
 use Rattle.node_table.specs.Shown.{IsShown, only, TakesStep}
 use Rattle.node_table.proofs.ByChecks.{unless_refused, called, own, write-by, read-by}
@@ -33,20 +32,20 @@ use Rattle.node_table.proofs.CopyTables.{at-copies_found}
 use Rattle.node_table.proofs.Passed.{IsWritten, write_passed, IsRead, read_passed, placed_at, place_found, created_resides, at_most_rounded}
 use Rattle.node_table.proofs.Places.{bytes-written, bytes-other, long_at}
 use Rattle.node_table.proofs.Lending.{held_shown}
-use Rattle.node_table.proofs.Stepping.{moved, stays, same_bytes}
+use Rattle.node_table.proofs.Stepping.{moved, stays, same_bytes, received_stays}
 
-module _ (node : ℕ) (row : Row) (line : WorkLine) (contents : Contents) (session : ℕ) (id : ObjectId) (offset : ℕ) (mine : (id.job.0 == row.job) ≡ true) (h : IsShown row line contents) where
+module _ (node : ℕ) (row : Row) (beside : Beside) (contents : Contents) (session : ℕ) (id : ObjectId) (offset : ℕ) (mine : (id.job.0 == row.job) ≡ true) (h : IsShown row beside contents) where
   abbrev s : Shape
-  s = shape_of row line
+  s = shape_of row beside
 
   module _ (bytes : List ℕ) where
     abbrev x : Input
     x = input.Call session (command.Write id offset bytes)
 
-    pub write_refused : (r : Refusal) → write_check row.copies id offset (length bytes) ≡ Some r → TakesStep node row line contents x (only (reply.Refused r)) row line
+    pub write_refused : (r : Refusal) → write_check row.copies id offset (length bytes) ≡ Some r → TakesStep node row beside contents x (only (reply.Refused r)) row beside
     write_refused r e =
-        stays node row line contents h x (reply.Refused r)
-        (called row line session (command.Write id offset (length bytes)) ∙ ap (erasing s) (own row line id _ mine ∙ write-by row line id offset (length bytes) ∙ ap (λ o. unless_refused s o (done s)) e)) refl refl
+        stays node row beside contents h x (reply.Refused r)
+        (called row beside session (command.Write id offset (length bytes)) ∙ ap (erasing s) (own row beside id _ mine ∙ write-by row beside id offset (length bytes) ∙ ap (λ o. unless_refused s o (done s)) e)) refl refl refl
 
     module _ (passed : write_check row.copies id offset (length bytes) ≡ None) where
       abbrev w : IsWritten row.copies id offset (length bytes)
@@ -104,15 +103,15 @@ module _ (node : ℕ) (row : Row) (line : WorkLine) (contents : Contents) (sessi
 
         elsewhere : (q : ObjectId) (k : Kept) (f : Extent) → same_id q id ≡ false → at row.copies q ≡ Some k → extent_of k.copy ≡ Some f → filled (at contents.bytes q) k.copy ≡ take k.copy.length (placed_bytes f wrote.window.placed)
         elsewhere q k f differ found place =
-            same_bytes node row line contents h x q k f found place
+            same_bytes node row beside contents h x q k f found place
             ∙ ap (take k.copy.length) (sym (bytes-other row.window.placed e (placed.there id e is_place) (overwritten old_bytes offset bytes) f (λ same.
             true_false (sym differ ∙ ap (λ y. same_id y id) (sym (placed.apart id q e f is_place (place_found row.copies q k found ∙ place) same)) ∙ same_id-itself id))))
 
-        pub write_done : TakesStep node row line contents x (only reply.Ok) wrote line
+        pub write_done : TakesStep node row beside contents x (only reply.Ok) wrote beside
         write_done =
-            moved node row line contents h x (erasing s (done s))
-            (called row line session (command.Write id offset (length bytes)) ∙ ap (erasing s) (own row line id _ mine ∙ write-by row line id offset (length bytes) ∙ ap (λ o. unless_refused s o (done s)) passed))
-            (only reply.Ok) wrote line (record {
+            moved node row beside contents h x (erasing s (done s))
+            (called row beside session (command.Write id offset (length bytes)) ∙ ap (erasing s) (own row beside id _ mine ∙ write-by row beside id offset (length bytes) ∙ ap (λ o. unless_refused s o (done s)) passed))
+            (only reply.Ok) wrote beside (record {
               shape = refl;
               order = sym (reordered-unused row.order (copies_of row.copies) h.there);
               there = h.there;
@@ -126,6 +125,8 @@ module _ (node : ℕ) (row : Row) (line : WorkLine) (contents : Contents) (sessi
               digests = h.digests;
               plain = h.plain;
               working = h.working;
+              granted = h.granted;
+              received = received_stays node row beside contents h x refl;
               reply = refl;
               erased = sym (ap (map (key_of row.job)) (keys_none (copies_of row.copies) (copies_of row.copies) (all_found (copies_of row.copies))));
             }) refl
@@ -134,19 +135,19 @@ module _ (node : ℕ) (row : Row) (line : WorkLine) (contents : Contents) (sessi
     abbrev y : Input
     y = input.Call session (command.Read id offset n)
 
-    pub read_refused : (r : Refusal) → read_check row.copies session id offset n ≡ Some r → TakesStep node row line contents y (only (reply.Refused r)) row line
+    pub read_refused : (r : Refusal) → read_check row.copies session id offset n ≡ Some r → TakesStep node row beside contents y (only (reply.Refused r)) row beside
     read_refused r e =
-        stays node row line contents h y (reply.Refused r)
-        (called row line session (command.Read id offset n) ∙ ap (erasing s) (own row line id _ mine ∙ read-by row line id session offset n ∙ ap (λ o. unless_refused s o (replied s (reply.Bytes n))) e)) refl refl
+        stays node row beside contents h y (reply.Refused r)
+        (called row beside session (command.Read id offset n) ∙ ap (erasing s) (own row beside id _ mine ∙ read-by row beside id session offset n ∙ ap (λ o. unless_refused s o (replied s (reply.Bytes n))) e)) refl refl refl
 
     module _ (passed : read_check row.copies session id offset n ≡ None) where
       abbrev got : IsRead row.copies session id offset n
       got = read_passed row.copies session id offset n passed
 
-      pub read_done : (told : List ℕ) → told ≡ take n (drop offset (bytes_at contents.bytes id)) → TakesStep node row line contents y (only (reply.Bytes told)) row line
-      read_done told is = subst (λ bs. TakesStep node row line contents y (only (reply.Bytes bs)) row line) (sym is)
-          (stays node row line contents h y (reply.Bytes n)
-          (called row line session (command.Read id offset n) ∙ ap (erasing s) (own row line id _ mine ∙ read-by row line id session offset n ∙ ap (λ o. unless_refused s o (replied s (reply.Bytes n))) passed)) refl refl)
+      pub read_done : (told : List ℕ) → told ≡ take n (drop offset (bytes_at contents.bytes id)) → TakesStep node row beside contents y (only (reply.Bytes told)) row beside
+      read_done told is = subst (λ bs. TakesStep node row beside contents y (only (reply.Bytes bs)) row beside) (sym is)
+          (stays node row beside contents h y (reply.Bytes n)
+          (called row beside session (command.Read id offset n) ∙ ap (erasing s) (own row beside id _ mine ∙ read-by row beside id session offset n ∙ ap (λ o. unless_refused s o (replied s (reply.Bytes n))) passed)) refl refl refl)
 
       pub read_found : (shown : List ℕ) → ((k : Kept) (e : Extent) → at row.copies id ≡ Some k → extent_of k.copy ≡ Some e → shown ≡ take k.copy.length (placed_bytes e row.window.placed)) → shown ≡ bytes_at contents.bytes id
-      read_found = held_shown row line contents h session id got.copy got.found got.held
+      read_found = held_shown row beside contents h session id got.copy got.found got.held

@@ -1,16 +1,18 @@
 -- Why a command can't be carried out, in the order of its checks; its own job's object is meant.
-use Rattle.std.specs.Prelude.{ℕ, ◌+◌, ◌==◌, nat_lt, nat_le, not, length, if◌then◌else◌, List, Option, Some, None, is_some}
+use Rattle.std.specs.Prelude.{ℕ, ◌+◌, ◌==◌, nat_lt, nat_le, not, length, if◌then◌else◌, List, Option, Some, None, is_some, Result, Ok, Err}
 use Rattle.obj_id.specs.declared.ids.ObjectId.{ObjectId}
 use Rattle.obj_id.specs.declared.commands.Command.{Command}
 use Rattle.obj_id.specs.declared.commands.Command.TheVariants as command
+use Rattle.obj_id.specs.declared.commands.CopyState.{CopyState}
 use Rattle.obj_id.specs.declared.refusals.Refusal.{Refusal}
-use Rattle.obj_id.specs.declared.refusals.Refusal.TheVariants.{BadSize, Exists, Absent, AlreadySealed, NotSealed, NotHeld, OutOfBounds, TooMany}
+use Rattle.obj_id.specs.declared.refusals.Refusal.TheVariants.{BadSize, Gone, Exists, Absent, AlreadySealed, NotSealed, NotHeld, OutOfBounds, TooMany}
 use Rattle.private_store.specs.Limits.{most_bytes, most_holds, most_copies, has_numbers}
 use Rattle.private_store.specs.Tables.{ById, at}
 use Rattle.private_store.specs.Extents.{is_size}
 use Rattle.private_store.specs.Shape.{Copy}
 use Rattle.private_store.specs.Copies.{is_created, is_sealed}
 use Rattle.private_store.specs.Commands.{holds_of, all_holds, is_unsealed}
+use Rattle.private_store.specs.Kept.{is_remembered}
 use Rattle.node_table.specs.Kept.{Kept}
 use Rattle.node_table.specs.Row.{Row}
 
@@ -76,23 +78,33 @@ fetch_check copies begun =
 -- puts a copy away, or learns of a source
 abbrev pub get_check_of : Kept → Option Refusal
 get_check_of kept =
-    if is_created kept.copy.state then Some NotSealed else (if is_sealed kept.copy.state then hold_check_of kept else None)
+    if kept.copy.doomed then Some Absent else
+    (if is_created kept.copy.state then Some NotSealed else (if is_sealed kept.copy.state then hold_check_of kept else None))
 
-abbrev pub get_check : ById Kept → ℕ → ObjectId → Option Refusal
-get_check copies begun id = elim (at copies id) [ None ↦ fetch_check copies begun | Some kept ↦ get_check_of kept ]
+-- of an object whose task hasn't ended
+abbrev pub copy_check : ById Kept → ℕ → ObjectId → Option Refusal
+copy_check copies begun id = elim (at copies id) [ None ↦ fetch_check copies begun | Some kept ↦ get_check_of kept ]
 
--- why no copy of n bytes can be made under the id, before room is looked for. No event that is built ends
--- a task
+abbrev pub get_check : Row → ObjectId → Option Refusal
+get_check row id = if is_remembered row.ended_tasks id.task then Some Gone else copy_check row.copies row.fetches_begun id
+
+-- why no copy of n bytes can be made under the id, before room is looked for
 abbrev pub create_check : Row → ObjectId → ℕ → Option Refusal
 create_check row id n =
     if not (is_size row.window.quota n) then Some BadSize else
+    (if is_remembered row.ended_tasks id.task then Some Gone else
     (if is_some (at row.copies id) then Some Exists else
-    (if nat_le most_copies (length row.copies) then Some TooMany else None))
+    (if nat_le most_copies (length row.copies) then Some TooMany else None)))
 
 -- why a command on the job's own object is refused before anything grows
 abbrev pub early_check : Row → ℕ → Command (List ℕ) → Option Refusal
 early_check row session (command.Create id kind n) = create_check row id n
 early_check row session (command.Seal id) = seal_check row.copies id
-early_check row session (command.Get id) = get_check row.copies row.fetches_begun id
+early_check row session (command.Get id) = get_check row id
 early_check row session (command.Read id offset n) = read_check row.copies session id offset n
 early_check row session _ = None
+
+-- the state of a copy that is asked for, if there is one
+abbrev pub visible_state : Option Kept → Result (Option CopyState) Refusal
+visible_state None = Ok None
+visible_state (Some kept) = if kept.copy.doomed then Err Absent else Ok (Some kept.copy.state)

@@ -5,30 +5,29 @@ use Rattle.obj_id.specs.declared.ids.ObjectId.{ObjectId}
 use Rattle.obj_id.specs.declared.refusals.Refusal.{Refusal}
 use Rattle.obj_id.specs.declared.refusals.Refusal.TheVariants.{NoMemory}
 use Rattle.private_store.specs.Tables.{ById, at}
-use Rattle.private_store.specs.Copies.{is_sealed}
 use Rattle.lru_evictor.specs.Orders.{touched}
 use Rattle.node_table.specs.Checks.{hold_check_of}
 use Rattle.node_table.specs.Entries.{changed}
-use Rattle.node_table.specs.Kept.{Kept, held}
+use Rattle.node_table.specs.Kept.{Kept, is_ready, held}
 use Rattle.node_table.specs.Row.{Row}
 
 -- ---- of one copy
 
--- the copy is sealed, and has one more hold: n is its length
+-- the copy is ready, and has one more hold: n is its length
 pub record IsHeld (old : Kept) (session n : ℕ) (new : Kept) : Type 0 where
-  pub sealed : is_sealed old.copy.state ≡ true
+  pub ready : is_ready old.copy ≡ true
   pub passed : hold_check_of old ≡ None
   pub length : n ≡ old.copy.length
   pub copy : new ≡ held session old
 
--- it isn't sealed
-pub record IsUnsealed (old new : Kept) : Type 0 where
-  pub unsealed : is_sealed old.copy.state ≡ false
+-- it isn't ready
+pub record IsUnready (old new : Kept) : Type 0 where
+  pub unready : is_ready old.copy ≡ false
   pub same : new ≡ old
 
--- it is sealed, and can't have one more
+-- it is ready, and can't have one more
 pub record IsHoldRefused (old : Kept) (r : Refusal) (new : Kept) : Type 0 where
-  pub sealed : is_sealed old.copy.state ≡ true
+  pub ready : is_ready old.copy ≡ true
   pub refused : r ≢ NoMemory → hold_check_of old ≡ Some r
   pub late : r ≡ NoMemory → hold_check_of old ≡ None
   pub same : new ≡ old
@@ -38,20 +37,20 @@ pub record IsHoldRefused (old : Kept) (r : Refusal) (new : Kept) : Type 0 where
 pub record IsHeldAt (old : ById Kept) (session : ℕ) (id : ObjectId) (n : ℕ) (new : ById Kept) : Type 0 where
   pub kept : Kept
   pub found : at old id ≡ Some kept
-  pub sealed : is_sealed kept.copy.state ≡ true
+  pub ready : is_ready kept.copy ≡ true
   pub passed : hold_check_of kept ≡ None
   pub length : n ≡ kept.copy.length
   pub copies : new ≡ changed (held session) old id
 
--- it isn't there, or isn't sealed
-pub record IsUnsealedAt (old : ById Kept) (id : ObjectId) (new : ById Kept) : Type 0 where
-  pub unsealed : option_map_or (λ k. is_sealed k.copy.state) (at old id) false ≡ false
+-- it isn't there, or isn't ready
+pub record IsUnreadyAt (old : ById Kept) (id : ObjectId) (new : ById Kept) : Type 0 where
+  pub unready : option_map_or (λ k. is_ready k.copy) (at old id) false ≡ false
   pub same : new ≡ old
 
 pub record IsHoldRefusedAt (old : ById Kept) (id : ObjectId) (r : Refusal) (new : ById Kept) : Type 0 where
   pub kept : Kept
   pub found : at old id ≡ Some kept
-  pub sealed : is_sealed kept.copy.state ≡ true
+  pub ready : is_ready kept.copy ≡ true
   pub refused : r ≢ NoMemory → hold_check_of kept ≡ Some r
   pub late : r ≡ NoMemory → hold_check_of kept ≡ None
   pub same : new ≡ old
@@ -61,7 +60,7 @@ pub record IsHoldRefusedAt (old : ById Kept) (id : ObjectId) (r : Refusal) (new 
 pub record IsRowHeld (old : Row) (session : ℕ) (id : ObjectId) (n : ℕ) (new : Row) : Type 0 where
   pub kept : Kept
   pub found : at old.copies id ≡ Some kept
-  pub sealed : is_sealed kept.copy.state ≡ true
+  pub ready : is_ready kept.copy ≡ true
   pub passed : hold_check_of kept ≡ None
   pub length : n ≡ kept.copy.length
   pub row : new ≡ record old { copies = changed (held session) old.copies id; order = touched id old.order }

@@ -1,5 +1,5 @@
 -- One copy as its row keeps it: the store's copy, its digest, and which work is in flight for it.
-use Rattle.std.specs.Prelude.{◌≡◌, ℕ, ◌+◌, ◌-◌, Bool, ◌&&◌, Option, Some, None, if◌then◌else◌, is_some, is_none, option_map}
+use Rattle.std.specs.Prelude.{◌≡◌, ℕ, ◌+◌, ◌-◌, Bool, false, not, ◌&&◌, Option, Some, None, if◌then◌else◌, is_some, is_none, option_map}
 use Rattle.std.specs.Option.{option_map_or}
 use Rattle.obj_id.specs.declared.commands.Kind.{Kind}
 use Rattle.obj_id.specs.declared.commands.CopyState.TheVariants.{Sealed, Restoring, Away}
@@ -19,14 +19,16 @@ pub record Kept : Type 0 where
   pub digest : Option Digest
   -- the work in flight that writes it or reads it back
   pub working : Option WorkKind
+  -- whether a hand of it stands that the job gave
+  pub granted : Bool
 
 -- a fetch, without the length and the digest that stand in the copy as well
 abbrev pub fetch_of : Fetching → Fetch
 fetch_of fetch = record { number = fetch.number; phase = fetch.phase }
 
--- the copy that has these marks, pins, place and fetch
-abbrev pub kept_of : Marks → Pinned → Option ℕ → Option Fetching → Kept
-kept_of marks pins offset fetch =
+-- the copy that has these marks, pins, place and fetch, and is granted or not
+abbrev pub kept_of : Marks → Pinned → Option ℕ → Option Fetching → Bool → Kept
+kept_of marks pins offset fetch granted =
     record {
       copy = record {
         state = marks.state;
@@ -43,6 +45,7 @@ kept_of marks pins offset fetch =
       };
       digest = marks.digest;
       working = marks.working;
+      granted = granted;
     }
 
 -- marks and fetch say the same of what both know
@@ -54,13 +57,17 @@ pub record Agrees (marks : Marks) (pins : Pinned) (fetch : Option Fetching) : Ty
 
 -- a copy to be written
 abbrev pub new_kept : Kind → ℕ → ℕ → Kept
-new_kept kind n offset = record { copy = new_copy kind n offset; digest = None; working = None }
+new_kept kind n offset = record { copy = new_copy kind n offset; digest = None; working = None; granted = false }
 
 -- a copy that is on its way, its source not known yet
 abbrev pub fetched_kept : ℕ → Kept
-fetched_kept number = record { copy = fetched_copy number; digest = None; working = None }
+fetched_kept number = record { copy = fetched_copy number; digest = None; working = None; granted = false }
 
 -- ---- which change a copy can take
+
+-- whether a session can hold it: sealed, and not doomed
+abbrev pub is_ready : Copy → Bool
+is_ready copy = is_sealed copy.state && not copy.doomed
 
 -- a sealed primary without bytes on the device, and no work of it
 abbrev pub can_spill : Kept → Bool

@@ -3,7 +3,7 @@ use Rattle.std.specs.Prelude.{◌≡◌, ℕ, ◌<◌, ◌≤◌, Bool, true, fa
 use Rattle.std.specs.List.{list_all}
 use Rattle.std.specs.Option.{option_map_or}
 use Rattle.obj_id.specs.declared.ids.ObjectId.{ObjectId}
-use Rattle.obj_id.specs.declared.refusals.Refusal.TheVariants.{Pending, Full, Busy, TooMany}
+use Rattle.obj_id.specs.declared.refusals.Refusal.TheVariants.{Pending, Full, Busy, DeviceFailed, TooMany}
 use Rattle.private_store.specs.Limits.{has_numbers}
 use Rattle.private_store.specs.Tables.{at}
 use Rattle.private_store.specs.Extents.{rounded}
@@ -14,13 +14,13 @@ use Rattle.private_store.specs.Room.{Room, Plan, fits, wait, full, busy, evict, 
 use Rattle.lru_evictor.specs.declared.facts.CopyFacts.{CopyFacts}
 use Rattle.node_table.specs.Kept.{Kept}
 use Rattle.node_table.specs.declared.room.RoomPlan.{RoomPlan}
-use Rattle.node_table.specs.declared.room.RoomPlan.TheVariants.{Place, Ask, Refuse}
+use Rattle.node_table.specs.declared.room.RoomPlan.TheVariants.{Place, Ask, TellFailedSpill, Refuse}
 
 -- ---- what a plan reads
 
--- neither held nor working, where no hand was given
+-- neither held nor granted nor working
 abbrev pub is_idle : Kept → Bool
-is_idle kept = not (is_held kept.copy) && is_none kept.working
+is_idle kept = not (is_held kept.copy) && not kept.granted && is_none kept.working
 
 abbrev pub facts_of : Kept → CopyFacts
 facts_of kept =
@@ -28,20 +28,20 @@ facts_of kept =
       extent = extent_of kept.copy;
       bytes = rounded kept.copy.length;
       evictable = is_sealed kept.copy.state && is_idle kept && (not (is_primary kept.copy.kind) || is_some kept.copy.backed);
-      passing = is_some kept.working && is_some kept.copy.offset && not (is_held kept.copy);
+      passing = is_some kept.working && is_some kept.copy.offset && not (is_held kept.copy) && not kept.granted;
       spillable = is_sealed kept.copy.state && is_primary kept.copy.kind && is_none kept.copy.backed && is_idle kept && not kept.copy.doomed;
     }
 
 -- ---- what is to be done
 
--- what a plan is to a job whose works had numbers up to this one
-abbrev pub plan_by : ℕ → Plan → RoomPlan
-plan_by used fits = Place []
-plan_by used (evict ids) = Place ids
-plan_by used wait = Refuse Pending
-plan_by used full = Refuse Full
-plan_by used busy = Refuse Busy
-plan_by used (spill ids) = if has_numbers used (length ids) then Ask ids else Refuse TooMany
+-- what a plan is to a job whose works had numbers up to this one, and of which a spill failed or not
+abbrev pub plan_by : ℕ → Bool → Plan → RoomPlan
+plan_by used failed fits = Place []
+plan_by used failed (evict ids) = Place ids
+plan_by used failed wait = Refuse Pending
+plan_by used failed full = Refuse Full
+plan_by used failed busy = Refuse Busy
+plan_by used failed (spill ids) = if failed then TellFailedSpill else (if has_numbers used (length ids) then Ask ids else Refuse TooMany)
 
 -- each id has a copy that passes the test
 abbrev pub all_pass : Shape → (ObjectId → Copy → Bool) → List ObjectId → Bool
@@ -67,4 +67,5 @@ pub record AsksWrites (room : Room) (store : Shape) (ids : List ObjectId) : Type
 abbrev pub IsPlanned : Room → Shape → ℕ → RoomPlan → Type 0
 IsPlanned room store n (Place ids) = MakesPlace room store n ids
 IsPlanned room store n (Ask ids) = AsksWrites room store ids
+IsPlanned room store n TellFailedSpill = room ≡ no_room (record store { spill_failed = false }) DeviceFailed
 IsPlanned room store n (Refuse refusal) = room ≡ no_room store refusal

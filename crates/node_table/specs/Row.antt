@@ -1,12 +1,14 @@
 -- The row of one job at a node, and the store of that job, without contents, that it is.
-use Rattle.std.specs.Prelude.{◌≡◌, ℕ, false, List, [], map, Contains, Option, Some}
-use Rattle.std.specs.Option.{option_and_then}
+use Rattle.std.specs.Prelude.{◌≡◌, ℕ, ◌==◌, Bool, false, List, [], ◌∷◌, ◌++◌, map, filter, fold, length, Contains, Option, Some}
+use Rattle.std.specs.Option.{option_map_or, option_and_then}
+use Rattle.obj_id.specs.declared.ids.TaskNo.{TaskNo}
 use Rattle.obj_id.specs.declared.ids.ObjectId.{ObjectId}
 use Rattle.obj_id.specs.declared.works.Extent.{Extent}
 use Rattle.obj_id.specs.declared.works.Quota.{Quota}
-use Rattle.private_store.specs.Tables.{ById, at}
-use Rattle.private_store.specs.Shape.{Copy, Shape, live}
+use Rattle.private_store.specs.Tables.{ById, at, with_entry}
+use Rattle.private_store.specs.Shape.{Copy, Shape, WorkInFlight, HandGiven, Seen, live}
 use Rattle.private_store.specs.Copies.{extent_of}
+use Rattle.private_store.specs.Hands.{Hand}
 use Rattle.job_region.specs.Region.{Region, extents_of, IsAt}
 use Rattle.spill_work.specs.Line.{WorkLine, works_of, used_by}
 use Rattle.node_table.specs.Kept.{Kept}
@@ -21,6 +23,22 @@ pub record Row : Type 0 where
   pub order : List ObjectId
   -- the last number that a fetch had
   pub fetches_begun : ℕ
+  -- whether a spill failed since room was last refused for it
+  pub spill_failed : Bool
+  -- in the order in which they ended
+  pub ended_tasks : List TaskNo
+
+-- what a row is shown beside: what else the node keeps of the job
+pub record Beside : Type 0 where
+  -- the works in flight, in the order asked
+  pub works : List WorkInFlight
+  -- the last number that a work had
+  pub used : ℕ
+  -- the hands that it gave, in the order given
+  pub given : List HandGiven
+  -- what others granted, and the bytes of it
+  pub received : ById Seen
+  pub bytes : ObjectId → List ℕ
 
 -- of a job that was admitted now
 abbrev pub new_row : ℕ → Quota → Row
@@ -32,27 +50,65 @@ new_row job quota =
       copies = [];
       order = [];
       fetches_begun = 0;
+      spill_failed = false;
+      ended_tasks = [];
     }
+
+-- ---- of the node's tables
+
+-- the hands that the job gave
+abbrev pub given_by : List Hand → ℕ → List HandGiven
+given_by hands job =
+    map (λ hand. record { id = hand.id; target = hand.taker; hangs_on = hand.hangs_on }) (filter (λ hand. hand.giver == job) hands)
+
+-- one hand more of an object that has these bytes
+abbrev pub seen_more : (ObjectId → List ℕ) → ById Seen → Hand → ById Seen
+seen_more bytes table hand =
+    with_entry table hand.id (record {
+      length = length (bytes hand.id);
+      hands = option_map_or (λ seen. seen.hands) (at table hand.id) [] ++ record { giver = hand.giver; depth = hand.depth } ∷ [];
+    })
+
+-- what the job was granted
+abbrev pub received_by : (ObjectId → List ℕ) → List Hand → ℕ → ById Seen
+received_by bytes hands job = fold (seen_more bytes) [] (filter (λ hand. hand.taker == job) hands)
+
+-- of one job: its works in the line of all jobs, and what it gave and received by the hands that stand, where objects
+-- have these bytes
+abbrev pub beside_of : WorkLine → List Hand → (ObjectId → List ℕ) → ℕ → Beside
+beside_of line hands bytes job =
+    record {
+      works = works_of line (record { 0 = job });
+      used = used_by line (record { 0 = job });
+      given = given_by hands job;
+      received = received_by bytes hands job;
+      bytes = bytes;
+    }
+
+-- the bytes of what others granted
+abbrev pub received_bytes : Beside → ById (List ℕ)
+received_bytes beside = map (λ e. (e.0, beside.bytes e.0)) beside.received
+
+-- ---- the store
 
 abbrev pub copies_of : ById Kept → ById Copy
 copies_of table = map (λ e. (e.0, e.1.copy)) table
 
--- the job's store without contents, where its works in flight stand in this line. No event that is built
--- fails a spill, ends a task, or gives a hand
-abbrev pub shape_of : Row → WorkLine → Shape
-shape_of row line =
+-- the job's store without contents
+abbrev pub shape_of : Row → Beside → Shape
+shape_of row beside =
     record {
       job = row.job;
       life = live;
       quota = record { window = row.window.quota; device = row.device };
       copies = copies_of row.copies;
-      works = works_of line (record { 0 = row.job });
-      works_asked = used_by line (record { 0 = row.job });
+      works = beside.works;
+      works_asked = beside.used;
       fetches_begun = row.fetches_begun;
-      spill_failed = false;
-      ended_tasks = [];
-      given = [];
-      received = [];
+      spill_failed = row.spill_failed;
+      ended_tasks = row.ended_tasks;
+      given = beside.given;
+      received = beside.received;
     }
 
 -- where a copy lies in the window, if it is there and resident

@@ -16,13 +16,12 @@ use Rattle.private_store.specs.Shape.{Copy, Fetch, WorkInFlight}
 use Rattle.private_store.specs.Copies.{extent_of}
 use Rattle.private_store.specs.Contents.{Contents, View, bytes_at, digest_at, keeps_digest, no_digest, is_locating}
 use Rattle.private_store.specs.Private.{Post, view_step}
-use Rattle.private_store.specs.Kept.{IsViewKept}
+use Rattle.private_store.specs.Kept.{IsViewKept, has_hand}
 use Rattle.job_region.specs.Region.{bytes_at as placed_bytes}
 use Rattle.lru_evictor.specs.Orders.{AreThere}
-use Rattle.spill_work.specs.Line.{WorkLine, works_of}
 use Rattle.node_table.specs.Kept.{Kept}
 use Rattle.node_table.specs.Checks.{lend_check}
-use Rattle.node_table.specs.Row.{Row, copies_of, shape_of}
+use Rattle.node_table.specs.Row.{Row, Beside, copies_of, received_bytes, shape_of}
 
 -- the work that is in flight for an object, if there is one
 abbrev pub work_on : List WorkInFlight → ObjectId → Option WorkKind
@@ -34,9 +33,9 @@ is_plain Sealed fetch = is_none fetch
 is_plain Fetching fetch = option_map_or (λ f. is_locating f.phase) fetch false
 is_plain _ fetch = false
 
--- the view of a job whose row and works these are
-abbrev pub seen : Row → WorkLine → Contents → View
-seen row line contents = record { shape = shape_of row line; order = row.order; contents = contents }
+-- the view of a job: its row, what stands beside it, and contents
+abbrev pub seen : Row → Beside → Contents → View
+seen row beside contents = record { shape = shape_of row beside; order = row.order; contents = contents }
 
 -- a copy as the events that are built make them: written, sealed, or on its way from an unknown source;
 -- and not doomed, nor on the device
@@ -46,9 +45,9 @@ pub record IsPlain (copy : Copy) : Type 0 where
   pub backed : copy.backed ≡ None
   pub fault : copy.fault ≡ None
 
--- the row shows these contents: they are what lies in its window, and the digests that it keeps
-pub record IsShown (row : Row) (line : WorkLine) (contents : Contents) : Type 0 where
-  pub kept : IsViewKept (seen row line contents)
+-- the row shows these contents: they are what lies in its window, the digests that it keeps, and what was received
+pub record IsShown (row : Row) (beside : Beside) (contents : Contents) : Type 0 where
+  pub kept : IsViewKept (seen row beside contents)
   -- the order of use has the copies, and nothing else
   pub there : AreThere (copies_of row.copies) row.order
   pub listed : (id : ObjectId) (k : Kept) → at row.copies id ≡ Some k → is_among row.order id ≡ true
@@ -58,7 +57,9 @@ pub record IsShown (row : Row) (line : WorkLine) (contents : Contents) : Type 0 
       → digest_at contents.digests id ≡ unwrap_or k.digest no_digest
   pub plain : (id : ObjectId) (k : Kept) → at row.copies id ≡ Some k → IsPlain k.copy
   pub working : (id : ObjectId) (k : Kept) → at row.copies id ≡ Some k
-      → k.working ≡ work_on (works_of line (record { 0 = row.job })) id
+      → k.working ≡ work_on beside.works id
+  pub granted : (id : ObjectId) (k : Kept) → at row.copies id ≡ Some k → k.granted ≡ has_hand beside.given id
+  pub received : contents.received ≡ received_bytes beside
 
 -- what a step gives: the reply, the messages to be sent, and the device keys to be erased
 pub record Given : Type 0 where
@@ -71,7 +72,7 @@ abbrev pub only : Reply (List ℕ) → Given
 only told = record { reply = told; posts = []; erased = [] }
 
 -- the row takes the private step at its node on this input, whatever contents it shows
-pub record TakesStep (node : ℕ) (old : Row) (before : WorkLine) (contents : Contents) (x : Input) (told : Given) (new : Row) (after : WorkLine) : Type 0 where
+pub record TakesStep (node : ℕ) (old : Row) (before : Beside) (contents : Contents) (x : Input) (told : Given) (new : Row) (after : Beside) : Type 0 where
   pub shape : (view_step node (seen old before contents) x).view.shape ≡ shape_of new after
   pub order : (view_step node (seen old before contents) x).view.order ≡ new.order
   pub shown : IsShown new after (view_step node (seen old before contents) x).view.contents

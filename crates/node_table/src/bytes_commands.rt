@@ -10,8 +10,7 @@ ghost use Rattle.job_region.specs.Region.{bytes_at as placed_bytes};
 ghost use Rattle.node_table.specs.Checks.{lend_check, read_check as read_check_lem, seal_check as seal_check_lem};
 ghost use Rattle.node_table.specs.Kept.{Kept};
 ghost use Rattle.node_table.specs.Outcomes.{given_of};
-ghost use Rattle.spill_work.specs.Line.{WorkLine};
-ghost use Rattle.node_table.specs.Row.{copies_of};
+ghost use Rattle.node_table.specs.Row.{Beside, copies_of};
 ghost use Rattle.node_table.specs.Shown.{IsShown, IsLent, TakesStep, only};
 
 use crate::outcome::{Erase, Outcome};
@@ -26,8 +25,8 @@ impl JobRow {
     /// more than 65,536 bytes, `Absent`, `AlreadySealed`, `OutOfBounds`; a refusal changes nothing.
     /// Takes no memory.
     pub fn write(&mut self, session: u32, id: &ObjectId, offset: u32, bytes: &[u8]) -> Reply<Bytes>
-        ensures { (node : ℕ) (line : WorkLine) (contents : Contents) → (id.now.job.0 == self.old.job) ≡ true → IsShown self.old line contents
-            → TakesStep node self.old line contents (input.Call session (command.Write id.now offset bytes.now)) (only result) self.new line }
+        ensures { (node : ℕ) (beside : Beside) (contents : Contents) → (id.now.job.0 == self.old.job) ≡ true → IsShown self.old beside contents
+            → TakesStep node self.old beside contents (input.Call session (command.Write id.now offset bytes.now)) (only result) self.new beside }
     {
         if let Some(refusal) = self.copies().write_check(id, offset, bytes.len()) {
             return Reply::Refused(refusal);
@@ -46,8 +45,8 @@ impl JobRow {
         session: u32,
         id: &ObjectId,
     ) -> Result<Outcome, AllocError>
-        ensures ok { IfOk result (λ o. (line : WorkLine) (contents : Contents) → (id.now.job.0 == self.old.job) ≡ true → IsShown self.old line contents
-            → TakesStep node self.old line contents (input.Call session (command.Seal id.now)) (given_of o) self.new line) }
+        ensures ok { IfOk result (λ o. (beside : Beside) (contents : Contents) → (id.now.job.0 == self.old.job) ≡ true → IsShown self.old beside contents
+            → TakesStep node self.old beside contents (input.Call session (command.Seal id.now)) (given_of o) self.new beside) }
         ensures few { IfOk result (λ o. length o.messages ≤ 1) }
         ensures late { OnErr result (seal_check_lem self.old.copies id.now ≡ None) }
         ensures err { OnErr result (self.new ≡ self.old) }
@@ -76,8 +75,8 @@ impl JobRow {
         offset: u32,
         len: u32,
     ) -> Result<Reply<Bytes>, AllocError>
-        ensures ok { IfOk result (λ told. (node : ℕ) (line : WorkLine) (contents : Contents) → (id.now.job.0 == self.now.job) ≡ true → IsShown self.now line contents
-            → TakesStep node self.now line contents (input.Call session (command.Read id.now offset len)) (only told) self.now line) }
+        ensures ok { IfOk result (λ told. (node : ℕ) (beside : Beside) (contents : Contents) → (id.now.job.0 == self.now.job) ≡ true → IsShown self.now beside contents
+            → TakesStep node self.now beside contents (input.Call session (command.Read id.now offset len)) (only told) self.now beside) }
         ensures late { OnErr result (read_check_lem self.now.copies session id.now offset len ≡ None) }
     {
         if let Some(refusal) = self.copies().read_check(session, id, offset, len) {
@@ -90,7 +89,7 @@ impl JobRow {
     /// The bytes of an object that the session holds, all of them, lent without a copy. `Absent`,
     /// `NotSealed`, `NotHeld`. Changes nothing, and takes no memory.
     pub fn lend(&self, session: u32, id: &ObjectId) -> Result<&[u8], Refusal>
-        ensures ok { IfOk result (λ bytes. (line : WorkLine) (contents : Contents) → IsShown self.now line contents → IsLent (copies_of self.now.copies) contents session id.now bytes.now) }
+        ensures ok { IfOk result (λ bytes. (beside : Beside) (contents : Contents) → IsShown self.now beside contents → IsLent (copies_of self.now.copies) contents session id.now bytes.now) }
         ensures refused { IfErr result (λ refusal. lend_check (copies_of self.now.copies) session id.now ≡ Some refusal) }
     {
         if let Some(refusal) = self.copies().lend_check(session, id) {

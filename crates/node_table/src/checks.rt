@@ -1,6 +1,6 @@
 //! Why a command can't be carried out.
 ghost use Rattle.std.specs.Prelude.{◌≡◌, Some, option_map};
-ghost use Rattle.node_table.specs.Checks.{write_check_of, write_check as write_check_lem, seal_check_of, seal_check as seal_check_lem, read_check_of, read_check as read_check_lem, lend_check_of, lend_check as lend_check_lem, fetch_check as fetch_check_lem, create_check as create_check_lem};
+ghost use Rattle.node_table.specs.Checks.{write_check_of, write_check as write_check_lem, seal_check_of, seal_check as seal_check_lem, read_check_of, read_check as read_check_lem, lend_check_of, lend_check as lend_check_lem, fetch_check as fetch_check_lem, create_check as create_check_lem, visible_state as visible_state_lem};
 ghost use Rattle.private_store.specs.Tables.{at};
 ghost use Rattle.private_store.specs.Shape.{Fetch};
 ghost use Rattle.node_table.specs.Kept.{Kept};
@@ -138,22 +138,31 @@ impl Copies {
         copy.fetch_number().unwrap_or(0)
     }
 
-    /// The state of the copy, if there is one.
-    pub fn state_of(&self, id: &ObjectId) -> Option<CopyState>
-        ensures { result ≡ option_map (λ k. k.copy.state) (at self.now id.now) }
+    /// The state of the copy, if there is one. `Absent` if it is doomed.
+    pub fn visible_state(&self, id: &ObjectId) -> Result<Option<CopyState>, Refusal>
+        ensures { result ≡ visible_state_lem (at self.now id.now) }
     {
-        Some(self.get(id)?.state())
+        let Some(copy) = self.get(id) else {
+            return Ok(None);
+        };
+        if copy.doomed() {
+            return Err(Refusal::Absent);
+        }
+        Ok(Some(copy.state()))
     }
 }
 
 impl JobRow {
-    /// Why no copy of `len` bytes can be made under the id, before room is looked for: `BadSize`,
+    /// Why no copy of `len` bytes can be made under the id, before room is looked for: `BadSize`, `Gone`,
     /// `Exists`, `TooMany`, or nothing.
     pub(crate) fn create_check(&self, id: &ObjectId, len: u32) -> Option<Refusal>
         ensures { result ≡ create_check_lem self.now id.now len }
     {
         if !self.window().may_have(len) {
             return Some(Refusal::BadSize);
+        }
+        if self.has_ended(id.task()) {
+            return Some(Refusal::Gone);
         }
         if self.copies().get(id).is_some() {
             return Some(Refusal::Exists);

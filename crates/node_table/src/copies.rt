@@ -6,7 +6,7 @@ ghost use Rattle.node_table.specs.Kept.{released, left, sealed, spilling_if, gon
 ghost use Rattle.private_store.specs.Copies.{is_created};
 ghost use Rattle.obj_id.specs.declared.refusals.Refusal.{Refusal};
 ghost use Rattle.node_table.specs.Checks.{release_check};
-ghost use Rattle.node_table.specs.Holding.{IsHeldAt, IsUnsealedAt, IsHoldRefusedAt};
+ghost use Rattle.node_table.specs.Holding.{IsHeldAt, IsUnreadyAt, IsHoldRefusedAt};
 ghost use Rattle.std.specs.Prelude.{◌≡◌, [], true, Some, None, OnOk, OnErr, IsOk, IsErrOf, IfOk, IfErr, IfSome, IfNone, map, length, is_some};
 ghost use Rattle.node_table.specs.Usages.{item_of, total, window_bytes as window_bytes_lem, device_bytes as device_bytes_lem};
 
@@ -117,11 +117,11 @@ impl Copies {
         }
     }
 
-    /// One more hold of the session on the copy, if it is there and sealed, and its length in bytes. `None`
-    /// where it isn't. `TooMany` at 64 holds, `NoMemory` last; a refusal changes nothing.
+    /// One more hold of the session on the copy, if it is there, sealed and not doomed, and its length in bytes. `None`
+    /// if it isn't. `TooMany` at 64 holds, `NoMemory` last; a refusal changes nothing.
     pub fn hold(&mut self, id: &ObjectId, session: u32) -> Result<Option<u32>, Refusal>
         ensures some { IfOk result (λ o. IfSome o (λ n. IsHeldAt self.old session id.now n self.new)) }
-        ensures none { IfOk result (λ o. IfNone o (IsUnsealedAt self.old id.now self.new)) }
+        ensures none { IfOk result (λ o. IfNone o (IsUnreadyAt self.old id.now self.new)) }
         ensures refused { IfErr result (λ r. IsHoldRefusedAt self.old id.now r self.new) }
     {
         let Some(copy) = self.by_id.get_mut(id) else {

@@ -8,7 +8,7 @@ ghost use Rattle.private_store.specs.Extents.{rounded};
 ghost use Rattle.node_table.specs.RoomPlans.{facts_of};
 ghost use Rattle.node_table.specs.Kept.{new_kept, fetched_kept, released, left, sealed, spilling, spilling_if, gone_away, restoring as restoring_lem, fault_told, can_spill, can_go_away, can_restore};
 ghost use Rattle.node_table.specs.Checks.{release_check_of as release_check};
-ghost use Rattle.node_table.specs.Holding.{IsHeld, IsUnsealed, IsHoldRefused};
+ghost use Rattle.node_table.specs.Holding.{IsHeld, IsUnready, IsHoldRefused};
 ghost use Rattle.node_table.specs.Usages.{is_spilling as is_spilling_lem};
 
 use fetch_core::FetchIn;
@@ -29,6 +29,8 @@ pub struct RowCopy {
     // in the window, in bytes, while it is resident
     offset: Option<u64>,
     fetch: Option<FetchIn>,
+    // whether a hand of it stands that the job gave
+    granted: bool,
 }
 
 impl Model for RowCopy {
@@ -36,7 +38,7 @@ impl Model for RowCopy {
 
     ghost Value = { Kept };
 
-    ghost view = { λ c. kept_of c.marks c.pins c.offset c.fetch };
+    ghost view = { λ c. kept_of c.marks c.pins c.offset c.fetch c.granted };
 
     ghost invariant = { λ c. Agrees c.marks c.pins c.fetch };
 }
@@ -51,6 +53,7 @@ impl RowCopy {
             pins: Pins::new(alloc, kind),
             offset: Some(offset),
             fetch: None,
+            granted: false,
         }
     }
 
@@ -63,6 +66,7 @@ impl RowCopy {
             pins: Pins::new(alloc, Kind::Secondary),
             offset: None,
             fetch: Some(FetchIn::new(alloc, number)),
+            granted: false,
         }
     }
 
@@ -140,7 +144,7 @@ impl RowCopy {
         matches!(self.marks.working(), Some(WorkKind::Write))
     }
 
-    /// What a plan for room reads of it, where no hand was given.
+    /// What a plan for room reads of it.
     pub fn facts(&self) -> CopyFacts
         ensures { result ≡ facts_of self.now }
     {
@@ -148,9 +152,9 @@ impl RowCopy {
         CopyFacts {
             extent: self.extent(),
             bytes: self.rounded_length(),
-            evictable: self.marks.is_evictable(held, false),
-            passing: self.marks.is_passing(self.offset.is_some(), held, false),
-            spillable: self.marks.is_spillable(held, false),
+            evictable: self.marks.is_evictable(held, self.granted),
+            passing: self.marks.is_passing(self.offset.is_some(), held, self.granted),
+            spillable: self.marks.is_spillable(held, self.granted),
         }
     }
 
@@ -175,14 +179,14 @@ impl RowCopy {
         self.pins.holds_of(session)
     }
 
-    /// One more hold of the session, if it is sealed, and its length in bytes. `None` where it isn't, and then
-    /// nothing changes. `TooMany` at 64 holds of all sessions, `NoMemory` last; a refusal changes nothing.
+    /// One more hold of the session, if it is sealed and not doomed, and its length in bytes. `None` if it isn't, and
+    /// then nothing changes. `TooMany` at 64 holds of all sessions, `NoMemory` last; a refusal changes nothing.
     pub fn hold(&mut self, session: u32) -> Result<Option<u32>, Refusal>
         ensures some { IfOk result (λ o. IfSome o (λ n. IsHeld self.old session n self.new)) }
-        ensures none { IfOk result (λ o. IfNone o (IsUnsealed self.old self.new)) }
+        ensures none { IfOk result (λ o. IfNone o (IsUnready self.old self.new)) }
         ensures refused { IfErr result (λ r. IsHoldRefused self.old r self.new) }
     {
-        if !matches!(self.state(), CopyState::Sealed) {
+        if !matches!(self.state(), CopyState::Sealed) || self.doomed() {
             return Ok(None);
         }
         self.pins.hold(session)?;

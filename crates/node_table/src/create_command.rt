@@ -1,5 +1,5 @@
 //! Create: a copy to be written, in a place that is made for it.
-ghost use Rattle.std.specs.Prelude.{◌≡◌, ◌==◌, ℕ, ◌≤◌, length, [], true, false, None, Some, IfOk, OnOk, OnErr, IsErrOf};
+ghost use Rattle.std.specs.Prelude.{◌≡◌, ◌==◌, ℕ, ◌≤◌, List, length, [], true, false, None, Some, IfOk, OnOk, OnErr, IsErrOf};
 ghost use Rattle.obj_id.specs.declared.ids.JobNo.{JobNo};
 ghost use Rattle.obj_id.specs.declared.refusals.Refusal.{Refusal};
 ghost use Rattle.obj_id.specs.declared.refusals.Refusal.TheVariants.{NoMemory};
@@ -7,13 +7,14 @@ ghost use Rattle.obj_id.specs.declared.commands.Command.TheVariants as command;
 ghost use Rattle.private_store.specs.declared.inputs.Input.TheVariants as input;
 ghost use Rattle.private_store.specs.Contents.{Contents};
 ghost use Rattle.private_store.specs.Room.{make_room};
-ghost use Rattle.spill_work.specs.Line.{WorkLine, same_job, IsSameFor};
+ghost use Rattle.private_store.specs.Hands.{Hand};
+ghost use Rattle.spill_work.specs.Line.{same_job, IsSameFor};
 ghost use Rattle.node_table.specs.Asked.{HasAsked};
 ghost use Rattle.node_table.specs.Checks.{create_check as create_check_lem};
 ghost use Rattle.node_table.specs.Creating.{removals as removals_lem};
 ghost use Rattle.node_table.specs.Outcomes.{given_of};
 ghost use Rattle.node_table.specs.RoomPlans.{MakesPlace, AsksWrites};
-ghost use Rattle.node_table.specs.Row.{shape_of};
+ghost use Rattle.node_table.specs.Row.{Beside, beside_of, shape_of};
 ghost use Rattle.node_table.specs.Shown.{IsShown, TakesStep};
 
 use crate::get_command::told;
@@ -29,8 +30,8 @@ use std::alloc::{AllocError, Global};
 impl JobRow {
     /// Create: a copy of zeros to be written, of `len` bytes, where the window has room or room is made:
     /// by evicting the job's least recently used copies that may go, and else by asking for the writes of
-    /// those that may be spilled, which is answered `Pending`. `BadSize`, `Exists`, `TooMany`, `Pending`,
-    /// `Full`, `Busy`. The error is want of memory, and then nothing has changed. The works that it asks for come
+    /// those that may be spilled, which is answered `Pending`. `BadSize`, `Gone`, `Exists`, `TooMany`,
+    /// `Pending`, `Full`, `Busy`, and once after a spill failed `DeviceFailed`. The error is want of memory, and then nothing has changed. The works that it asks for come
     /// last in the line, and those before them stay.
     /// It sends no more messages than the job has copies.
     pub fn create(
@@ -42,8 +43,8 @@ impl JobRow {
         kind: Kind,
         len: u32,
     ) -> Result<Outcome, Refusal>
-        ensures ok { IfOk result (λ o. (session : ℕ) (contents : Contents) → (id.now.job.0 == self.old.job) ≡ true → IsShown self.old works.old contents
-            → TakesStep node self.old works.old contents (input.Call session (command.Create id.now kind len)) (given_of o) self.new works.new) }
+        ensures ok { IfOk result (λ o. (session : ℕ) (hands : List Hand) (bytes : ObjectId → List ℕ) (contents : Contents) → (id.now.job.0 == self.old.job) ≡ true → IsShown self.old (beside_of works.old hands bytes self.old.job) contents
+            → TakesStep node self.old (beside_of works.old hands bytes self.old.job) contents (input.Call session (command.Create id.now kind len)) (given_of o) self.new (beside_of works.new hands bytes self.old.job)) }
         ensures few { IfOk result (λ o. length o.messages ≤ length self.old.copies) }
         ensures line { OnOk result (HasAsked works.old id.now.job works.new) }
         ensures late { OnErr result (create_check_lem self.old id.now len ≡ None) }
@@ -60,6 +61,10 @@ impl JobRow {
                 self.create_in_place(alloc, node, id, kind, len, victims.as_slice())
             }
             RoomPlan::Ask(ids) => self.ask_writes(alloc, id.job(), works, ids.as_slice()),
+            RoomPlan::TellFailedSpill => {
+                self.forget_failed_spill();
+                told(alloc, Refusal::DeviceFailed)
+            }
             RoomPlan::Refuse(refusal) => told(alloc, refusal),
         }
     }
@@ -75,9 +80,9 @@ impl JobRow {
         victims: &[ObjectId],
     ) -> Result<Outcome, Refusal>
         requires { create_check_lem self.old id.now len ≡ None }
-        ensures ok { IfOk result (λ o. (session : ℕ) (line : WorkLine) (contents : Contents) → (id.now.job.0 == self.old.job) ≡ true → IsShown self.old line contents
-            → MakesPlace (make_room self.old.order (shape_of self.old line) len) (shape_of self.old line) len victims.now
-            → TakesStep node self.old line contents (input.Call session (command.Create id.now kind len)) (given_of o) self.new line) }
+        ensures ok { IfOk result (λ o. (session : ℕ) (beside : Beside) (contents : Contents) → (id.now.job.0 == self.old.job) ≡ true → IsShown self.old beside contents
+            → MakesPlace (make_room self.old.order (shape_of self.old beside) len) (shape_of self.old beside) len victims.now
+            → TakesStep node self.old beside contents (input.Call session (command.Create id.now kind len)) (given_of o) self.new beside) }
         ensures few { IfOk result (λ o. length o.messages ≤ length self.old.copies) }
         ensures memory { (r : Refusal) → IsErrOf result r → r ≡ NoMemory }
         ensures err { OnErr result (self.new ≡ self.old) }
@@ -109,10 +114,10 @@ impl JobRow {
         works: &mut Works,
         ids: &[ObjectId],
     ) -> Result<Outcome, Refusal>
-        ensures ok { IfOk result (λ o. (node session : ℕ) (contents : Contents) → (id : ObjectId) (kind : Kind) (n : ℕ) → (id.job.0 == self.old.job) ≡ true → job ≡ record { 0 = self.old.job } → IsShown self.old works.old contents
+        ensures ok { IfOk result (λ o. (node session : ℕ) (hands : List Hand) (bytes : ObjectId → List ℕ) (contents : Contents) → (id : ObjectId) (kind : Kind) (n : ℕ) → (id.job.0 == self.old.job) ≡ true → job ≡ record { 0 = self.old.job } → IsShown self.old (beside_of works.old hands bytes self.old.job) contents
             → create_check_lem self.old id n ≡ None
-            → AsksWrites (make_room self.old.order (shape_of self.old works.old) n) (shape_of self.old works.old) ids.now
-            → TakesStep node self.old works.old contents (input.Call session (command.Create id kind n)) (given_of o) self.new works.new) }
+            → AsksWrites (make_room self.old.order (shape_of self.old (beside_of works.old hands bytes self.old.job)) n) (shape_of self.old (beside_of works.old hands bytes self.old.job)) ids.now
+            → TakesStep node self.old (beside_of works.old hands bytes self.old.job) contents (input.Call session (command.Create id kind n)) (given_of o) self.new (beside_of works.new hands bytes self.old.job)) }
         ensures silent { IfOk result (λ o. o.messages ≡ []) }
         ensures line { OnOk result (HasAsked works.old job works.new) }
         ensures others { (other : JobNo) → same_job job other ≡ false → IsSameFor other works.old works.new }

@@ -7,14 +7,13 @@ ghost use Rattle.obj_id.specs.declared.commands.Command.TheVariants as command;
 ghost use Rattle.obj_id.specs.declared.commands.Reply.TheVariants as reply;
 ghost use Rattle.private_store.specs.declared.inputs.Input.TheVariants as input;
 ghost use Rattle.private_store.specs.Tables.{at};
-ghost use Rattle.private_store.specs.Copies.{is_sealed};
-ghost use Rattle.private_store.specs.Kept.{is_fetching};
+ghost use Rattle.private_store.specs.Kept.{is_fetching, is_remembered};
 ghost use Rattle.private_store.specs.Contents.{Contents};
 ghost use Rattle.private_store.specs.Private.{to_directory};
 ghost use Rattle.obj_id.specs.declared.messages.DirectoryMessage.TheVariants.{Locate};
-ghost use Rattle.spill_work.specs.Line.{WorkLine};
-ghost use Rattle.node_table.specs.Checks.{get_check, fetch_check as fetch_check_lem};
-ghost use Rattle.node_table.specs.Kept.{Kept};
+ghost use Rattle.node_table.specs.Row.{Beside};
+ghost use Rattle.node_table.specs.Checks.{copy_check, get_check, fetch_check as fetch_check_lem};
+ghost use Rattle.node_table.specs.Kept.{Kept, is_ready};
 ghost use Rattle.node_table.specs.Outcomes.{given_of};
 ghost use Rattle.node_table.specs.Shown.{IsShown, TakesStep, only};
 
@@ -28,12 +27,13 @@ impl JobRow {
     /// Get of a sealed copy: one more hold of the session, and the copy is the most recently used one.
     /// `TooMany` at 64 holds. `None` where there is no sealed copy, and then nothing has changed.
     fn get_sealed(&mut self, session: u32, id: &ObjectId) -> Result<Option<Reply<Bytes>>, Refusal>
-        ensures some { IfOk result (λ o. IfSome o (λ reply. (node : ℕ) (line : WorkLine) (contents : Contents) → (id.now.job.0 == self.old.job) ≡ true → IsShown self.old line contents
-            → TakesStep node self.old line contents (input.Call session (command.Get id.now)) (only reply) self.new line)) }
-        ensures none { IfOk result (λ o. IfNone o (option_map_or (λ k. is_sealed k.copy.state) (at self.old.copies id.now) false ≡ false)) }
+        requires { is_remembered self.old.ended_tasks id.now.task ≡ false }
+        ensures some { IfOk result (λ o. IfSome o (λ reply. (node : ℕ) (beside : Beside) (contents : Contents) → (id.now.job.0 == self.old.job) ≡ true → IsShown self.old beside contents
+            → TakesStep node self.old beside contents (input.Call session (command.Get id.now)) (only reply) self.new beside)) }
+        ensures none { IfOk result (λ o. IfNone o (option_map_or (λ k. is_ready k.copy) (at self.old.copies id.now) false ≡ false)) }
         ensures same { IfOk result (λ o. IfNone o (self.new ≡ self.old)) }
         ensures memory { (r : Refusal) → IsErrOf result r → r ≡ NoMemory }
-        ensures late { OnErr result (get_check self.old.copies self.old.fetches_begun id.now ≡ None) }
+        ensures late { OnErr result (copy_check self.old.copies self.old.fetches_begun id.now ≡ None) }
         ensures err { OnErr result (self.new ≡ self.old) }
     {
         match self.hold_copy(id, session) {
@@ -49,12 +49,13 @@ impl JobRow {
     /// Get of an object that isn't here: its fetch begins, under the job's next number, and its source is
     /// asked for. `TooMany` at 1,024 copies, and where no number is left; else the answer is `Pending`.
     fn begin_fetch(&mut self, alloc: Global, node: u32, id: &ObjectId) -> Result<Outcome, Refusal>
-        requires { at self.old.copies id.now ≡ None }
-        ensures ok { IfOk result (λ o. (session : ℕ) (line : WorkLine) (contents : Contents) → (id.now.job.0 == self.old.job) ≡ true → IsShown self.old line contents
-            → TakesStep node self.old line contents (input.Call session (command.Get id.now)) (given_of o) self.new line) }
+        requires alive { is_remembered self.old.ended_tasks id.now.task ≡ false }
+        requires none { at self.old.copies id.now ≡ None }
+        ensures ok { IfOk result (λ o. (session : ℕ) (beside : Beside) (contents : Contents) → (id.now.job.0 == self.old.job) ≡ true → IsShown self.old beside contents
+            → TakesStep node self.old beside contents (input.Call session (command.Get id.now)) (given_of o) self.new beside) }
         ensures few { IfOk result (λ o. length o.messages ≤ 1) }
         ensures memory { (r : Refusal) → IsErrOf result r → r ≡ NoMemory }
-        ensures late { OnErr result (get_check self.old.copies self.old.fetches_begun id.now ≡ None) }
+        ensures late { OnErr result (copy_check self.old.copies self.old.fetches_begun id.now ≡ None) }
         ensures err { OnErr result (self.new ≡ self.old) }
     {
         let begun = self.fetches_begun();
@@ -75,9 +76,10 @@ impl JobRow {
     /// Get of an object that is on its way and whose source isn't known yet: it is asked for again, and
     /// the answer is `Pending`. Changes nothing; the error is want of memory.
     fn locate_again(&self, alloc: Global, node: u32, id: &ObjectId) -> Result<Outcome, Refusal>
-        ensures ok { IfOk result (λ o. (session : ℕ) (line : WorkLine) (contents : Contents) → (id.now.job.0 == self.now.job) ≡ true → IsShown self.now line contents
-            → (k : Kept) → at self.now.copies id.now ≡ Some k → is_fetching k.copy.state ≡ true
-            → TakesStep node self.now line contents (input.Call session (command.Get id.now)) (given_of o) self.now line) }
+        requires { is_remembered self.now.ended_tasks id.now.task ≡ false }
+        ensures ok { IfOk result (λ o. (session : ℕ) (beside : Beside) (contents : Contents) → (id.now.job.0 == self.now.job) ≡ true → IsShown self.now beside contents
+            → (k : Kept) → at self.now.copies id.now ≡ Some k → k.copy.doomed ≡ false → is_fetching k.copy.state ≡ true
+            → TakesStep node self.now beside contents (input.Call session (command.Get id.now)) (given_of o) self.now beside) }
         ensures few { IfOk result (λ o. length o.messages ≤ 1) }
         ensures memory { (r : Refusal) → IsErrOf result r → r ≡ NoMemory }
     {
@@ -89,28 +91,34 @@ impl JobRow {
         })
     }
 
-    /// Get of what isn't here as a sealed copy: what brings it here. `NotSealed`, `Pending`, `TooMany`.
+    /// Get of what isn't here as a sealed copy: what brings it here. `Absent` if it is doomed, `NotSealed`, `Pending`,
+    /// `TooMany`.
     fn get_unsealed(&mut self, alloc: Global, node: u32, id: &ObjectId) -> Result<Outcome, Refusal>
-        requires { option_map_or (λ k. is_sealed k.copy.state) (at self.old.copies id.now) false ≡ false }
-        ensures ok { IfOk result (λ o. (session : ℕ) (line : WorkLine) (contents : Contents) → (id.now.job.0 == self.old.job) ≡ true → IsShown self.old line contents
-            → TakesStep node self.old line contents (input.Call session (command.Get id.now)) (given_of o) self.new line) }
+        requires alive { is_remembered self.old.ended_tasks id.now.task ≡ false }
+        requires unready { option_map_or (λ k. is_ready k.copy) (at self.old.copies id.now) false ≡ false }
+        ensures ok { IfOk result (λ o. (session : ℕ) (beside : Beside) (contents : Contents) → (id.now.job.0 == self.old.job) ≡ true → IsShown self.old beside contents
+            → TakesStep node self.old beside contents (input.Call session (command.Get id.now)) (given_of o) self.new beside) }
         ensures few { IfOk result (λ o. length o.messages ≤ 1) }
         ensures memory { (r : Refusal) → IsErrOf result r → r ≡ NoMemory }
-        ensures late { OnErr result (get_check self.old.copies self.old.fetches_begun id.now ≡ None) }
+        ensures late { OnErr result (copy_check self.old.copies self.old.fetches_begun id.now ≡ None) }
         ensures err { OnErr result (self.new ≡ self.old) }
     {
-        match self.copies().state_of(id) {
-            None => self.begin_fetch(alloc, node, id),
-            Some(CopyState::Fetching) => self.locate_again(alloc, node, id),
-            Some(CopyState::Created) => told(alloc, Refusal::NotSealed),
-            Some(CopyState::Restoring) => told(alloc, Refusal::Pending),
+        let state = match self.copies().visible_state(id) {
+            Err(refusal) => return told(alloc, refusal),
+            Ok(None) => return self.begin_fetch(alloc, node, id),
+            Ok(Some(state)) => state,
+        };
+        match state {
+            CopyState::Fetching => self.locate_again(alloc, node, id),
+            CopyState::Created => told(alloc, Refusal::NotSealed),
+            CopyState::Restoring => told(alloc, Refusal::Pending),
             // no event that is built puts a copy there
-            Some(CopyState::Away) => told(alloc, Refusal::Pending),
-            Some(CopyState::Sealed) => unreachable!(),
+            CopyState::Away => told(alloc, Refusal::Pending),
+            CopyState::Sealed => unreachable!(),
         }
     }
 
-    /// Get: a hold on a copy that is here, and else what brings it here. `NotSealed`, `Pending`,
+    /// Get: a hold on a copy that is here, and else what brings it here. `Gone`, `Absent`, `NotSealed`, `Pending`,
     /// `TooMany`. The error is want of memory, and then nothing has changed.
     pub fn get(
         &mut self,
@@ -119,13 +127,16 @@ impl JobRow {
         session: u32,
         id: &ObjectId,
     ) -> Result<Outcome, Refusal>
-        ensures ok { IfOk result (λ o. (line : WorkLine) (contents : Contents) → (id.now.job.0 == self.old.job) ≡ true → IsShown self.old line contents
-            → TakesStep node self.old line contents (input.Call session (command.Get id.now)) (given_of o) self.new line) }
+        ensures ok { IfOk result (λ o. (beside : Beside) (contents : Contents) → (id.now.job.0 == self.old.job) ≡ true → IsShown self.old beside contents
+            → TakesStep node self.old beside contents (input.Call session (command.Get id.now)) (given_of o) self.new beside) }
         ensures few { IfOk result (λ o. length o.messages ≤ 1) }
         ensures memory { (r : Refusal) → IsErrOf result r → r ≡ NoMemory }
-        ensures late { OnErr result (get_check self.old.copies self.old.fetches_begun id.now ≡ None) }
+        ensures late { OnErr result (get_check self.old id.now ≡ None) }
         ensures err { OnErr result (self.new ≡ self.old) }
     {
+        if self.has_ended(id.task()) {
+            return told(alloc, Refusal::Gone);
+        }
         if let Some(reply) = self.get_sealed(session, id)? {
             return Ok(Outcome::only(alloc, reply));
         }

@@ -4,7 +4,7 @@ ghost use Rattle.obj_id.specs.declared.commands.Command.TheVariants as command;
 ghost use Rattle.obj_id.specs.declared.commands.Reply.TheVariants as reply;
 ghost use Rattle.private_store.specs.declared.inputs.Input.TheVariants as input;
 ghost use Rattle.private_store.specs.Contents.{Contents};
-ghost use Rattle.spill_work.specs.Line.{WorkLine};
+ghost use Rattle.node_table.specs.Row.{Beside};
 ghost use Rattle.node_table.specs.Shown.{IsShown, TakesStep, only};
 
 use crate::row::JobRow;
@@ -15,8 +15,8 @@ impl JobRow {
     /// Release: one hold of the session on the copy less. `Absent`, `NotHeld`; a refusal changes nothing.
     /// Takes no memory.
     pub fn release(&mut self, session: u32, id: &ObjectId) -> Reply<Bytes>
-        ensures { (node : ℕ) (line : WorkLine) (contents : Contents) → (id.now.job.0 == self.old.job) ≡ true → IsShown self.old line contents
-            → TakesStep node self.old line contents (input.Call session (command.Release id.now)) (only result) self.new line }
+        ensures { (node : ℕ) (beside : Beside) (contents : Contents) → (id.now.job.0 == self.old.job) ≡ true → IsShown self.old beside contents
+            → TakesStep node self.old beside contents (input.Call session (command.Release id.now)) (only result) self.new beside }
     {
         match self.release_copy(id, session) {
             Ok(()) => Reply::Ok,
@@ -26,8 +26,8 @@ impl JobRow {
 
     /// Leave: no hold of the session on any copy. Takes a walk over the job's copies, and no memory.
     pub fn leave(&mut self, session: u32)
-        ensures { (node : ℕ) (line : WorkLine) (contents : Contents) → IsShown self.old line contents
-            → TakesStep node self.old line contents (input.Call session command.Leave) (only reply.Ok) self.new line }
+        ensures { (node : ℕ) (beside : Beside) (contents : Contents) → IsShown self.old beside contents
+            → TakesStep node self.old beside contents (input.Call session command.Leave) (only reply.Ok) self.new beside }
     {
         self.leave_copies(session);
     }

@@ -1,18 +1,19 @@
 //! The commands that tell of a row: List and Usage.
-ghost use Rattle.std.specs.Prelude.{◌≡◌, ℕ, IfOk};
+ghost use Rattle.std.specs.Prelude.{◌≡◌, ℕ, List, IfOk};
+ghost use Rattle.obj_id.specs.declared.ids.ObjectId.{ObjectId};
 ghost use Rattle.obj_id.specs.declared.commands.Command.TheVariants as command;
 ghost use Rattle.private_store.specs.declared.inputs.Input.TheVariants as input;
-ghost use Rattle.private_store.specs.Commands.{usage_of};
+ghost use Rattle.private_store.specs.Commands.{usage_of, granted_items};
 ghost use Rattle.private_store.specs.Contents.{Contents};
-ghost use Rattle.spill_work.specs.Line.{WorkLine};
-ghost use Rattle.node_table.specs.Row.{shape_of};
+ghost use Rattle.private_store.specs.Hands.{Hand};
+ghost use Rattle.node_table.specs.Row.{Beside, beside_of, shape_of};
 ghost use Rattle.node_table.specs.Shown.{IsShown, TakesStep, only};
 ghost use Rattle.node_table.specs.Usages.{item_of, window_bytes as window_bytes_lem, device_bytes as device_bytes_lem, used};
 
 use crate::copy::RowCopy;
 use crate::row::JobRow;
 use bytes::Bytes;
-use obj_id::{Items, ObjectId, OwnItem, Reply, Usage};
+use obj_id::{GrantedItem, Items, ObjectId, OwnItem, Reply, Usage};
 use spill_work::Works;
 use std::alloc::{AllocError, Global};
 
@@ -52,14 +53,15 @@ impl RowCopy {
 }
 
 impl JobRow {
-    /// List: the own copies by rising id, and nothing granted. Takes a walk over the job's copies and
-    /// memory for each. Changes nothing; the error is want of memory.
-    pub fn list(&self, alloc: Global) -> Result<Reply<Bytes>, AllocError>
-        ensures { IfOk result (λ told. (node session : ℕ) (line : WorkLine) (contents : Contents) → IsShown self.now line contents
-            → TakesStep node self.now line contents (input.Call session command.List) (only told) self.now line) }
+    /// List: the own copies by rising id, and these objects, which are those that others granted. Takes a walk
+    /// over the job's copies and memory for each. Changes nothing; the error is out of memory.
+    pub fn list(&self, alloc: Global, granted: Items<GrantedItem>) -> Result<Reply<Bytes>, AllocError>
+        ensures { IfOk result (λ told. (node session : ℕ) (beside : Beside) (contents : Contents) → IsShown self.now beside contents
+            → granted ≡ granted_items (shape_of self.now beside)
+            → TakesStep node self.now beside contents (input.Call session command.List) (only told) self.now beside) }
     {
         let own = self.copies().items(alloc)?;
-        Ok(Reply::List(own, Items::new(alloc)))
+        Ok(Reply::List(own, granted))
     }
 
     /// The job's quotas and what is used of them, in bytes and in numbers. Takes two walks over the job's
@@ -67,7 +69,8 @@ impl JobRow {
     /// which no row of a node has.
     pub fn usage(&self, works: &Works) -> Usage
         ensures told { result ≡ used self.now works.now }
-        ensures shown { (contents : Contents) → IsShown self.now works.now contents → result ≡ usage_of (shape_of self.now works.now) }
+        ensures shown { (hands : List Hand) (bytes : ObjectId → List ℕ) (contents : Contents) → IsShown self.now (beside_of works.now hands bytes self.now.job) contents
+            → result ≡ usage_of (shape_of self.now (beside_of works.now hands bytes self.now.job)) }
     {
         let quota = self.quota();
         Usage {
@@ -82,8 +85,8 @@ impl JobRow {
 
     /// Usage: what `usage` says. Changes nothing, and takes no memory.
     pub fn tell_usage(&self, works: &Works) -> Reply<Bytes>
-        ensures { (node session : ℕ) (contents : Contents) → IsShown self.now works.now contents
-            → TakesStep node self.now works.now contents (input.Call session command.Usage) (only result) self.now works.now }
+        ensures { (node session : ℕ) (hands : List Hand) (bytes : ObjectId → List ℕ) (contents : Contents) → IsShown self.now (beside_of works.now hands bytes self.now.job) contents
+            → TakesStep node self.now (beside_of works.now hands bytes self.now.job) contents (input.Call session command.Usage) (only result) self.now (beside_of works.now hands bytes self.now.job) }
     {
         Reply::Usage(self.usage(works))
     }

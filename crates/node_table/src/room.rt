@@ -1,11 +1,12 @@
 //! How room is made in a row's window.
-ghost use Rattle.std.specs.Prelude.{◌≡◌, IfOk};
+ghost use Rattle.std.specs.Prelude.{◌≡◌, ℕ, List, IfOk};
 ghost use Rattle.obj_id.specs.declared.refusals.Refusal.{Refusal};
+ghost use Rattle.obj_id.specs.declared.ids.ObjectId.{ObjectId};
 ghost use Rattle.private_store.specs.Room.{make_room};
+ghost use Rattle.private_store.specs.Hands.{Hand};
 ghost use Rattle.private_store.specs.Contents.{Contents};
 ghost use Rattle.lru_evictor.specs.Plans.{shown};
-ghost use Rattle.spill_work.specs.Line.{used_by};
-ghost use Rattle.node_table.specs.Row.{shape_of};
+ghost use Rattle.node_table.specs.Row.{beside_of, shape_of};
 ghost use Rattle.node_table.specs.Shown.{IsShown};
 ghost use Rattle.node_table.specs.RoomPlans.{IsPlanned, plan_by};
 
@@ -23,6 +24,8 @@ pub(crate) enum RoomPlan {
     Place(Items<ObjectId>),
     /// Writes of these copies are to be asked for, in this order, and the answer is `Pending`.
     Ask(Items<ObjectId>),
+    /// Nothing: `DeviceFailed` is to be told, since a spill failed, and then forgotten.
+    TellFailedSpill,
     /// Nothing: `Pending` where works that are in flight will make room, `Full` where nothing would,
     /// `Busy` where as many works are in flight as may be, `TooMany` where the job has too few numbers of
     /// works left.
@@ -54,8 +57,8 @@ impl JobRow {
         works: &Works,
         len: u32,
     ) -> Result<RoomPlan, Refusal>
-        ensures plan { IfOk result (λ p. (contents : Contents) → IsShown self.now works.now contents
-            → IsPlanned (make_room self.now.order (shape_of self.now works.now) len) (shape_of self.now works.now) len p) }
+        ensures plan { IfOk result (λ p. (hands : List Hand) (bytes : ObjectId → List ℕ) (contents : Contents) → IsShown self.now (beside_of works.now hands bytes self.now.job) contents
+            → IsPlanned (make_room self.now.order (shape_of self.now (beside_of works.now hands bytes self.now.job)) len) (shape_of self.now (beside_of works.now hands bytes self.now.job)) len p) }
         ensures memory { (r : Refusal) → result ≡ Err r → r ≡ Refusal.NoMemory }
     {
         let window = self.window();
@@ -71,13 +74,13 @@ impl JobRow {
         };
         let order = self.use_order();
         let plan = order.plan(alloc, job, len, device, window, copies)?;
-        Ok(room_plan(alloc, works.asked(job), plan))
+        Ok(room_plan(alloc, works.asked(job), self.spill_failed(), plan))
     }
 }
 
-/// What a plan is to a job whose works had numbers up to this one.
-fn room_plan(alloc: Global, asked: u64, plan: Plan) -> RoomPlan
-    ensures { result ≡ plan_by asked (shown plan) }
+/// What a plan is to a job whose works had numbers up to this one, and of which a spill failed or not.
+fn room_plan(alloc: Global, asked: u64, failed: bool, plan: Plan) -> RoomPlan
+    ensures { result ≡ plan_by asked failed (shown plan) }
 {
     match plan {
         Plan::Fits => RoomPlan::Place(Items::new(alloc)),
@@ -86,6 +89,9 @@ fn room_plan(alloc: Global, asked: u64, plan: Plan) -> RoomPlan
         Plan::Full => RoomPlan::Refuse(Refusal::Full),
         Plan::Busy => RoomPlan::Refuse(Refusal::Busy),
         Plan::Spill(ids) => {
+            if failed {
+                return RoomPlan::TellFailedSpill;
+            }
             if u64::MAX - asked < ids.as_slice().len() as u64 {
                 return RoomPlan::Refuse(Refusal::TooMany);
             }

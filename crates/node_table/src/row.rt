@@ -11,19 +11,21 @@ ghost use Rattle.private_store.specs.Contents.{overwritten};
 ghost use Rattle.job_region.specs.Region.{bytes_at as placed_bytes, extents_of};
 ghost use Rattle.std.specs.Option.{option_map_or};
 ghost use Rattle.private_store.specs.Copies.{is_created};
+ghost use Rattle.private_store.specs.Kept.{is_remembered};
 ghost use Rattle.lru_evictor.specs.Orders.{order_of, touched, last_used};
 ghost use Rattle.node_table.specs.Entries.{changed, all_changed, each_changed};
 ghost use Rattle.node_table.specs.Kept.{Kept, sealed, held, released, left, spilling_if, fetched_kept};
 ghost use Rattle.node_table.specs.Checks.{release_check};
 ghost use Rattle.node_table.specs.Row.{Row, new_row, place_of, ArePlaced};
-ghost use Rattle.node_table.specs.Holding.{IsUnsealedAt, IsHoldRefusedAt, IsRowHeld};
+ghost use Rattle.node_table.specs.Holding.{IsUnreadyAt, IsHoldRefusedAt, IsRowHeld};
 ghost use Rattle.node_table.specs.Creating.{placed_without, IsReplaced};
 
 use crate::copies::Copies;
 use crate::copy::RowCopy;
+use indexmap::IndexSet;
 use job_region::Window;
 use lru_evictor::{UseOrder, extents_by_offset};
-use obj_id::{Digest, Extent, JobNo, Kind, ObjectId, Quota, Refusal};
+use obj_id::{Digest, Extent, JobNo, Kind, ObjectId, Quota, Refusal, TaskNo};
 use std::alloc::Global;
 use std::marker::Model;
 
@@ -40,6 +42,10 @@ pub struct JobRow {
     order: UseOrder,
     // the last number that a fetch had
     fetches_begun: u64,
+    // whether a spill failed since room was last refused for it
+    spill_failed: bool,
+    // in the order in which they ended
+    ended_tasks: IndexSet<TaskNo>,
 }
 
 impl Model for JobRow {
@@ -48,7 +54,7 @@ impl Model for JobRow {
 
     ghost Value = { Row };
 
-    ghost view = { λ r. record { job = r.job.0; window = r.window; device = r.device; copies = r.copies; order = order_of r.job.0 r.order; fetches_begun = r.fetches_begun } };
+    ghost view = { λ r. record { job = r.job.0; window = r.window; device = r.device; copies = r.copies; order = order_of r.job.0 r.order; fetches_begun = r.fetches_begun; spill_failed = r.spill_failed; ended_tasks = r.ended_tasks.keys } };
 
     ghost invariant = { λ r. ArePlaced r.window.placed (place_of r.copies) };
 }
@@ -68,6 +74,8 @@ impl JobRow {
             copies: Copies::new(alloc),
             order: UseOrder::new(alloc),
             fetches_begun: 0,
+            spill_failed: false,
+            ended_tasks: IndexSet::new(alloc),
         })
     }
 
@@ -160,12 +168,12 @@ impl JobRow {
         self.copies.seal(id, digest);
     }
 
-    /// One more hold of the session on the copy, if it is there and sealed, which is the most recently used
-    /// now, and its length in bytes. `None` where it isn't. `TooMany` at 64 holds, `NoMemory` last; a refusal
+    /// One more hold of the session on the copy, if it is there, sealed and not doomed, which is the most recently used
+    /// now, and its length in bytes. `None` if it isn't. `TooMany` at 64 holds, `NoMemory` last; a refusal
     /// changes nothing. Looks the copy up once.
     pub(crate) fn hold_copy(&mut self, id: &ObjectId, session: u32) -> Result<Option<u32>, Refusal>
         ensures some { IfOk result (λ o. IfSome o (λ n. IsRowHeld self.old session id.now n self.new)) }
-        ensures none { IfOk result (λ o. IfNone o (IsUnsealedAt self.old.copies id.now self.new.copies)) }
+        ensures none { IfOk result (λ o. IfNone o (IsUnreadyAt self.old.copies id.now self.new.copies)) }
         ensures same { IfOk result (λ o. IfNone o (self.new ≡ self.old)) }
         ensures refused { IfErr result (λ r. IsHoldRefusedAt self.old.copies id.now r self.new.copies) }
         ensures err { OnErr result (self.new ≡ self.old) }
@@ -182,6 +190,27 @@ impl JobRow {
         ensures { result ≡ self.now.fetches_begun }
     {
         self.fetches_begun
+    }
+
+    /// Whether a spill failed since room was last refused for it.
+    pub(crate) fn spill_failed(&self) -> bool
+        ensures { result ≡ self.now.spill_failed }
+    {
+        self.spill_failed
+    }
+
+    /// That a spill failed has been told.
+    pub(crate) fn forget_failed_spill(&mut self)
+        ensures { self.new ≡ record self.old { spill_failed = false } }
+    {
+        self.spill_failed = false;
+    }
+
+    /// Whether the task has ended here. Looks it up once.
+    pub(crate) fn has_ended(&self, task: TaskNo) -> bool
+        ensures { result ≡ is_remembered self.now.ended_tasks task }
+    {
+        self.ended_tasks.contains(&task)
     }
 
     /// A copy that is on its way, under this number, and the most recently used. The error is want of

@@ -1,2 +1,2 @@
 mod SessionLemmas
-mod TaskLemmas
+pub mod TaskLemmas

@@ -1,6 +1,6 @@
 use Rattle.std.proofs.Common.{sym, ap, ◌∙◌}
 use Rattle.std.specs.Option.{option_copied_mut}
-use Rattle.node_table.proofs.Holding.{held_at, unsealed_at, refused_at, none_at}
+use Rattle.node_table.proofs.Holding.{held_at, unready_at, refused_at, none_at}
 use Rattle.node_table.proofs.copies.Copies.hold.Goals as goal
 
 pub returns-in_default-clause-none : goal.returns-in_default-clause-none
@@ -13,7 +13,7 @@ returns-clause-some c =
 
 pub returns-clause-none : goal.returns-clause-none
 returns-clause-none c =
-    unsealed_at c.args.session c.args.id.now c.self.inside.by_id.entries c.args.self.now c.self.view_is c.in-Some.copy.now c.hold.new.self (sym c.get_mut.ensures.value ∙ ap option_copied_mut c.in-Some.is) _ (c.get_mut.follows.holds c.hold.new.self).0 c.hold.result c.hold.ensures.none
+    unready_at c.args.session c.args.id.now c.self.inside.by_id.entries c.args.self.now c.self.view_is c.in-Some.copy.now c.hold.new.self (sym c.get_mut.ensures.value ∙ ap option_copied_mut c.in-Some.is) _ (c.get_mut.follows.holds c.hold.new.self).0 c.hold.result c.hold.ensures.none
 
 pub returns-clause-refused : goal.returns-clause-refused
 returns-clause-refused c =

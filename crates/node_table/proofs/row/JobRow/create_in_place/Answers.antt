@@ -17,8 +17,8 @@ use Rattle.private_store.specs.Tables.{is_among}
 use Rattle.node_table.proofs.row.JobRow.create_in_place.Goals as goal
 
 pub returns-then-is_listed-clause-ok : goal.returns-then-is_listed-clause-ok
-returns-then-is_listed-clause-ok c = each_ok c.told.result (λ o said session line contents mine h makes.
-    absurd (no_trace c.args.node c.args.self.now line contents session c.args.id.now c.args.kind c.args.len mine h c.requires c.args.victims.now makes (sym c.is_listed.ensures ∙ c.if-is_listed.true))) c.told.ensures.ok
+returns-then-is_listed-clause-ok c = each_ok c.told.result (λ o said session beside contents mine h makes.
+    absurd (no_trace c.args.node c.args.self.now beside contents session c.args.id.now c.args.kind c.args.len mine h c.requires c.args.victims.now makes (sym c.is_listed.ensures ∙ c.if-is_listed.true))) c.told.ensures.ok
 
 pub replace_copies-requires-clause-stays : goal.replace_copies-requires-clause-stays
 replace_copies-requires-clause-stays c = or_false_left _ (is_among c.args.self.now.order c.args.id.now) (sym c.is_listed.ensures ∙ c.if-is_listed.false)
@@ -26,23 +26,23 @@ replace_copies-requires-clause-stays c = or_false_left _ (is_among c.args.self.n
 pub returns-in_default-clause-ok : goal.returns-in_default-clause-ok
 returns-in_default-clause-ok c =
     let none = subst (λ o. IfNone o (first (extents_of (placed_without c.args.self.now c.args.victims.now)) c.args.self.now.window.quota c.args.len ≡ None)) c.in_default.is c.in_ok-extent.ensures.none in
-    each_ok c.told-in_default.result (λ o said session line contents mine h makes.
-    absurd (has_place c.args.node c.args.self.now line contents session c.args.id.now c.args.kind c.args.len mine h c.requires c.args.victims.now makes c.replace_copies.ensures.placed none)) c.told-in_default.ensures.ok
+    each_ok c.told-in_default.result (λ o said session beside contents mine h makes.
+    absurd (has_place c.args.node c.args.self.now beside contents session c.args.id.now c.args.kind c.args.len mine h c.requires c.args.victims.now makes c.replace_copies.ensures.placed none)) c.told-in_default.ensures.ok
 
 pub returns-clause-ok : goal.returns-clause-ok
-returns-clause-ok c session line contents mine h makes =
+returns-clause-ok c session beside contents mine h makes =
     let e = c.in-Some.extent in
     let r : IsReplaced c.args.self.now c.args.id.now c.args.kind c.args.len c.args.victims.now e c.replace_copies.new.self =
     subst (λ (o : Option Extent). IfSome o (λ e. IsReplaced c.args.self.now c.args.id.now c.args.kind c.args.len c.args.victims.now e c.replace_copies.new.self)) c.in-Some.is c.in_ok-extent.ensures.some in
     let stays = or_false_left _ (is_among c.args.self.now.order c.args.id.now) (sym c.is_listed.ensures ∙ c.if-is_listed.false) in
-    subst (λ row. TakesStep c.args.node c.args.self.now line contents (input.Call session (command.Create c.args.id.now c.args.kind c.args.len)) (record { reply = reply.Placed e.offset e.length; posts = c.in_ok-messages.messages; erased = [] }) row line) (sym r.row)
-    (subst (λ n. TakesStep c.args.node c.args.self.now line contents (input.Call session (command.Create c.args.id.now c.args.kind c.args.len)) (record { reply = reply.Placed e.offset n; posts = c.in_ok-messages.messages; erased = [] }) (replaced c.args.self.now c.args.id.now c.args.kind c.args.len e.offset c.args.victims.now) line) (sym r.length)
-    (subst (λ (ms : List Post). TakesStep c.args.node c.args.self.now line contents (input.Call session (command.Create c.args.id.now c.args.kind c.args.len)) (record { reply = reply.Placed e.offset (rounded c.args.len); posts = ms; erased = [] }) (replaced c.args.self.now c.args.id.now c.args.kind c.args.len e.offset c.args.victims.now) line) (sym c.in_ok-messages.ensures)
-    (placed_done c.args.node c.args.self.now line contents session c.args.id.now c.args.kind c.args.len mine h c.requires c.args.victims.now makes c.replace_copies.ensures.placed stays e.offset r.least r.fresh)))
+    subst (λ row. TakesStep c.args.node c.args.self.now beside contents (input.Call session (command.Create c.args.id.now c.args.kind c.args.len)) (record { reply = reply.Placed e.offset e.length; posts = c.in_ok-messages.messages; erased = [] }) row beside) (sym r.row)
+    (subst (λ n. TakesStep c.args.node c.args.self.now beside contents (input.Call session (command.Create c.args.id.now c.args.kind c.args.len)) (record { reply = reply.Placed e.offset n; posts = c.in_ok-messages.messages; erased = [] }) (replaced c.args.self.now c.args.id.now c.args.kind c.args.len e.offset c.args.victims.now) beside) (sym r.length)
+    (subst (λ (ms : List Post). TakesStep c.args.node c.args.self.now beside contents (input.Call session (command.Create c.args.id.now c.args.kind c.args.len)) (record { reply = reply.Placed e.offset (rounded c.args.len); posts = ms; erased = [] }) (replaced c.args.self.now c.args.id.now c.args.kind c.args.len e.offset c.args.victims.now) beside) (sym c.in_ok-messages.ensures)
+    (placed_done c.args.node c.args.self.now beside contents session c.args.id.now c.args.kind c.args.len mine h c.requires c.args.victims.now makes c.replace_copies.ensures.placed stays e.offset r.least r.fresh)))
 
 pub returns-then-victims-len-clause-ok : goal.returns-then-victims-len-clause-ok
-returns-then-victims-len-clause-ok c = each_ok c.told-then-victims-len.result (λ o said session line contents mine h makes.
-    let few = few_victims c.args.node c.args.self.now line contents session c.args.id.now c.args.kind c.args.len mine h c.requires c.args.victims.now makes in
+returns-then-victims-len-clause-ok c = each_ok c.told-then-victims-len.result (λ o said session beside contents mine h makes.
+    let few = few_victims c.args.node c.args.self.now beside contents session c.args.id.now c.args.kind c.args.len mine h c.requires c.args.victims.now makes in
     let counted = c.len.ensures ∙ ap length c.copies.ensures.copies in
     let more = c.if-victims-len.true in
     absurd (omega (arith, few, counted, more))) c.told-then-victims-len.ensures.ok

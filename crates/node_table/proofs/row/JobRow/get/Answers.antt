@@ -1,20 +1,28 @@
-use Rattle.std.proofs.Common.{◌≡◌, true, ◌==◌, sym, subst}
+use Rattle.std.proofs.Common.{◌≡◌, true, ◌==◌, sym, ap, subst, ◌∙◌}
 use Rattle.obj_id.specs.declared.commands.Command.TheVariants as command
 use Rattle.private_store.specs.declared.inputs.Input.TheVariants as input
 use Rattle.private_store.specs.Contents.{Contents}
-use Rattle.spill_work.specs.Line.{WorkLine}
+use Rattle.private_store.specs.Kept.{is_remembered}
+use Rattle.node_table.specs.Row.{Beside}
 use Rattle.node_table.specs.Outcomes.{given_of}
 use Rattle.node_table.specs.Shown.{IsShown, TakesStep}
-use Rattle.node_table.proofs.Getting.{each_ok}
+use Rattle.node_table.proofs.Getting.{each_ok, gone_told}
 use Rattle.node_table.proofs.row.JobRow.get.Goals as goal
 
 pub returns-in-Some-clause-ok : goal.returns-in-Some-clause-ok
-returns-in-Some-clause-ok c line contents mine h =
-    subst (λ told. TakesStep c.args.node c.args.self.now line contents (input.Call c.args.session (command.Get c.args.id.now)) told c.get_sealed.new.self line) (sym c.only.ensures)
-    ((rw c.in-Some.is at c.in_ok-reply.ensures.some) c.args.node line contents mine h)
+returns-in-Some-clause-ok c beside contents mine h =
+    subst (λ told. TakesStep c.args.node c.args.self.now beside contents (input.Call c.args.session (command.Get c.args.id.now)) told c.get_sealed.new.self beside) (sym c.only.ensures)
+    ((rw c.in-Some.is at c.in_ok-reply.ensures.some) c.args.node beside contents mine h)
 
 pub returns-clause-ok : goal.returns-clause-ok
 returns-clause-ok c =
-    each_ok c.get_unsealed.result (λ o told. subst (λ row. (line : WorkLine) (contents : Contents) → (c.args.id.now.job.0 == row.job) ≡ true → IsShown row line contents
-    → TakesStep c.args.node row line contents (input.Call c.args.session (command.Get c.args.id.now)) (given_of o) c.get_unsealed.new.self line)
+    each_ok c.get_unsealed.result (λ o told. subst (λ row. (beside : Beside) (contents : Contents) → (c.args.id.now.job.0 == row.job) ≡ true → IsShown row beside contents
+    → TakesStep c.args.node row beside contents (input.Call c.args.session (command.Get c.args.id.now)) (given_of o) c.get_unsealed.new.self beside)
     (rw c.in_default.is at c.in_ok-reply.ensures.same) (told c.args.session)) c.get_unsealed.ensures.ok
+
+pub returns-then-has_ended-clause-ok : goal.returns-then-has_ended-clause-ok
+returns-then-has_ended-clause-ok c =
+    each_ok c.told.result (λ o said beside contents mine h.
+    subst (λ t. TakesStep c.args.node c.args.self.now beside contents (input.Call c.args.session (command.Get c.args.id.now)) t c.args.self.now beside) (sym said)
+    (gone_told c.args.node c.args.self.now beside contents c.args.session c.args.id.now mine h
+    (ap (is_remembered c.args.self.now.ended_tasks) (sym c.task.ensures) ∙ sym c.has_ended.ensures ∙ c.if-has_ended.true))) c.told.ensures.ok

@@ -4,11 +4,11 @@ use Rattle.node_table.proofs.Getting.{sealed_held, sealed_refused, held_late}
 use Rattle.node_table.proofs.row.JobRow.get_sealed.Goals as goal
 
 pub returns-in-Ok-Some-clause-some : goal.returns-in-Ok-Some-clause-some
-returns-in-Ok-Some-clause-some c node line contents mine h =
-    sealed_held node c.args.self.now line contents c.args.session c.args.id.now mine h c.in-Ok-Some.length c.hold_copy.new.self
+returns-in-Ok-Some-clause-some c node beside contents mine h =
+    sealed_held node c.args.self.now beside contents c.args.session c.args.id.now mine c.requires h c.in-Ok-Some.length c.hold_copy.new.self
     (rw c.in-Ok-Some.field-0-is at (rw c.in-Ok-Some.is at c.hold_copy.ensures.some))
 
 pub returns-in-Err-2-clause-some : goal.returns-in-Err-2-clause-some
-returns-in-Err-2-clause-some c node line contents mine h =
-    sealed_refused node c.args.self.now line contents c.args.session c.args.id.now mine h c.in-Err.refusal c.hold_copy.new.self
+returns-in-Err-2-clause-some c node beside contents mine h =
+    sealed_refused node c.args.self.now beside contents c.args.session c.args.id.now mine c.requires h c.in-Err.refusal c.hold_copy.new.self
     (λ e. true_false (sym c.if-eq.false ∙ c.eq.ensures ∙ rw e)) c.in-Err.ensures.refused c.in-Err.ensures.err

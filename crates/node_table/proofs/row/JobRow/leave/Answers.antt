@@ -7,7 +7,7 @@ use Rattle.node_table.proofs.Leaving.{leave_done}
 use Rattle.node_table.proofs.row.JobRow.leave.Goals as goal
 
 pub returns : goal.returns
-returns c node line contents h =
-    subst (λ r. TakesStep node c.args.self.now line contents (input.Call c.args.session command.Leave) (only reply.Ok) r line)
+returns c node beside contents h =
+    subst (λ r. TakesStep node c.args.self.now beside contents (input.Call c.args.session command.Leave) (only reply.Ok) r beside)
     (sym c.leave_copies.ensures)
-    (leave_done node c.args.self.now line contents c.args.session h)
+    (leave_done node c.args.self.now beside contents c.args.session h)

@@ -5,7 +5,7 @@ use Rattle.node_table.proofs.Lending.{lent_so}
 use Rattle.node_table.proofs.row.JobRow.lend.Goals as goal
 
 pub returns-clause-ok : goal.returns-clause-ok
-returns-clause-ok c line contents h =
-    lent_so c.args.self.now line contents h c.args.session c.args.id.now
+returns-clause-ok c beside contents h =
+    lent_so c.args.self.now beside contents h c.args.session c.args.id.now
     (ap (λ t. lend_check (copies_of t) c.args.session c.args.id.now) (sym c.copies.ensures.copies) ∙ sym c.lend_check.ensures ∙ c.in_default.is)
     c.bytes.result.now c.bytes.ensures

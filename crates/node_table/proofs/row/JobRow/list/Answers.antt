@@ -4,5 +4,5 @@ use Rattle.node_table.proofs.Telling.{list_done}
 use Rattle.node_table.proofs.row.JobRow.list.Goals as goal
 
 pub returns : goal.returns
-returns c node session line contents h =
-    list_done node c.args.self.now line contents session h c.in_ok-own.own c.new.result (c.in_ok-own.ensures ∙ ap (map item_of) c.copies.ensures.copies) c.new.ensures
+returns c node session beside contents h granted =
+    list_done node c.args.self.now beside contents session h c.in_ok-own.own c.args.granted (c.in_ok-own.ensures ∙ ap (map item_of) c.copies.ensures.copies) granted

@@ -1,14 +1,16 @@
+use Rattle.std.proofs.Common.{refl}
 use Rattle.private_store.proofs.Tests.{none_here}
+use Rattle.node_table.specs.Row.{beside_of}
 use Rattle.node_table.proofs.Planning.{place_exit, plan_exit}
 use Rattle.node_table.proofs.row.JobRow.plan_room.Goals as goal
 
 pub returns-then-is_none-clause-plan : goal.returns-then-is_none-clause-plan
-returns-then-is_none-clause-plan c contents h =
-    place_exit c.args.self.now c.args.works.now contents h c.copies-copies.ensures.placed c.args.len c.window-window.result.now c.window-window.ensures c.check.result c.check.ensures (none_here c.check.result c.if-is_none.ensures) c.new.result c.new.ensures
+returns-then-is_none-clause-plan c hands bytes contents h =
+    place_exit c.args.self.now (beside_of c.args.works.now hands bytes c.args.self.now.job) contents h c.copies-copies.ensures.placed c.args.len c.window-window.result.now c.window-window.ensures c.check.result c.check.ensures (none_here c.check.result c.if-is_none.ensures) c.new.result c.new.ensures
 
 pub returns-clause-plan : goal.returns-clause-plan
-returns-clause-plan c contents h =
-    plan_exit c.args.self.now c.args.works.now contents h c.copies-copies.ensures.placed c.args.len c.job-job.result c.job-job.ensures
+returns-clause-plan c hands bytes contents h =
+    plan_exit c.args.self.now (beside_of c.args.works.now hands bytes c.args.self.now.job) contents h c.copies-copies.ensures.placed c.args.len c.job-job.result c.job-job.ensures
     c.window-window.result.now c.window-window.ensures c.copies-copies.result.now c.copies-copies.ensures.copies c.device.result c.device_bytes.result c.in_flight.result
-    c.device.ensures c.device_bytes.ensures c.in_flight.ensures c.use_order-order.result.now c.use_order-order.ensures
-    c.in_ok-plan.plan c.in_ok-plan.ensures.plan c.asked.result c.asked.ensures c.room_plan.result c.room_plan.ensures
+    c.device.ensures c.device_bytes.ensures c.args.works.now refl refl c.in_flight.ensures c.use_order-order.result.now c.use_order-order.ensures
+    c.in_ok-plan.plan c.in_ok-plan.ensures.plan c.asked.result c.asked.ensures c.spill_failed.result c.spill_failed.ensures c.room_plan.result c.room_plan.ensures

@@ -4,12 +4,12 @@ use Rattle.node_table.proofs.Writing.{read_refused, read_done, read_found}
 use Rattle.node_table.proofs.row.JobRow.read.Goals as goal
 
 pub returns-in-Some-clause-ok : goal.returns-in-Some-clause-ok
-returns-in-Some-clause-ok c node line contents mine h =
-    read_refused node c.args.self.now line contents c.args.session c.args.id.now c.args.offset mine h c.args.len c.in-Some.refusal
+returns-in-Some-clause-ok c node beside contents mine h =
+    read_refused node c.args.self.now beside contents c.args.session c.args.id.now c.args.offset mine h c.args.len c.in-Some.refusal
     (ap (λ t. read_check t c.args.session c.args.id.now c.args.offset c.args.len) (sym c.copies.ensures.copies) ∙ sym c.read_check.ensures ∙ c.in-Some.is)
 
 pub returns-clause-ok : goal.returns-clause-ok
-returns-clause-ok c node line contents mine h =
+returns-clause-ok c node beside contents mine h =
     let passed = ap (λ t. read_check t c.args.session c.args.id.now c.args.offset c.args.len) (sym c.copies.ensures.copies) ∙ sym c.read_check.ensures ∙ c.in_default.is in
-    read_done node c.args.self.now line contents c.args.session c.args.id.now c.args.offset mine h c.args.len passed c.in_ok-bytes.bytes
-    (c.in_ok-bytes.ensures ∙ c.part_of.ensures ∙ ap (λ bs. take c.args.len (drop c.args.offset bs)) (read_found node c.args.self.now line contents c.args.session c.args.id.now c.args.offset mine h c.args.len passed c.bytes.result.now c.bytes.ensures))
+    read_done node c.args.self.now beside contents c.args.session c.args.id.now c.args.offset mine h c.args.len passed c.in_ok-bytes.bytes
+    (c.in_ok-bytes.ensures ∙ c.part_of.ensures ∙ ap (λ bs. take c.args.len (drop c.args.offset bs)) (read_found node c.args.self.now beside contents c.args.session c.args.id.now c.args.offset mine h c.args.len passed c.bytes.result.now c.bytes.ensures))

@@ -7,13 +7,13 @@ use Rattle.node_table.proofs.Releasing.{release_refused, release_done_so}
 use Rattle.node_table.proofs.row.JobRow.release.Goals as goal
 
 pub returns-in-Ok : goal.returns-in-Ok
-returns-in-Ok c node line contents mine h =
-    subst (λ r. TakesStep node c.args.self.now line contents (input.Call c.args.session (command.Release c.args.id.now)) (only reply.Ok) r line)
+returns-in-Ok c node beside contents mine h =
+    subst (λ r. TakesStep node c.args.self.now beside contents (input.Call c.args.session (command.Release c.args.id.now)) (only reply.Ok) r beside)
     (sym c.in-Ok.ensures.ok)
-    (release_done_so node c.args.self.now line contents c.args.session c.args.id.now mine h (c.in-Ok.ensures.passed refl))
+    (release_done_so node c.args.self.now beside contents c.args.session c.args.id.now mine h (c.in-Ok.ensures.passed refl))
 
 pub returns-in-Err : goal.returns-in-Err
-returns-in-Err c node line contents mine h =
-    subst (λ r. TakesStep node c.args.self.now line contents (input.Call c.args.session (command.Release c.args.id.now)) (only (reply.Refused c.in-Err.refusal)) r line)
+returns-in-Err c node beside contents mine h =
+    subst (λ r. TakesStep node c.args.self.now beside contents (input.Call c.args.session (command.Release c.args.id.now)) (only (reply.Refused c.in-Err.refusal)) r beside)
     (sym c.in-Err.ensures.err)
-    (release_refused node c.args.self.now line contents c.args.session c.args.id.now mine h c.in-Err.refusal (c.in-Err.ensures.refused c.in-Err.refusal refl))
+    (release_refused node c.args.self.now beside contents c.args.session c.args.id.now mine h c.in-Err.refusal (c.in-Err.ensures.refused c.in-Err.refusal refl))

@@ -36,7 +36,7 @@ returns-then-is_err-clause-err c =
     ∙ ap (λ o. row_of c.self.inside.copies (order_of c.self.inside.job.0 o)) undone ∙ c.self.view_is
   where
     row_of : ById Kept → List ObjectId → Row
-    row_of copies order = record { job = c.self.inside.job.0; window = c.self.inside.window; device = c.self.inside.device; copies = copies; order = order; fetches_begun = c.self.inside.fetches_begun }
+    row_of copies order = record { job = c.self.inside.job.0; window = c.self.inside.window; device = c.self.inside.device; copies = copies; order = order; fetches_begun = c.self.inside.fetches_begun; spill_failed = c.self.inside.spill_failed; ended_tasks = c.self.inside.ended_tasks.keys }
 
 pub invariant_of-self-in-Err : goal.invariant_of-self-in-Err
 invariant_of-self-in-Err c =
@@ -54,7 +54,7 @@ returns-in-Err-clause-err c =
     (λ i. row_of (c.in-Err.ensures.err i) (back i) (order i)) ∙ c.self.view_is
   where
     row_of : Region → ById Kept → List ObjectId → Row
-    row_of window copies order = record { job = c.self.inside.job.0; window = window; device = c.self.inside.device; copies = copies; order = order; fetches_begun = c.self.inside.fetches_begun }
+    row_of window copies order = record { job = c.self.inside.job.0; window = window; device = c.self.inside.device; copies = copies; order = order; fetches_begun = c.self.inside.fetches_begun; spill_failed = c.self.inside.spill_failed; ended_tasks = c.self.inside.ended_tasks.keys }
 
 pub invariant_of-self-in-Ok : goal.invariant_of-self-in-Ok
 invariant_of-self-in-Ok c =
@@ -95,4 +95,4 @@ returns-clause-some c =
     region placed = record c.self.inside.window { placed = placed }
 
     row_of : Region → ById Kept → List ObjectId → Row
-    row_of window copies order = record { job = c.self.inside.job.0; window = window; device = c.self.inside.device; copies = copies; order = order; fetches_begun = c.self.inside.fetches_begun }
+    row_of window copies order = record { job = c.self.inside.job.0; window = window; device = c.self.inside.device; copies = copies; order = order; fetches_begun = c.self.inside.fetches_begun; spill_failed = c.self.inside.spill_failed; ended_tasks = c.self.inside.ended_tasks.keys }

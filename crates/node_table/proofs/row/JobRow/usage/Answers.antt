@@ -6,4 +6,4 @@ pub returns-clause-told : goal.returns-clause-told
 returns-clause-told c = search rules
 
 pub returns-clause-shown : goal.returns-clause-shown
-returns-clause-shown c contents h = returns-clause-told c ∙ used-is c.args.self.now c.args.works.now contents h
+returns-clause-shown c hands bytes contents h = returns-clause-told c ∙ used-is c.args.self.now c.args.works.now hands bytes contents h
