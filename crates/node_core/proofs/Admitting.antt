@@ -34,7 +34,7 @@ use Rattle.job_admission.specs.Admissions.{Admissions, admit_check, admitted, pl
 use Rattle.job_admission.proofs.AllKept.{admit_passed}
 use Rattle.node_table.specs.Row.{Row, new_row}
 use Rattle.node_table.specs.Shown.{seen, only, IsShown}
-use Rattle.node_core.specs.Hosted.{Hosted, AreHosted, IsRowView, IsBare, IsViewBy, Shows, bare}
+use Rattle.node_core.specs.Hosted.{Hosted, AreHosted, IsRowView, IsBare, IsViewBy, Shows, bare, alone}
 use Rattle.node_core.specs.Steps.{answered}
 use Rattle.node_core.specs.OneJob.{IsStepOf, StepsOne}
 use Rattle.node_core.proofs.Views.{itself, another}
@@ -103,10 +103,10 @@ module _ (number : ℕ) (line : WorkLine) (job : JobNo) (quota : Quota) (good : 
   }
 
   module _ (works : works_of line job ≡ []) (used : used_by line job ≡ 0) where
-    row_shows : begun [] 0 ≡ seen (new_row job.0 quota) line no_contents
+    row_shows : begun [] 0 ≡ seen (new_row job.0 quota) (alone line job.0) no_contents
     row_shows = ap (λ w. begun w 0) (sym works) ∙ ap (begun (works_of line job)) (sym used)
 
-    new_shown : IsShown (new_row job.0 quota) line no_contents
+    new_shown : IsShown (new_row job.0 quota) (alone line job.0) no_contents
     new_shown = record {
       kept = subst IsViewKept (begin_view ∙ row_shows) (view_keeps number fresh_view x (no_store_kept job.0));
       there = refl;
@@ -115,6 +115,8 @@ module _ (number : ℕ) (line : WorkLine) (job : JobNo) (quota : Quota) (good : 
       digests = λ id k found keeps. cc;
       plain = λ id k found. cc;
       working = λ id k found. cc;
+      granted = λ id k found. cc;
+      received = refl;
     }
 
     new_row_view : IsRowView (new_row job.0 quota) line job.0 (view_step number fresh_view x).view

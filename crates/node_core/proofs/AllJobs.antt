@@ -154,14 +154,11 @@ pub works_shown : (node : Hosted) (job : ℕ) (view : View) → Shows node job v
 works_shown node job view h = by (row_at node (record { 0 = job })) h.by_row
   where
     by : (o : Option Row) → IsViewBy node.admissions.greatest node.works job view o → Works node job view
-    by (Some row) r =
-        let same : works_of node.works (record { 0 = row.job }) ≡ works_of node.works (record { 0 = job }) = ap (λ n. works_of node.works (record { 0 = n })) r.own in
-        let used : used_by node.works (record { 0 = row.job }) ≡ used_by node.works (record { 0 = job }) = ap (λ n. used_by node.works (record { 0 = n })) r.own in
-        record {
-          works = ap (λ s. s.works) r.shape ∙ same;
-          asked = ap (λ s. s.works_asked) r.shape ∙ used;
-          used = (λ i. list_all (λ work. nat_lt 0 work.number && nat_le work.number (sym used i)) (sym same i)) ∙ r.shown.kept.kept.shape.numbers_used;
-        }
+    by (Some row) r = record {
+      works = ap (λ s. s.works) r.shape;
+      asked = ap (λ s. s.works_asked) r.shape;
+      used = r.shown.kept.kept.shape.numbers_used;
+    }
     by None b = record {
       works = ap (λ v. v.shape.works) b.is ∙ sym b.works;
       asked = ap (λ v. v.shape.works_asked) b.is ∙ sym b.used;

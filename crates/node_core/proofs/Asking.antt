@@ -1,11 +1,12 @@
 -- What a node tells of a job outside of events.
-use Rattle.std.proofs.Common.{◌≡◌, ℕ, ◌==◌, true, not, cond, List, Some, is_some, sym, ap, subst, ◌∙◌}
+use Rattle.std.proofs.Common.{◌≡◌, ℕ, ◌==◌, true, not, cond, List, Some, is_some, sym, ap, subst, ◌∙◌, []}
 use Rattle.std.specs.List.{list_any}
 use Rattle.std.specs.Map.{lookup}
 use Rattle.obj_id.specs.declared.ids.JobNo.{JobNo}
 use Rattle.obj_id.specs.declared.ids.ObjectId.{ObjectId}
 use Rattle.obj_id.specs.declared.commands.Usage.{Usage}
 use Rattle.obj_id.specs.declared.refusals.Refusal.TheVariants.{NotAdmitted, NotGranted}
+use Rattle.private_store.specs.Hands.{Hand}
 use Rattle.private_store.specs.Jobs.{same_job}
 use Rattle.private_store.specs.Shape.{Shape}
 use Rattle.private_store.specs.Events.{is_live}
@@ -14,9 +15,9 @@ use Rattle.private_store.specs.Contents.{Contents, View}
 use Rattle.job_admission.specs.Admissions.{Admissions, live_at}
 use Rattle.spill_work.specs.Line.{WorkLine}
 use Rattle.node_table.specs.Checks.{lend_check}
-use Rattle.node_table.specs.Row.{Row, copies_of, shape_of}
+use Rattle.node_table.specs.Row.{Row, Beside, beside_of, copies_of, shape_of}
 use Rattle.node_table.specs.Shown.{IsShown, IsLent}
-use Rattle.node_core.specs.Hosted.{Hosted, AreHosted, IsRowView, IsViewBy, Shows, row_at}
+use Rattle.node_core.specs.Hosted.{Hosted, AreHosted, IsRowView, IsViewBy, Shows, row_at, alone}
 use Rattle.node_core.specs.Borrowed.{borrowed_check, IsBorrowed}
 use Rattle.node_core.proofs.Ending.{is_some-lookup}
 
@@ -28,8 +29,10 @@ module _ (node : Hosted) (job : JobNo) (row : Row) (found : row_at node job ≡ 
   pub row_shown : IsRowView row node.works job.0 view
   row_shown = subst (IsViewBy node.admissions.greatest node.works job.0 view) found h.by_row
 
-  pub usage_told : (told : Usage) → ((contents : Contents) → IsShown row node.works contents → told ≡ usage_of (shape_of row node.works)) → told ≡ usage_of view.shape
-  usage_told told is = is view.contents row_shown.shown ∙ ap usage_of (sym row_shown.shape)
+  pub usage_told : (told : Usage) → ((hands : List Hand) (bytes : ObjectId → List ℕ) (contents : Contents) → IsShown row (beside_of node.works hands bytes row.job) contents → told ≡ usage_of (shape_of row (beside_of node.works hands bytes row.job))) → told ≡ usage_of view.shape
+  usage_told told is =
+      is [] (λ id. []) view.contents (subst (λ n. IsShown row (alone node.works n) view.contents) (sym row_shown.own) row_shown.shown)
+      ∙ ap usage_of (ap (λ n. shape_of row (alone node.works n)) row_shown.own ∙ sym row_shown.shape)
 
   live_shape : is_live view.shape ≡ true
   live_shape = ap is_live row_shown.shape
@@ -43,9 +46,9 @@ module _ (node : Hosted) (job : JobNo) (row : Row) (found : row_at node job ≡ 
       ∙ ap (λ b. cond (not b) (Some NotGranted) (lend_check (copies_of row.copies) session id)) mine
 
   pub lent_bytes : (session : ℕ) (id : ObjectId) (bytes : List ℕ) → (id.job.0 == job.0) ≡ true
-      → ((line : WorkLine) (contents : Contents) → IsShown row line contents → IsLent (copies_of row.copies) contents session id bytes) → IsBorrowed view session id bytes
+      → ((beside : Beside) (contents : Contents) → IsShown row beside contents → IsLent (copies_of row.copies) contents session id bytes) → IsBorrowed view session id bytes
   lent_bytes session id bytes mine lent =
-      let l = lent node.works view.contents row_shown.shown in
+      let l = lent (alone node.works job.0) view.contents row_shown.shown in
       record {
         passed = own_check session id mine ∙ l.passed;
         lent = subst (λ (s : Shape). IsLent s.copies view.contents session id bytes) (sym row_shown.shape) l;

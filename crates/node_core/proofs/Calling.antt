@@ -13,47 +13,46 @@ use Rattle.private_store.specs.Change.{erasing, refused}
 use Rattle.private_store.specs.Shape.{Change}
 use Rattle.private_store.specs.Contents.{Contents, brief}
 use Rattle.private_store.specs.Step.{commanded, owned}
-use Rattle.spill_work.specs.Line.{WorkLine}
-use Rattle.node_table.specs.Row.{Row, shape_of}
+use Rattle.node_table.specs.Row.{Row, Beside, shape_of}
 use Rattle.node_table.specs.Shown.{IsShown, Given, only, TakesStep}
 use Rattle.node_table.proofs.Stepping.{stays, change}
 use Rattle.node_table.proofs.ByChecks.{called, foreign}
 use Rattle.node_core.specs.Calls.{is_own}
 
-module _ (node job : ℕ) (row : Row) (line : WorkLine) (session : ℕ) (contents : Contents) (own : row.job ≡ job) (h : IsShown row line contents) where
-  foreign_is : (id : ObjectId) (c : Command (List ℕ)) (d : Change) → (id.job.0 == job) ≡ false → commanded row.order (shape_of row line) session (brief c) ≡ owned (shape_of row line) id d
-      → change node row line contents h (input.Call session c) ≡ erasing (shape_of row line) (refused (shape_of row line) NotGranted)
+module _ (node job : ℕ) (row : Row) (beside : Beside) (session : ℕ) (contents : Contents) (own : row.job ≡ job) (h : IsShown row beside contents) where
+  foreign_is : (id : ObjectId) (c : Command (List ℕ)) (d : Change) → (id.job.0 == job) ≡ false → commanded row.order (shape_of row beside) session (brief c) ≡ owned (shape_of row beside) id d
+      → change node row beside contents h (input.Call session c) ≡ erasing (shape_of row beside) (refused (shape_of row beside) NotGranted)
   foreign_is id c d other is =
-      called row line session (brief c)
-      ∙ ap (erasing (shape_of row line)) (is ∙ foreign row line id d (ap (λ n. id.job.0 == n) own ∙ other))
+      called row beside session (brief c)
+      ∙ ap (erasing (shape_of row beside)) (is ∙ foreign row beside id d (ap (λ n. id.job.0 == n) own ∙ other))
 
-  pub not_granted : (c : Command (List ℕ)) → is_own job c ≡ false → TakesStep node row line contents (input.Call session c) (only (reply.Refused NotGranted)) row line
-  not_granted (command.Create id kind n) other = stays node row line contents h (input.Call session (command.Create id kind n)) (reply.Refused NotGranted) (foreign_is id (command.Create id kind n) _ other refl) refl refl
-  not_granted (command.Write id offset bytes) other = stays node row line contents h (input.Call session (command.Write id offset bytes)) (reply.Refused NotGranted) (foreign_is id (command.Write id offset bytes) _ other refl) refl refl
-  not_granted (command.Seal id) other = stays node row line contents h (input.Call session (command.Seal id)) (reply.Refused NotGranted) (foreign_is id (command.Seal id) _ other refl) refl refl
-  not_granted (command.Get id) other = stays node row line contents h (input.Call session (command.Get id)) (reply.Refused NotGranted) (foreign_is id (command.Get id) _ other refl) refl refl
-  not_granted (command.Read id offset n) other = stays node row line contents h (input.Call session (command.Read id offset n)) (reply.Refused NotGranted) (foreign_is id (command.Read id offset n) _ other refl) refl refl
-  not_granted (command.Release id) other = stays node row line contents h (input.Call session (command.Release id)) (reply.Refused NotGranted) (foreign_is id (command.Release id) _ other refl) refl refl
+  pub not_granted : (c : Command (List ℕ)) → is_own job c ≡ false → TakesStep node row beside contents (input.Call session c) (only (reply.Refused NotGranted)) row beside
+  not_granted (command.Create id kind n) other = stays node row beside contents h (input.Call session (command.Create id kind n)) (reply.Refused NotGranted) (foreign_is id (command.Create id kind n) _ other refl) refl refl refl
+  not_granted (command.Write id offset bytes) other = stays node row beside contents h (input.Call session (command.Write id offset bytes)) (reply.Refused NotGranted) (foreign_is id (command.Write id offset bytes) _ other refl) refl refl refl
+  not_granted (command.Seal id) other = stays node row beside contents h (input.Call session (command.Seal id)) (reply.Refused NotGranted) (foreign_is id (command.Seal id) _ other refl) refl refl refl
+  not_granted (command.Get id) other = stays node row beside contents h (input.Call session (command.Get id)) (reply.Refused NotGranted) (foreign_is id (command.Get id) _ other refl) refl refl refl
+  not_granted (command.Read id offset n) other = stays node row beside contents h (input.Call session (command.Read id offset n)) (reply.Refused NotGranted) (foreign_is id (command.Read id offset n) _ other refl) refl refl refl
+  not_granted (command.Release id) other = stays node row beside contents h (input.Call session (command.Release id)) (reply.Refused NotGranted) (foreign_is id (command.Release id) _ other refl) refl refl refl
   not_granted command.List other = absurd cc
   not_granted command.Usage other = absurd cc
   not_granted command.Leave other = absurd cc
-  not_granted (command.Unpin id task) other = stays node row line contents h (input.Call session (command.Unpin id task)) (reply.Refused NotGranted) (foreign_is id (command.Unpin id task) _ other refl) refl refl
-  not_granted (command.Borrow id task) other = stays node row line contents h (input.Call session (command.Borrow id task)) (reply.Refused NotGranted) (foreign_is id (command.Borrow id task) _ other refl) refl refl
-  not_granted (command.GiveUp id task) other = stays node row line contents h (input.Call session (command.GiveUp id task)) (reply.Refused NotGranted) (foreign_is id (command.GiveUp id task) _ other refl) refl refl
-  not_granted (command.Delete id) other = stays node row line contents h (input.Call session (command.Delete id)) (reply.Refused NotGranted) (foreign_is id (command.Delete id) _ other refl) refl refl
+  not_granted (command.Unpin id task) other = stays node row beside contents h (input.Call session (command.Unpin id task)) (reply.Refused NotGranted) (foreign_is id (command.Unpin id task) _ other refl) refl refl refl
+  not_granted (command.Borrow id task) other = stays node row beside contents h (input.Call session (command.Borrow id task)) (reply.Refused NotGranted) (foreign_is id (command.Borrow id task) _ other refl) refl refl refl
+  not_granted (command.GiveUp id task) other = stays node row beside contents h (input.Call session (command.GiveUp id task)) (reply.Refused NotGranted) (foreign_is id (command.GiveUp id task) _ other refl) refl refl refl
+  not_granted (command.Delete id) other = stays node row beside contents h (input.Call session (command.Delete id)) (reply.Refused NotGranted) (foreign_is id (command.Delete id) _ other refl) refl refl refl
   not_granted (command.EndTask task) other = absurd cc
   not_granted (command.Grant id target) other = absurd cc
   not_granted (command.Withdraw id target) other = absurd cc
   not_granted (command.Peek id offset n) other = absurd cc
 
 -- a command that was carried out, as the call that did it tells of it
-module _ (node : ℕ) (row : Row) (line : WorkLine) (session : ℕ) (contents : Contents) where
+module _ (node : ℕ) (row : Row) (beside : Beside) (session : ℕ) (contents : Contents) where
   pub told_so : (c d : Command (List ℕ)) (o : Given) (got told : Reply (List ℕ)) (is after : Row) → c ≡ d → o ≡ only got → got ≡ told → is ≡ after
-      → TakesStep node row line contents (input.Call session d) (only told) after line → TakesStep node row line contents (input.Call session c) o is line
+      → TakesStep node row beside contents (input.Call session d) (only told) after beside → TakesStep node row beside contents (input.Call session c) o is beside
   told_so c d o got told is after same gave says at h =
-      subst (λ e. TakesStep node row line contents (input.Call session e) o is line) (sym same)
-      (subst (λ g. TakesStep node row line contents (input.Call session d) g is line) (sym (gave ∙ ap only says))
-      (subst (λ r. TakesStep node row line contents (input.Call session d) (only told) r line) (sym at) h))
+      subst (λ e. TakesStep node row beside contents (input.Call session e) o is beside) (sym same)
+      (subst (λ g. TakesStep node row beside contents (input.Call session d) g is beside) (sym (gave ∙ ap only says))
+      (subst (λ r. TakesStep node row beside contents (input.Call session d) (only told) r beside) (sym at) h))
 
 -- what follows from a result follows where there is one
 pub if_ok : {X : Type 0} {E : Type 0} {P Q : X → Type 0} (r : Result X E) → IfOk r P → ((x : X) → P x → Q x) → IfOk r Q

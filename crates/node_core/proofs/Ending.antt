@@ -30,7 +30,7 @@ use Rattle.node_table.specs.Shown.{seen, Given, IsShown}
 use Rattle.node_table.proofs.CopyTables.{sorted-copies}
 use Rattle.node_table.proofs.Creating.{unbacked}
 use Rattle.node_core.proofs.Others.{other_view, not_same}
-use Rattle.node_core.specs.Hosted.{Hosted, AreHosted, IsRowView, IsBare, IsViewBy, Shows, bare}
+use Rattle.node_core.specs.Hosted.{Hosted, AreHosted, IsRowView, IsBare, IsViewBy, Shows, bare, alone}
 use Rattle.node_core.specs.Steps.{answered}
 use Rattle.node_core.specs.OneJob.{IsStepOf, StepsOne}
 use Rattle.node_core.proofs.Views.{itself, another, view_is}
@@ -89,9 +89,9 @@ none_left : (ids : List ObjectId) → filter (λ (id : ObjectId). false) ids ≡
 none_left [] = refl
 none_left (id ∷ ids) = none_left ids
 
-module _ (number : ℕ) (row : Row) (line : WorkLine) (contents : Contents) (h : IsShown row line contents) where
+module _ (number : ℕ) (row : Row) (line : WorkLine) (job : ℕ) (contents : Contents) (h : IsShown row (alone line job) contents) where
   abbrev v : View
-  v = seen row line contents
+  v = seen row (alone line job) contents
 
   ends : step row.order v.shape judged.End ≡ erasing v.shape (end_job_here v.shape)
   ends = checked-false v.shape false Stale [] (erasing v.shape (end_job_here v.shape)) refl ∙ checked-nil v.shape (erasing v.shape (end_job_here v.shape))
@@ -145,7 +145,7 @@ module _ (number : ℕ) (a b : Admissions) (line after_line : WorkLine) (job : J
   left_bare : (view : View) → IsRowView found.0 line job.0 view → IsBare a.greatest after_line job.0 (view_step number view input.End).view
   left_bare view r = record {
     life = ended;
-    is = ap (λ w. (view_step number w input.End).view) (view_is found.0 line job.0 view r) ∙ end_view number found.0 line view.contents r.shown ∙ ap (λ n. bare n ended) r.own;
+    is = ap (λ w. (view_step number w input.End).view) (view_is found.0 line job.0 view r) ∙ end_view number found.0 line job.0 view.contents r.shown ∙ ap (λ n. bare n ended) r.own;
     dead = refl;
     fresh = λ above. absurd (grind (arith, nat_tests, not_above, above));
     works = drops.own_works;
@@ -181,7 +181,7 @@ module _ (number : ℕ) (a b : Admissions) (line after_line : WorkLine) (job : J
     views = views;
     told = λ view h.
         let r = row_view view h in
-        subst (λ w. IsStepOf number w input.End given) (sym (view_is found.0 line job.0 view r)) (end_told number found.0 line view.contents r.shown);
+        subst (λ w. IsStepOf number w input.End given) (sym (view_is found.0 line job.0 view r)) (end_told number found.0 line job.0 view.contents r.shown);
     operator = sym (ap (λ t. answered (cond t None (Some NotAdmitted))) is_live);
     admissions = is;
     lives = lives;

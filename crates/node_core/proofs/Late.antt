@@ -9,24 +9,24 @@ use Rattle.private_store.specs.declared.schedules.NodeEvent.TheVariants.{Own}
 use Rattle.private_store.specs.Contents.{Contents}
 use Rattle.private_store.specs.Private.{view_step}
 use Rattle.spill_work.specs.Line.{WorkLine}
-use Rattle.node_table.specs.Row.{Row, shape_of}
+use Rattle.node_table.specs.Row.{Row, Beside, shape_of}
 use Rattle.node_table.specs.Late.{may_grow}
 use Rattle.node_table.specs.Shown.{seen, IsShown}
 use Rattle.node_table.proofs.Late.{create_late, seal_late, get_late, read_late, list_late}
-use Rattle.node_core.specs.Hosted.{Hosted, IsRowView, IsViewBy}
+use Rattle.node_core.specs.Hosted.{Hosted, alone, IsRowView, IsViewBy}
 use Rattle.node_core.specs.Built.{is_built, is_built_command}
 use Rattle.node_core.specs.Late.{is_accepted, IsLate, IsUnrefused, IsEventUnrefused}
 use Rattle.node_core.specs.Steps.{answered}
 use Rattle.node_core.proofs.Views.{view_is}
 
-module _ (node : ℕ) (row : Row) (line : WorkLine) (contents : Contents) (session : ℕ) (h : IsShown row line contents) where
+module _ (node : ℕ) (row : Row) (beside : Beside) (contents : Contents) (session : ℕ) (h : IsShown row beside contents) where
   row_late : (c : Command (List ℕ)) → is_built_command c ≡ true → IsUnrefused row row.job session c
-      → may_grow (shape_of row line) (view_step node (seen row line contents) (input.Call session c)).reply ≡ true
-  row_late (command.Create id kind n) built u = create_late node row line contents session h id kind n u.own u.passed
-  row_late (command.Seal id) built u = seal_late node row line contents session h id u.own u.passed
-  row_late (command.Get id) built u = get_late node row line contents session h id u.own u.passed
-  row_late (command.Read id offset n) built u = read_late node row line contents session h id offset n u.own u.passed
-  row_late command.List built u = list_late node row line contents session h
+      → may_grow (shape_of row beside) (view_step node (seen row beside contents) (input.Call session c)).reply ≡ true
+  row_late (command.Create id kind n) built u = create_late node row beside contents session h id kind n u.own u.passed
+  row_late (command.Seal id) built u = seal_late node row beside contents session h id u.own u.passed
+  row_late (command.Get id) built u = get_late node row beside contents session h id u.own u.passed
+  row_late (command.Read id offset n) built u = read_late node row beside contents session h id offset n u.own u.passed
+  row_late command.List built u = list_late node row beside contents session h
   row_late (command.Write id offset bytes) built u = absurd (let g = u.grows in cc)
   row_late (command.Release id) built u = absurd (let g = u.grows in cc)
   row_late command.Usage built u = absurd (let g = u.grows in cc)
@@ -46,7 +46,7 @@ event_late node (event.JobEnd job) built u v shows = ap (λ check. is_accepted (
 event_late node (event.Call job session c) built u v shows =
     let r : IsRowView u.row node.works job.0 (v job.0) = subst (IsViewBy node.admissions.greatest node.works job.0 (v job.0)) u.found (shows job.0).by_row in
     subst (λ w. may_grow w.shape (view_step node.number w (input.Call session c)).reply ≡ true) (sym (view_is u.row node.works job.0 (v job.0) r))
-    (row_late node.number u.row node.works (v job.0).contents session r.shown c built (subst (λ n. IsUnrefused u.row n session c) (sym r.own) u.unrefused))
+    (row_late node.number u.row (alone node.works job.0) (v job.0).contents session r.shown c built (subst (λ n. IsUnrefused u.row n session c) (sym r.own) u.unrefused))
 event_late node (event.Requota job quota) built u v shows = absurd cc
 event_late node event.Take built u v shows = absurd cc
 event_late node (event.Finish job number a) built u v shows = absurd cc

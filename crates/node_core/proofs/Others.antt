@@ -7,14 +7,12 @@ use Rattle.private_store.specs.Kept.{IsViewKept}
 use Rattle.spill_work.specs.Line.{WorkLine, works_of, used_by, same_job, IsSameFor}
 use Rattle.node_table.specs.Row.{Row, shape_of}
 use Rattle.node_table.specs.Shown.{work_on}
-use Rattle.node_core.specs.Hosted.{IsRowView, IsViewBy}
+use Rattle.node_core.specs.Hosted.{alone, IsRowView, IsViewBy}
 
 other_row : (row : Row) (line after : WorkLine) (q : ℕ) (view : View) → IsSameFor (record { 0 = q }) line after → IsRowView row line q view → IsRowView row after q view
 other_row row line after q view same h =
-    let works : works_of after (record { 0 = row.job }) ≡ works_of line (record { 0 = row.job }) = subst (λ n. works_of after (record { 0 = n }) ≡ works_of line (record { 0 = n })) (sym h.own) same.works in
-    let used : used_by after (record { 0 = row.job }) ≡ used_by line (record { 0 = row.job }) = subst (λ n. used_by after (record { 0 = n }) ≡ used_by line (record { 0 = n })) (sym h.own) same.used in
-    let shapes : shape_of row line ≡ shape_of row after =
-    ap (λ ws. record (shape_of row line) { works = ws }) (sym works) ∙ ap (λ n. record (shape_of row after) { works_asked = n }) (sym used) in
+    let shapes : shape_of row (alone line q) ≡ shape_of row (alone after q) =
+    ap (λ ws. record (shape_of row (alone line q)) { works = ws }) (sym same.works) ∙ ap (λ n. record (shape_of row (alone after q)) { works_asked = n }) (sym same.used) in
     record {
       own = h.own;
       shape = h.shape ∙ shapes;
@@ -26,7 +24,9 @@ other_row row line after q view same h =
         bytes = h.shown.bytes;
         digests = h.shown.digests;
         plain = h.shown.plain;
-        working = λ id k found. h.shown.working id k found ∙ ap (λ ws. work_on ws id) (sym works);
+        working = λ id k found. h.shown.working id k found ∙ ap (λ ws. work_on ws id) (sym same.works);
+        granted = h.shown.granted;
+        received = h.shown.received;
       };
     }
 

@@ -25,7 +25,7 @@ use Rattle.job_admission.specs.Admissions.{Admissions}
 use Rattle.node_table.specs.Row.{Row, shape_of}
 use Rattle.node_table.specs.Shown.{seen, Given, only}
 use Rattle.node_table.proofs.ByChecks.{called}
-use Rattle.node_core.specs.Hosted.{Hosted, IsRowView, IsBare, IsViewBy, Shows, bare, bare_shape}
+use Rattle.node_core.specs.Hosted.{Hosted, IsRowView, IsBare, IsViewBy, Shows, bare, bare_shape, alone}
 use Rattle.node_core.specs.Calls.{Obeys}
 use Rattle.node_core.specs.Built.{is_built_command}
 use Rattle.node_core.specs.OneJob.{IsStepOf, StepsOne}
@@ -40,10 +40,10 @@ pub another : (job : JobNo) (q : ℕ) → (q == job.0) ≡ false → same_job jo
 another job q e = grind (arith, nat_tests, e)
 
 -- the view that a row and its works show
-pub view_is : (row : Row) (line : WorkLine) (job : ℕ) (view : View) → IsRowView row line job view → view ≡ seen row line view.contents
+pub view_is : (row : Row) (line : WorkLine) (job : ℕ) (view : View) → IsRowView row line job view → view ≡ seen row (alone line job) view.contents
 view_is row line job view h =
     ap (λ s. record { shape = s; order = view.order; contents = view.contents }) h.shape
-    ∙ ap (λ ids. record { shape = shape_of row line; order = ids; contents = view.contents }) h.order
+    ∙ ap (λ ids. record { shape = shape_of row (alone line job); order = ids; contents = view.contents }) h.order
 
 module _ (number : ℕ) (a : Admissions) (line : WorkLine) (job : JobNo) (session : ℕ) (c : Command (List ℕ)) where
   abbrev pub with_rows : List (JobNo × Row) → Hosted
@@ -71,7 +71,7 @@ module _ (number : ℕ) (a : Admissions) (line : WorkLine) (job : JobNo) (sessio
     row_stepped view r =
         let t = obeys view.contents r.own r.shown in
         subst (λ v. IsRowView after works job.0 (view_step number v x).view) (sym (view_is row line job.0 view r)) (record {
-          own = sym (ap (λ s. s.job) t.shape) ∙ ap (λ (d : Change). d.shape.job) (called row line session (brief c)) ∙ (built_same row.order (shape_of row line) session c built).job ∙ r.own;
+          own = sym (ap (λ s. s.job) t.shape) ∙ ap (λ (d : Change). d.shape.job) (called row (alone line job.0) session (brief c)) ∙ (built_same row.order (shape_of row (alone line job.0)) session c built).job ∙ r.own;
           shape = t.shape;
           order = t.order;
           shown = t.shown;

@@ -9,6 +9,7 @@ use Rattle.private_store.specs.Contents.{Contents}
 use Rattle.spill_work.specs.Line.{WorkLine}
 use Rattle.node_table.specs.Row.{Row}
 use Rattle.node_table.specs.Shown.{IsShown, Given, TakesStep}
+use Rattle.node_core.specs.Hosted.{alone}
 
 -- whether the object that the command names, if it must name an own one, is the job's
 abbrev pub is_own : ℕ → Command (List ℕ) → Bool
@@ -27,7 +28,7 @@ is_own job _ = true
 -- the job's row and works take the command's step, whatever contents it shows
 abbrev pub Obeys : ℕ → ℕ → Row → WorkLine → ℕ → Command (List ℕ) → Given → Row → WorkLine → Type 0
 Obeys node job old line session c told new after =
-    (contents : Contents) → old.job ≡ job → IsShown old line contents → TakesStep node old line contents (input.Call session c) told new after
+    (contents : Contents) → old.job ≡ job → IsShown old (alone line job) contents → TakesStep node old (alone line job) contents (input.Call session c) told new (alone after job)
 
 -- a command that takes no memory, and so is never refused for want of it
 abbrev pub takes_no_memory : Command (List ℕ) → Bool

@@ -11,7 +11,7 @@ use Rattle.private_store.specs.Hands.{Hand}
 use Rattle.private_store.specs.Private.{no_contents}
 use Rattle.spill_work.specs.Line.{WorkLine, works_of, used_by}
 use Rattle.job_admission.specs.Admissions.{Admissions}
-use Rattle.node_table.specs.Row.{Row, shape_of}
+use Rattle.node_table.specs.Row.{Row, Beside, beside_of, shape_of}
 use Rattle.node_table.specs.Shown.{IsShown}
 
 pub record Hosted : Type 0 where
@@ -36,12 +36,16 @@ pub record AreHosted (a : Admissions) (rows : List (JobNo × Row)) : Type 0 wher
 
 -- ---- views
 
+-- what a row is shown beside at a node where no hand stands
+abbrev pub alone : WorkLine → ℕ → Beside
+alone line job = beside_of line [] (λ id. []) job
+
 -- the row and the works of a live job show the view
 pub record IsRowView (row : Row) (line : WorkLine) (job : ℕ) (view : View) : Type 0 where
   pub own : row.job ≡ job
-  pub shape : view.shape ≡ shape_of row line
+  pub shape : view.shape ≡ shape_of row (alone line job)
   pub order : view.order ≡ row.order
-  pub shown : IsShown row line view.contents
+  pub shown : IsShown row (alone line job) view.contents
 
 -- a store with nothing in it
 abbrev pub bare_shape : ℕ → Life → Shape

@@ -13,7 +13,7 @@ ghost use Rattle.node_core.specs.Late.{IsUnrefused};
 
 use bytes::Bytes;
 use node_table::{JobRow, Outcome};
-use obj_id::{Command, JobNo, Refusal, Reply};
+use obj_id::{Command, Items, JobNo, Refusal, Reply};
 use spill_work::Works;
 use std::alloc::Global;
 
@@ -52,7 +52,7 @@ pub(crate) fn carry_out(
         Command::Write(id, offset, bytes) => row.write(session, id, *offset, bytes),
         Command::Read(id, offset, len) => row.read(alloc, session, id, *offset, *len)?,
         Command::Release(id) => row.release(session, id),
-        Command::List => row.list(alloc)?,
+        Command::List => row.list(alloc, Items::new(alloc))?,
         Command::Usage => row.tell_usage(works),
         Command::Leave => {
             row.leave(session);
