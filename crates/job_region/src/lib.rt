@@ -222,6 +222,20 @@ impl Window {
         );
     }
 
+    /// Takes back these extents, as far as they are there. Takes a bisection and two changes of the tree for each of
+    /// them, and no memory.
+    pub fn give_back_all(&mut self, gone: &[Extent])
+        ensures { self.new ≡ record self.old { placed = without gone.now self.old.placed } }
+    {
+        free_all(
+            &mut self.extents,
+            &mut self.holes,
+            &mut self.rooms,
+            gone,
+            self.quota,
+        );
+    }
+
     /// The bytes of an extent of this window, lent without a copy.
     pub fn bytes_of(&self, extent: &Extent) -> &[u8]
         requires { IsAt extent.now self.now.placed }

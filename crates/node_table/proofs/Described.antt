@@ -51,7 +51,7 @@ working-on (w ∷ ws) id = by (same_id id w.id) (working-on ws id)
 
 -- ---- facts
 
-idle_same : (held kept granted working : Bool) (o : Option WorkKind) → kept ≡ granted → is_some o ≡ working → not held && not kept && is_none o ≡ not held && not granted && not working
+pub idle_same : (held kept granted working : Bool) (o : Option WorkKind) → kept ≡ granted → is_some o ≡ working → not held && not kept && is_none o ≡ not held && not granted && not working
 idle_same held kept granted working o g e = (λ i. not held && not (g i) && is_none o) ∙ ap (λ b. not held && not granted && b) (none_is o ∙ ap not e)
   where
     none_is : (o : Option WorkKind) → is_none o ≡ not (is_some o)

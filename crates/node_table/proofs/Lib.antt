@@ -22,6 +22,7 @@ pub mod Planning
 pub mod Removing
 pub mod Counting
 pub mod Replacing
+pub mod Dropping
 pub mod Creating
 pub mod Asking
 pub mod Lending

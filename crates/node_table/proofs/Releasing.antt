@@ -1,5 +1,6 @@
 -- A row takes Release.
-use Rattle.std.proofs.Common.{◌≡◌, ℕ, ◌-◌, true, false, cond, ◌==◌, ◌&&◌, [], map, Some, None, option_map, refl, sym, ap, ◌∙◌}
+use Rattle.std.proofs.Common.{◌≡◌, ℕ, ◌-◌, Bool, true, false, cond, ◌==◌, ◌&&◌, List, [], map, Option, Some, None, is_some, option_map, refl, sym, ap, subst, ◌∙◌}
+use Rattle.std.specs.Prelude.{option_to_list}
 use Rattle.std.specs.Option.{option_map_or}
 use Rattle.obj_id.specs.declared.ids.ObjectId.{ObjectId}
 use Rattle.obj_id.specs.declared.refusals.Refusal.{Refusal}
@@ -10,25 +11,30 @@ use Rattle.private_store.specs.declared.inputs.Input.{Input}
 use Rattle.private_store.specs.declared.inputs.Input.TheVariants as input
 use Rattle.private_store.specs.Tables.{at}
 use Rattle.private_store.specs.Shape.{Copy, Shape, Change}
-use Rattle.private_store.specs.Copies.{is_idle}
+use Rattle.private_store.specs.Copies.{is_held, is_granted, is_working, is_idle}
 use Rattle.private_store.specs.Room.{set_copy, drop_copy}
-use Rattle.private_store.specs.Change.{refused, done, erasing, settled}
+use Rattle.private_store.specs.Change.{refused, done, erasing, settled, keys_gone}
 use Rattle.private_store.specs.Commands.{release, holds_of, with_holds}
 use Rattle.private_store.specs.Contents.{Contents, judge}
 use Rattle.private_store.specs.Private.{key_of}
 use Rattle.private_store.specs.Step.{step}
 use Rattle.private_store.proofs.Checks.{checked-nil}
 use Rattle.private_store.proofs.Rows.{at-put_here}
+use Rattle.private_store.proofs.Tests.{T_true}
 use Rattle.lru_evictor.proofs.Reorders.{reordered-unused}
 use Rattle.node_table.specs.Entries.{changed}
 use Rattle.node_table.specs.Kept.{Kept, released}
-use Rattle.node_table.specs.Row.{Row, Beside, copies_of, shape_of}
+use Rattle.node_table.specs.Row.{Row, Beside, copies_of, shape_of, place_of, ArePlaced}
+use Rattle.node_table.specs.Dropping.{dropped, is_over, settled_row, keys_settled}
 use Rattle.node_table.specs.Checks.{release_check}
-use Rattle.node_table.specs.Shown.{seen, IsPlain, IsShown, only, TakesStep}
+use Rattle.node_table.specs.Shown.{seen, IsPlain, IsShown, Given, only, TakesStep}
 use Rattle.node_table.proofs.ByChecks.{unless_refused, first-check, in_table, called, own}
 use Rattle.node_table.proofs.CopyTables.{at-copies, at-copies_found, copies-changed}
 use Rattle.node_table.proofs.Passed.{there}
 use Rattle.node_table.proofs.Changing.{there_still, bytes_stay, digests_stay, works_stay, plain_stay, listed_stay, keys_with, granted_stay}
+use Rattle.node_table.proofs.Changes.{changed-found}
+use Rattle.node_table.proofs.Described.{working-on, idle_same}
+use Rattle.node_table.proofs.Dropping.{change_left, moves_left, key_removed}
 use Rattle.node_table.proofs.Stepping.{Moves, moved, stays, received_stays}
 
 -- what isn't doomed stays
@@ -97,17 +103,63 @@ module _ (node : ℕ) (row : Row) (beside : Beside) (contents : Contents) (sessi
       erased = sym (ap (map (key_of row.job)) (keys_with (copies_of row.copies) id now));
     }
 
-    step_is : step row.order s (judge node (seen row beside contents) x) ≡ c
+    -- what becomes of the copy once it has a hold less
+    abbrev goes : Bool
+    goes = is_over (released session k)
+
+    over_is : goes ≡ now.doomed && is_idle (set_copy s id now) id now
+    over_is = ap (λ b. now.doomed && b) (idle_same (is_held now) k.granted (is_granted s id) (is_working s id) k.working (h.granted id k found) (ap is_some (h.working id k found) ∙ working-on beside.works id))
+
+    settled_is : settled (set_copy s id now) id ≡ cond goes (drop_copy (set_copy s id now) id) (set_copy s id now)
+    settled_is =
+        ap (λ o. option_map_or (λ copy. cond (copy.doomed && is_idle (set_copy s id now) id copy) (drop_copy (set_copy s id now) id) (set_copy s id now)) o (set_copy s id now)) (at-put_here (copies_of row.copies) id now)
+        ∙ ap (λ b. cond b (drop_copy (set_copy s id now) id) (set_copy s id now)) (sym over_is)
+
+    step_is : step row.order s (judge node (seen row beside contents) x) ≡ erasing s (done (cond goes (drop_copy (set_copy s id now) id) (set_copy s id now)))
     step_is =
         called row beside session (command.Release id)
         ∙ ap (erasing s) (own row beside id _ mine ∙ release-by ∙ ap (λ o. unless_refused s o release_done) passed
         ∙ ap (λ o. option_map_or less o (refused s Absent)) (at-copies_found row.copies id k found)
-        ∙ ap done (settled-stays (set_copy s id now) id now (at-put_here (copies_of row.copies) id now) ((h.plain id k found).doomed)))
+        ∙ ap done settled_is)
 
-    released_there : TakesStep node row beside contents x (only reply.Ok) row_released beside
-    released_there = moved node row beside contents h x c step_is (only reply.Ok) row_released beside m refl
+    found_now : at row_released.copies id ≡ Some (released session k)
+    found_now = ap (λ t. at t id) (changed-found (released session) id row.copies k found) ∙ at-put_here row.copies id (released session k)
 
-  pub release_done_so : release_check row.copies session id ≡ None → TakesStep node row beside contents x (only reply.Ok) row_released beside
-  release_done_so passed =
+    -- the row, and what it gives, as the code leaves them
+    abbrev row_settled : Bool → Row
+    row_settled b = cond b (dropped row_released id) row_released
+
+    abbrev gives : Bool → Given
+    gives b = record { reply = reply.Ok; posts = []; erased = cond b (option_to_list (option_map (key_of row.job) k.copy.backed)) [] }
+
+    one_key : (o : Option ℕ) → option_to_list (option_map (key_of row.job) o) ≡ map (key_of row.job) (option_to_list o)
+    one_key None = refl
+    one_key (Some n) = refl
+
+    settled_so : (placed : ArePlaced row_released.window.placed (place_of row_released.copies)) → (b : Bool) → goes ≡ b → TakesStep node row beside contents x (gives b) (row_settled b) beside
+    settled_so placed false is =
+        moved node row beside contents h x c (step_is ∙ ap (λ b. erasing s (done (cond b (drop_copy (set_copy s id now) id) (set_copy s id now)))) is) (gives false) row_released beside m refl
+    settled_so placed true is =
+        let keys = keys_gone s.copies (drop_copy (set_copy s id now) id).copies in
+        moved node row beside contents h x (change_left node row beside contents h x c (only reply.Ok) row_released m refl placed id keys)
+        (step_is ∙ ap (λ b. erasing s (done (cond b (drop_copy (set_copy s id now) id) (set_copy s id now)))) is) (gives true) (dropped row_released id) beside
+        (moves_left node row beside contents h x c (only reply.Ok) row_released m refl placed id keys (gives true) refl
+        (one_key k.copy.backed ∙ ap (map (key_of row.job)) (sym (key_removed (copies_of row.copies) id k.copy now (T_true _ h.kept.kept.shape.by_id) (at-copies_found row.copies id k found))))) refl
+
+    settled_row-is : settled_row row_released id ≡ row_settled goes
+    settled_row-is = ap (λ o. option_map_or (λ kept. cond (is_over kept) (dropped row_released id) row_released) o row_released) found_now
+
+    keys-are : keys_settled row_released id ≡ (gives goes).erased
+    keys-are = ap (λ o. option_map_or (λ kept. cond (is_over kept) (option_to_list (option_map (key_of row.job) kept.copy.backed)) []) o []) found_now
+
+    released_there : (placed : ArePlaced row_released.window.placed (place_of row_released.copies))
+        → TakesStep node row beside contents x (record { reply = reply.Ok; posts = []; erased = keys_settled row_released id }) (settled_row row_released id) beside
+    released_there placed =
+        subst (λ ks. TakesStep node row beside contents x (record { reply = reply.Ok; posts = []; erased = ks }) (settled_row row_released id) beside) (sym keys-are)
+        (subst (λ r. TakesStep node row beside contents x (gives goes) r beside) (sym settled_row-is) (settled_so placed goes refl))
+
+  pub release_done_so : release_check row.copies session id ≡ None → ArePlaced row_released.window.placed (place_of row_released.copies)
+      → TakesStep node row beside contents x (record { reply = reply.Ok; posts = []; erased = keys_settled row_released id }) (settled_row row_released id) beside
+  release_done_so passed placed =
       let k = there (λ k. cond (holds_of k.copy session == 0) (Some NotHeld) None) Absent (at row.copies id) passed in
-      released_there k.0 k.1 passed
+      released_there k.0 k.1 passed placed

@@ -104,7 +104,7 @@ module _ (es : ById Kept) where
 
 -- ---- what lies in the window without them
 
-lookup-without : (gs : List Extent) (placed : List (ℕ × List ℕ)) (o : ℕ) → goes gs o ≡ false → lookup (nat_eq o) (without gs placed) ≡ lookup (nat_eq o) placed
+pub lookup-without : (gs : List Extent) (placed : List (ℕ × List ℕ)) (o : ℕ) → goes gs o ≡ false → lookup (nat_eq o) (without gs placed) ≡ lookup (nat_eq o) placed
 lookup-without gs [] o stays = refl
 lookup-without gs (p ∷ placed) o stays =
     elim (goes gs p.0) as (λ b. goes gs p.0 ≡ b → lookup (nat_eq o) (cond (not b) (p ∷ without gs placed) (without gs placed)) ≡ cond (nat_eq o p.0) (Some p.1) (lookup (nat_eq o) placed)) [
@@ -117,7 +117,7 @@ lookup-without gs (p ∷ placed) o stays =
     other false t goes_here = refl
 
 -- an extent that is left was there, and doesn't go
-left_in : (gs : List Extent) (placed : List (ℕ × List ℕ)) (e : Extent) → Contains (extents_of (without gs placed)) e → Contains (extents_of placed) e × (goes gs e.offset ≡ false)
+pub left_in : (gs : List Extent) (placed : List (ℕ × List ℕ)) (e : Extent) → Contains (extents_of (without gs placed)) e → Contains (extents_of placed) e × (goes gs e.offset ≡ false)
 left_in gs [] e inside = absurd (nothing_in e inside)
 left_in gs (p ∷ placed) e inside = by (goes gs p.0) refl (left_in gs placed e) inside
   where

@@ -8,6 +8,7 @@ pub mod Outcomes
 pub mod Usages
 pub mod RoomPlans
 pub mod Creating
+pub mod Dropping
 pub mod Holding
 pub mod Asked
 pub mod Late

@@ -10,6 +10,7 @@ ghost use Rattle.node_table.specs.Kept.{new_kept, fetched_kept, released, left, 
 ghost use Rattle.node_table.specs.Checks.{release_check_of as release_check};
 ghost use Rattle.node_table.specs.Holding.{IsHeld, IsUnready, IsHoldRefused};
 ghost use Rattle.node_table.specs.Usages.{is_spilling as is_spilling_lem};
+ghost use Rattle.node_table.specs.Dropping.{is_over as is_over_lem};
 
 use fetch_core::FetchIn;
 use lru_evictor::CopyFacts;
@@ -135,6 +136,20 @@ impl RowCopy {
         ensures { result ≡ is_some self.now.copy.backed }
     {
         self.marks.backed().is_some()
+    }
+
+    /// The number of the write that put its bytes on the device, if they are there.
+    pub fn backed(&self) -> Option<u64>
+        ensures { result ≡ self.now.copy.backed }
+    {
+        self.marks.backed()
+    }
+
+    /// Whether it is removed as soon as it is looked at: it is doomed, and neither held nor granted nor working.
+    pub fn is_over(&self) -> bool
+        ensures { result ≡ is_over_lem self.now }
+    {
+        self.doomed() && !self.is_held() && !self.granted && !self.is_working()
     }
 
     /// Whether a write of it is in flight.

@@ -17,15 +17,18 @@ ghost use Rattle.node_table.specs.Entries.{changed, all_changed, each_changed};
 ghost use Rattle.node_table.specs.Kept.{Kept, sealed, held, released, left, spilling_if, fetched_kept};
 ghost use Rattle.node_table.specs.Checks.{release_check};
 ghost use Rattle.node_table.specs.Row.{Row, new_row, place_of, ArePlaced};
+ghost use Rattle.node_table.specs.Dropping.{dropped, settled_row, keys_settled};
+ghost use Rattle.node_table.specs.Erased.{keys_of};
 ghost use Rattle.node_table.specs.Holding.{IsUnreadyAt, IsHoldRefusedAt, IsRowHeld};
 ghost use Rattle.node_table.specs.Creating.{placed_without, IsReplaced};
 
 use crate::copies::Copies;
 use crate::copy::RowCopy;
+use crate::outcome::Erase;
 use indexmap::IndexSet;
 use job_region::Window;
 use lru_evictor::{UseOrder, extents_by_offset};
-use obj_id::{Digest, Extent, JobNo, Kind, ObjectId, Quota, Refusal, TaskNo};
+use obj_id::{DeviceKey, Digest, Extent, JobNo, Kind, ObjectId, Quota, Refusal, TaskNo};
 use std::alloc::Global;
 use std::marker::Model;
 
@@ -305,6 +308,41 @@ impl JobRow {
     {
         self.copies.release(id, session)?;
         Ok(())
+    }
+
+    /// The copy is removed, and its place is free. Takes no memory.
+    pub(crate) fn drop_copy(&mut self, id: &ObjectId)
+        ensures row { self.new ≡ dropped self.old id.now }
+        ensures placed { ArePlaced self.old.window.placed (place_of self.old.copies) }
+    {
+        let gone = self.place(id);
+        self.window.give_back_all(gone.as_slice());
+        self.copies.remove(id);
+        self.order.forget(self.job, *id);
+    }
+
+    /// The copy is removed if it is doomed and nothing keeps it any more. Answers the device key that is then to be
+    /// erased, if it has one. Takes no memory.
+    pub(crate) fn settle(&mut self, id: &ObjectId) -> Erase
+        ensures row { self.new ≡ settled_row self.old id.now }
+        ensures keys { keys_of result ≡ keys_settled self.old id.now }
+        ensures placed { ArePlaced self.old.window.placed (place_of self.old.copies) }
+    {
+        let Some(copy) = self.copies.get(id) else {
+            return Erase::NoKey;
+        };
+        if !copy.is_over() {
+            return Erase::NoKey;
+        }
+        let backed = copy.backed();
+        self.drop_copy(id);
+        let Some(number) = backed else {
+            return Erase::NoKey;
+        };
+        Erase::One(DeviceKey {
+            job: self.job,
+            number,
+        })
     }
 
     /// No hold of the session on any copy. Takes no memory.

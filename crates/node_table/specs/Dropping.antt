@@ -1,0 +1,34 @@
+-- A row without one of its copies, and a copy that nothing keeps any more.
+use Rattle.std.specs.Prelude.{ℕ, Bool, ◌&&◌, if◌then◌else◌, List, [], option_to_list}
+use Rattle.std.specs.Option.{option_map, option_map_or}
+use Rattle.obj_id.specs.declared.ids.ObjectId.{ObjectId}
+use Rattle.obj_id.specs.declared.works.DeviceKey.{DeviceKey}
+use Rattle.private_store.specs.Tables.{at, without_entry}
+use Rattle.private_store.specs.Private.{key_of}
+use Rattle.job_region.specs.Region.{without}
+use Rattle.lru_evictor.specs.Orders.{without_id}
+use Rattle.node_table.specs.Kept.{Kept}
+use Rattle.node_table.specs.RoomPlans.{is_idle}
+use Rattle.node_table.specs.Row.{Row, place_of}
+
+-- the copy is removed, and its place is free
+abbrev pub dropped : Row → ObjectId → Row
+dropped row id =
+    record row {
+      window = record row.window { placed = without (option_to_list (place_of row.copies id)) row.window.placed };
+      copies = without_entry row.copies id;
+      order = without_id id row.order;
+    }
+
+-- whether a copy is removed as soon as it is looked at: it is doomed, and nothing keeps it
+abbrev pub is_over : Kept → Bool
+is_over kept = kept.copy.doomed && is_idle kept
+
+-- the row after the copy was looked at
+abbrev pub settled_row : Row → ObjectId → Row
+settled_row row id = option_map_or (λ kept. if is_over kept then dropped row id else row) (at row.copies id) row
+
+-- the device keys that are then to be erased
+abbrev pub keys_settled : Row → ObjectId → List DeviceKey
+keys_settled row id =
+    option_map_or (λ kept. if is_over kept then option_to_list (option_map (key_of row.job) kept.copy.backed) else []) (at row.copies id) []
