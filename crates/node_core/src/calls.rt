@@ -49,9 +49,9 @@ pub(crate) fn carry_out(
         }
         Command::Seal(id) => return Ok(row.seal(alloc, node, session, id)?),
         Command::Get(id) => return row.get(alloc, node, session, id),
+        Command::Release(id) => return Ok(row.release(alloc, session, id)),
         Command::Write(id, offset, bytes) => row.write(session, id, *offset, bytes),
         Command::Read(id, offset, len) => row.read(alloc, session, id, *offset, *len)?,
-        Command::Release(id) => row.release(session, id),
         Command::List => row.list(alloc, Items::new(alloc))?,
         Command::Usage => row.tell_usage(works),
         Command::Leave => {

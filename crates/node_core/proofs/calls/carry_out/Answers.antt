@@ -12,7 +12,7 @@ use Rattle.node_core.specs.Hosted.{alone}
 use Rattle.node_core.specs.Calls.{is_own}
 use Rattle.node_core.proofs.Calling.{if_ok, not_granted, told_so}
 use Rattle.node_core.proofs.calls.carry_out.Goals as goal
-use Rattle.node_core.proofs.calls.carry_out.Goals.{in-Write, in-Read+in_ok-reply-in-Read, in-Release, in-List+in_ok-reply-in-List, in-Usage, in-Leave}
+use Rattle.node_core.proofs.calls.carry_out.Goals.{in-Write, in-Read+in_ok-reply-in-Read, in-List+in_ok-reply-in-List, in-Usage, in-Leave}
 
 pub returns-then-not-is_own-clause-ok : goal.returns-then-not-is_own-clause-ok
 returns-then-not-is_own-clause-ok c contents own h =
@@ -37,11 +37,6 @@ returns-clause-ok c contents own h =
           so d (given_of c.only-2.result) c.match-command.reply w.in_ok-reply-in-Read.reply c.match-command.row c.args.row.now
           w.in-Read.is c.only-2.ensures w.reply-is w.row-is
           (w.in_ok-reply-in-Read.ensures.ok c.args.node (alone c.args.works.now c.args.job.0) contents (own_id w.in-Read.id (mine d w.in-Read.is)) h)
-      | in-Release w ↦
-          let d = command.Release w.in-Release.id in
-          so d (given_of c.only-2.result) c.match-command.reply w.release-reply.result c.match-command.row w.release-reply.new.self
-          w.in-Release.is c.only-2.ensures w.reply-is w.row-is
-          (w.release-reply.ensures c.args.node (alone c.args.works.now c.args.job.0) contents (own_id w.in-Release.id (mine d w.in-Release.is)) h)
       | in-List+in_ok-reply-in-List w ↦
           so command.List (given_of c.only-2.result) c.match-command.reply w.in_ok-reply-in-List.reply c.match-command.row c.args.row.now
           w.in-List.is c.only-2.ensures w.reply-is w.row-is
@@ -82,3 +77,9 @@ returns-in-Get-clause-ok c =
     let mine = ap (λ n. c.in-Get.id.job.0 == n) own ∙ ap (is_own c.args.job.0) (sym c.in-Get.is) ∙ sym c.is_own.ensures ∙ c.if-not-is_own.false in
     subst (λ d. TakesStep c.args.node c.args.row.now (alone c.args.works.now c.args.job.0) contents (input.Call c.args.session d) (given_of o) c.get.new.self (alone c.args.works.now c.args.job.0)) (sym c.in-Get.is)
     (told (alone c.args.works.now c.args.job.0) contents mine h))
+
+pub returns-in-Release-clause-ok : goal.returns-in-Release-clause-ok
+returns-in-Release-clause-ok c contents own h =
+    let mine = ap (λ n. c.in-Release.id.job.0 == n) own ∙ ap (is_own c.args.job.0) (sym c.in-Release.is) ∙ sym c.is_own.ensures ∙ c.if-not-is_own.false in
+    subst (λ d. TakesStep c.args.node c.args.row.now (alone c.args.works.now c.args.job.0) contents (input.Call c.args.session d) (given_of c.release.result) c.release.new.self (alone c.args.works.now c.args.job.0)) (sym c.in-Release.is)
+    (c.release.ensures.step c.args.node (alone c.args.works.now c.args.job.0) contents mine h)
