@@ -10,7 +10,7 @@ ghost use Rattle.std.specs.Map.{lookup, remove_entry, set_value};
 ghost use Rattle.obj_id.specs.declared.refusals.Refusal.{Refusal};
 ghost use Rattle.obj_id.specs.declared.refusals.Refusal.TheVariants.{BadSize, Full, OutOfBounds, NoMemory};
 ghost use Rattle.private_store.specs.Limits.{is_window as is_window_lem};
-ghost use Rattle.private_store.specs.Extents.{rounded, is_size, first};
+ghost use Rattle.private_store.specs.Extents.{rounded as rounded_lem, is_size, first};
 ghost use Rattle.private_store.specs.Contents.{overwritten};
 ghost use Rattle.job_region.specs.Region.{extents_of, place_for, place_check, put_in, without, IsAt, bytes_at, resize_check as resize_check_lem};
 ghost use Rattle.std.specs.Prelude.{vec_len, vec_capacity, find, slice_index_or};
@@ -21,6 +21,7 @@ ghost use Rattle.job_region.specs.Gaps.{gaps, put_then, cut_hole, mend_holes, st
 use hole_tree::{Hole, Holes, Room};
 use obj_id::limits::{LONGEST_OBJECT, UNIT, WIDEST_WINDOW};
 use obj_id::{Extent, Refusal};
+use private_store::rounded;
 use std::alloc::{AllocError, Global};
 use std::marker::Model;
 
@@ -95,7 +96,7 @@ impl Window {
     /// last. A refusal changes nothing.
     pub fn place(&mut self, len: u32) -> Result<Extent, Refusal>
         ensures least { IfOk result (λ e. place_for self.old len ≡ Some e.offset) }
-        ensures length { IfOk result (λ e. e.length ≡ rounded len) }
+        ensures length { IfOk result (λ e. e.length ≡ rounded_lem len) }
         ensures placed { IfOk result (λ e. self.new ≡ record self.old { placed = put_in (e.offset, replicate e.length 0) self.old.placed }) }
         ensures refused { (r : Refusal) → r ≢ NoMemory → IsErrOf result r → place_check self.old len ≡ Some r }
         ensures passed { IsOk result → place_check self.old len ≡ None }
@@ -105,7 +106,7 @@ impl Window {
         ensures there { IfOk result (λ e. IsAt e self.new.placed) }
         ensures others { IfOk result (λ e. (o : ℕ) → o ≢ e.offset → lookup (nat_eq o) self.new.placed ≡ lookup (nat_eq o) self.old.placed) }
     {
-        let need = round_up(len);
+        let need = rounded(len);
         if len == 0 || len > LONGEST_OBJECT || need > self.quota {
             return Err(Refusal::BadSize);
         }
@@ -128,14 +129,14 @@ impl Window {
     pub fn may_have(&self, len: u32) -> bool
         ensures { result ≡ is_size self.now.quota len }
     {
-        len > 0 && len <= LONGEST_OBJECT && round_up(len) <= self.quota
+        len > 0 && len <= LONGEST_OBJECT && rounded(len) <= self.quota
     }
 
     /// Why an object of `len` bytes can't be placed: `BadSize`, `Full`, or nothing.
     pub fn check(&self, len: u32) -> Option<Refusal>
         ensures { result ≡ place_check self.now len }
     {
-        let need = round_up(len);
+        let need = rounded(len);
         if len == 0 || len > LONGEST_OBJECT || need > self.quota {
             return Some(Refusal::BadSize);
         }
@@ -154,7 +155,7 @@ impl Window {
         if len == 0 {
             return (Some(0), 0);
         }
-        let (found, visits) = self.holes.first_fit(round_up(len));
+        let (found, visits) = self.holes.first_fit(rounded(len));
         match found {
             None => (None, visits),
             Some(hole) => (Some(hole.offset), visits),
@@ -170,7 +171,7 @@ impl Window {
     pub fn replace(&mut self, alloc: Global, gone: &[Extent], len: u32) -> Result<Extent, Refusal>
         requires { IsNonDecreasingBy (λ (e : Extent). e.offset) gone.now }
         ensures least { IfOk result (λ e. first (extents_of (without gone.now self.old.placed)) self.old.quota len ≡ Some e.offset) }
-        ensures length { IfOk result (λ e. e.length ≡ rounded len) }
+        ensures length { IfOk result (λ e. e.length ≡ rounded_lem len) }
         ensures placed { IfOk result (λ e. self.new ≡ record self.old { placed = put_in (e.offset, replicate e.length 0) (without gone.now self.old.placed) }) }
         ensures refused { (r : Refusal) → r ≢ NoMemory → IsErrOf result r → place_check (record self.old { placed = without gone.now self.old.placed }) len ≡ Some r }
         ensures passed { IsOk result → place_check (record self.old { placed = without gone.now self.old.placed }) len ≡ None }
@@ -179,7 +180,7 @@ impl Window {
         ensures fresh { IfOk result (λ e. lookup (nat_eq e.offset) (without gone.now self.old.placed) ≡ None) }
         ensures small { IfOk result (λ e. e.offset + e.length < 2 ^ 32) }
     {
-        let need = round_up(len);
+        let need = rounded(len);
         if len == 0 || len > LONGEST_OBJECT || need > self.quota {
             return Err(Refusal::BadSize);
         }
@@ -276,7 +277,7 @@ impl Window {
             return Some(0);
         }
         let found = self.search(len).0;
-        least_without(&self.extents, found, gone, round_up(len), self.quota)
+        least_without(&self.extents, found, gone, rounded(len), self.quota)
     }
 
     /// Gives back all extents. Takes no memory.
@@ -355,13 +356,6 @@ fn zeros(alloc: Global, len: u64) -> Result<Vec<u8>, AllocError>
     ensures { IfOk result (λ v. v.items ≡ replicate len 0) }
 {
     Ok(vec![in alloc; 0; len as usize]?)
-}
-
-/// In whole units of 16.
-fn round_up(len: u32) -> u64
-    ensures { result ≡ rounded len }
-{
-    (u64::from(len) + 15) / UNIT * UNIT
 }
 
 /// How many extents begin before an offset.

@@ -10,7 +10,8 @@ use Rattle.obj_id.specs.declared.refusals.Refusal.TheVariants.{Absent, Pending, 
 use Rattle.private_store.specs.Limits.{has_numbers}
 use Rattle.private_store.specs.Tables.{at, ids_of}
 use Rattle.private_store.specs.Shape.{Copy, Shape, Change, Fetch, Phase, locating, sized, pulling, failed, Sending}
-use Rattle.private_store.specs.Copies.{is_primary, is_idle, visible}
+use Rattle.obj_id.specs.Kinds.{is_primary}
+use Rattle.private_store.specs.Copies.{is_idle, visible}
 use Rattle.private_store.specs.Room.{Room, Plan, fits, wait, full, busy, evict, spill, plan, set_copy, drop_copy, evicted, asked, no_room, spill_room, room_by, make_room}
 use Rattle.private_store.specs.Change.{refused, done, checked, needing, sending, in_room, settled}
 use Rattle.private_store.specs.Commands.{get, created, restore, restoring, refusal_of, get_away, get_fetching, get_copy, begin_pull, begin_fetch, at_each, leave_one, with_holds, holds_of}

@@ -25,7 +25,8 @@ use Rattle.private_store.specs.Limits.{most_copies}
 use Rattle.private_store.specs.Tables.{ById, at, with_entry, is_among}
 use Rattle.private_store.specs.Extents.{rounded, first, is_size}
 use Rattle.private_store.specs.Shape.{Copy, Shape, Change, Sending, remove_location}
-use Rattle.private_store.specs.Copies.{extent_of, is_primary, is_sealed, is_evictable, is_idle, device_used}
+use Rattle.obj_id.specs.Kinds.{is_primary}
+use Rattle.private_store.specs.Copies.{extent_of, is_sealed, is_evictable, is_idle, device_used}
 use Rattle.private_store.specs.Room.{Room, make_room, offset_without, no_room, evict_room, evicted, eviction_notice, set_copy, drop_copy}
 use Rattle.private_store.specs.Change.{replied, refused, sending, erasing, in_room, keys_gone, has_ended}
 use Rattle.private_store.specs.Kept.{has_hand, is_remembered}

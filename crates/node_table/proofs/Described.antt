@@ -16,7 +16,8 @@ use Rattle.private_store.specs.Tables.{ById, at}
 use Rattle.private_store.specs.Extents.{rounded}
 use Rattle.private_store.specs.Shape.{Copy, Shape, WorkInFlight}
 use Rattle.private_store.specs.Kept.{has_hand}
-use Rattle.private_store.specs.Copies.{extent_of, is_held, is_sealed, is_primary, is_working, device_used}
+use Rattle.obj_id.specs.Kinds.{is_primary}
+use Rattle.private_store.specs.Copies.{extent_of, is_held, is_sealed, is_working, device_used}
 use Rattle.private_store.specs.Contents.{Contents}
 use Rattle.private_store.proofs.Tests.{T_true, and_right, none_some, some_value}
 use Rattle.job_region.specs.Region.{extents_of, IsAt}

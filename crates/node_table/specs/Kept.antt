@@ -7,7 +7,8 @@ use Rattle.obj_id.specs.declared.messages.Digest.{Digest}
 use Rattle.obj_id.specs.declared.works.WorkKind.{WorkKind}
 use Rattle.obj_id.specs.declared.works.WorkKind.TheVariants.{Write, Read}
 use Rattle.private_store.specs.Shape.{Copy, Fetch}
-use Rattle.private_store.specs.Copies.{is_sealed, is_primary, is_away}
+use Rattle.obj_id.specs.Kinds.{is_primary}
+use Rattle.private_store.specs.Copies.{is_sealed, is_away}
 use Rattle.private_store.specs.Commands.{new_copy, fetched_copy, with_holds, holds_of}
 use Rattle.object_state.specs.Marks.{Marks}
 use Rattle.pins_holds.specs.Pinned.{Pinned}
@@ -73,14 +74,6 @@ is_ready copy = is_sealed copy.state && not copy.doomed
 abbrev pub can_spill : Kept → Bool
 can_spill kept = is_sealed kept.copy.state && is_primary kept.copy.kind && is_none kept.copy.backed && is_none kept.working
 
--- sealed, with its bytes on the device
-abbrev pub can_go_away : Kept → Bool
-can_go_away kept = is_sealed kept.copy.state && is_some kept.copy.backed
-
--- on the device alone, with no fault to tell of
-abbrev pub can_restore : Kept → Bool
-can_restore kept = is_away kept.copy.state && is_none kept.copy.fault
-
 -- ---- the changes
 
 abbrev pub held : ℕ → Kept → Kept
@@ -101,12 +94,3 @@ spilling kept = record kept { working = Some Write }
 -- where it can be
 abbrev pub spilling_if : Kept → Kept
 spilling_if kept = if can_spill kept then spilling kept else kept
-
-abbrev pub gone_away : Kept → Kept
-gone_away kept = record kept { copy = record kept.copy { state = Away; offset = None } }
-
-abbrev pub restoring : ℕ → Kept → Kept
-restoring offset kept = record kept { copy = record kept.copy { state = Restoring; offset = Some offset }; working = Some Read }
-
-abbrev pub fault_told : Kept → Kept
-fault_told kept = record kept { copy = record kept.copy { fault = None } }

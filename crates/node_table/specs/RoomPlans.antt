@@ -8,7 +8,8 @@ use Rattle.private_store.specs.Limits.{has_numbers}
 use Rattle.private_store.specs.Tables.{at}
 use Rattle.private_store.specs.Extents.{rounded}
 use Rattle.private_store.specs.Shape.{Copy, Shape}
-use Rattle.private_store.specs.Copies.{extent_of, is_held, is_sealed, is_primary, is_evictable, is_spillable}
+use Rattle.obj_id.specs.Kinds.{is_primary}
+use Rattle.private_store.specs.Copies.{extent_of, is_held, may_evict, may_spill, may_pass, is_evictable, is_spillable}
 use Rattle.private_store.specs.Kept.{IsOrderOfUse}
 use Rattle.private_store.specs.Room.{Room, Plan, fits, wait, full, busy, evict, spill, works_left, offset_without, asked, evict_room, no_room}
 use Rattle.lru_evictor.specs.declared.facts.CopyFacts.{CopyFacts}
@@ -27,9 +28,9 @@ facts_of kept =
     record {
       extent = extent_of kept.copy;
       bytes = rounded kept.copy.length;
-      evictable = is_sealed kept.copy.state && is_idle kept && (not (is_primary kept.copy.kind) || is_some kept.copy.backed);
-      passing = is_some kept.working && is_some kept.copy.offset && not (is_held kept.copy) && not kept.granted;
-      spillable = is_sealed kept.copy.state && is_primary kept.copy.kind && is_none kept.copy.backed && is_idle kept && not kept.copy.doomed;
+      evictable = may_evict kept.copy.state kept.copy.kind kept.copy.backed (is_idle kept);
+      passing = may_pass (is_some kept.working) (is_some kept.copy.offset) (is_held kept.copy) kept.granted;
+      spillable = may_spill kept.copy.state kept.copy.kind kept.copy.backed kept.copy.doomed (is_idle kept);
     }
 
 -- ---- what is to be done

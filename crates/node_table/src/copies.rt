@@ -2,7 +2,7 @@
 ghost use Rattle.std.specs.Option.{option_copied, option_map_or};
 ghost use Rattle.private_store.specs.Tables.{at, with_entry, without_entry};
 ghost use Rattle.node_table.specs.Entries.{changed, all_changed, each_changed, without_all};
-ghost use Rattle.node_table.specs.Kept.{released, left, sealed, spilling_if, gone_away, restoring as restoring_lem, fault_told, can_go_away, can_restore};
+ghost use Rattle.node_table.specs.Kept.{released, left, sealed, spilling_if};
 ghost use Rattle.private_store.specs.Copies.{is_created};
 ghost use Rattle.obj_id.specs.declared.refusals.Refusal.{Refusal};
 ghost use Rattle.node_table.specs.Checks.{release_check};
@@ -144,16 +144,6 @@ impl Copies {
         copy.release(session)
     }
 
-    /// No hold of the session on the copy. Takes no memory.
-    pub fn leave(&mut self, id: &ObjectId, session: u32)
-        ensures { self.new ≡ changed (left session) self.old id.now }
-    {
-        let Some(copy) = self.by_id.get_mut(id) else {
-            return;
-        };
-        copy.leave(session);
-    }
-
     /// No hold of the session on any copy. Takes a walk over them, and no memory.
     pub fn leave_all(&mut self, session: u32)
         ensures { self.new ≡ all_changed (left session) self.old }
@@ -192,37 +182,5 @@ impl Copies {
         for id in ids {
             self.begin_spill(id);
         }
-    }
-
-    /// The bytes of the copy are on the device alone.
-    pub fn mark_away(&mut self, id: &ObjectId)
-        requires { option_map_or can_go_away (at self.old id.now) true ≡ true }
-        ensures { self.new ≡ changed gone_away self.old id.now }
-    {
-        let Some(copy) = self.by_id.get_mut(id) else {
-            return;
-        };
-        copy.mark_away();
-    }
-
-    /// A read of the copy is in flight, to this offset of the window.
-    pub fn begin_restore(&mut self, id: &ObjectId, offset: u64)
-        requires { option_map_or can_restore (at self.old id.now) true ≡ true }
-        ensures { self.new ≡ changed (restoring_lem offset) self.old id.now }
-    {
-        let Some(copy) = self.by_id.get_mut(id) else {
-            return;
-        };
-        copy.begin_restore(offset);
-    }
-
-    /// The fault of the copy was told.
-    pub fn tell_fault(&mut self, id: &ObjectId)
-        ensures { self.new ≡ changed fault_told self.old id.now }
-    {
-        let Some(copy) = self.by_id.get_mut(id) else {
-            return;
-        };
-        let _ = copy.take_fault();
     }
 }

@@ -2,11 +2,12 @@
 ghost use Rattle.std.specs.Prelude.{◌≡◌, ◌≢◌, ◌+◌, ◌==◌, nat_le, if◌then◌else◌, true, false, Some, None, IfOk, IfErr, IfSome, IfNone, OnOk, OnErr, IsErrOf, IsOk, is_some, option_map};
 ghost use Rattle.obj_id.specs.declared.refusals.Refusal.{Refusal};
 ghost use Rattle.obj_id.specs.declared.refusals.Refusal.TheVariants.{NoMemory};
-ghost use Rattle.private_store.specs.Copies.{extent_of, is_primary, is_created, is_held};
+ghost use Rattle.obj_id.specs.Kinds.{is_primary};
+ghost use Rattle.private_store.specs.Copies.{extent_of, is_created, is_held};
 ghost use Rattle.private_store.specs.Commands.{holds_of as holds_of_lem};
-ghost use Rattle.private_store.specs.Extents.{rounded};
+ghost use Rattle.private_store.specs.Extents.{rounded as rounded_lem};
 ghost use Rattle.node_table.specs.RoomPlans.{facts_of};
-ghost use Rattle.node_table.specs.Kept.{new_kept, fetched_kept, released, left, sealed, spilling, spilling_if, gone_away, restoring as restoring_lem, fault_told, can_spill, can_go_away, can_restore};
+ghost use Rattle.node_table.specs.Kept.{new_kept, fetched_kept, released, left, sealed, spilling, spilling_if, can_spill};
 ghost use Rattle.node_table.specs.Checks.{release_check_of as release_check};
 ghost use Rattle.node_table.specs.Holding.{IsHeld, IsUnready, IsHoldRefused};
 ghost use Rattle.node_table.specs.Usages.{is_spilling as is_spilling_lem};
@@ -17,7 +18,7 @@ use lru_evictor::CopyFacts;
 use obj_id::{CopyState, Digest, Extent, Kind, Refusal, WorkKind};
 use object_state::ObjectCopy;
 use pins_holds::Pins;
-use private_store::Fault;
+use private_store::rounded;
 use std::alloc::Global;
 use std::marker::Model;
 
@@ -175,9 +176,9 @@ impl RowCopy {
 
     /// Its length in bytes, in whole units of 16.
     pub(crate) fn rounded_length(&self) -> u64
-        ensures { result ≡ rounded self.now.copy.length }
+        ensures { result ≡ rounded_lem self.now.copy.length }
     {
-        (u64::from(self.length()) + 15) / 16 * 16
+        rounded(self.length())
     }
 
     /// Whether a session holds it.
@@ -245,36 +246,10 @@ impl RowCopy {
     pub fn begin_spill_if(&mut self)
         ensures { self.new ≡ spilling_if self.old }
     {
-        let is_primary = matches!(self.kind(), Kind::Primary);
+        let is_primary = self.kind().is_primary();
         let is_sealed = matches!(self.state(), CopyState::Sealed);
         if is_sealed && is_primary && !self.is_backed() && !self.is_working() {
             self.begin_spill();
         }
-    }
-
-    /// Its bytes are on the device alone, and its place in the window is no longer its own.
-    pub fn mark_away(&mut self)
-        requires { can_go_away self.old ≡ true }
-        ensures { self.new ≡ gone_away self.old }
-    {
-        self.marks.mark_away();
-        self.offset = None;
-    }
-
-    /// A read of it is in flight, to this offset of the window.
-    pub fn begin_restore(&mut self, offset: u64)
-        requires { can_restore self.old ≡ true }
-        ensures { self.new ≡ restoring_lem offset self.old }
-    {
-        self.marks.begin_restore();
-        self.offset = Some(offset);
-    }
-
-    /// What its restore came to, which is told once.
-    pub fn take_fault(&mut self) -> Option<Fault>
-        ensures fault { result ≡ self.old.copy.fault }
-        ensures copy { self.new ≡ fault_told self.old }
-    {
-        self.marks.take_fault()
     }
 }

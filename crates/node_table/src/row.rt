@@ -36,7 +36,6 @@ use std::marker::Model;
 /// contents that it shows.
 #[derive(Drop)]
 pub struct JobRow {
-    alloc: Global,
     job: JobNo,
     window: Window,
     // what the job may have on the device, in bytes
@@ -70,7 +69,6 @@ impl JobRow {
     {
         let window = Window::new(alloc, quota.window)?;
         Ok(JobRow {
-            alloc,
             job,
             window,
             device: quota.device,
@@ -289,13 +287,6 @@ impl JobRow {
         ensures { self.new ≡ record self.old { copies = each_changed spilling_if self.old.copies ids.now } }
     {
         self.copies.begin_spills(ids);
-    }
-
-    /// No hold of the session on the copy. Takes no memory.
-    pub(crate) fn leave_copy(&mut self, id: &ObjectId, session: u32)
-        ensures { self.new ≡ record self.old { copies = changed (left session) self.old.copies id.now } }
-    {
-        self.copies.leave(id, session);
     }
 
     /// One hold of the session on the copy less. `Absent`, `NotHeld` where it has none; a refusal changes

@@ -30,7 +30,7 @@ fn event_of(rt: &impl Abort, alloc: Global, line: &str) -> Result<Event, AllocEr
 {
     match step_of(rt, alloc, line)? {
         Step::At(_, event) => Ok(event),
-        Step::Deliver(..) => panic!(rt; "not an event"),
+        Step::Deliver { .. } => panic!(rt; "not an event"),
     }
 }
 

@@ -2,3 +2,4 @@ pub mod Parts
 pub mod Ids
 pub mod Refusals
 pub mod Texts
+pub mod Kinds

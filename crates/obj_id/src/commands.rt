@@ -1,4 +1,7 @@
 //! What a session asks and what it is answered.
+ghost use Rattle.std.specs.Prelude.{◌≡◌};
+ghost use Rattle.obj_id.specs.Kinds.{is_primary};
+
 use crate::{Items, JobNo, ObjectId, Refusal, TaskNo, Work};
 
 /// What a copy is: the first copy of an object, or one made by a transfer.
@@ -8,6 +11,15 @@ pub enum Kind {
     Primary,
     /// A copy made by a transfer, which may be evicted.
     Secondary,
+}
+
+impl Kind {
+    /// Whether it is the first copy.
+    pub fn is_primary(self) -> bool
+        ensures { result ≡ is_primary self }
+    {
+        matches!(self, Kind::Primary)
+    }
 }
 
 /// Where a copy's bytes are.

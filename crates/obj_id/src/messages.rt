@@ -33,7 +33,13 @@ pub enum DirectoryMessage {
 #[derive(Debug, Drop)]
 pub enum PeerMessage {
     /// Asks for chunks: fetch number, length and digest of the object, and indexes from 0.
-    Pull(ObjectId, u64, u32, Digest, Items<u32>),
+    Pull {
+        id: ObjectId,
+        number: u64,
+        length: u32,
+        digest: Digest,
+        indexes: Items<u32>,
+    },
     /// One chunk: fetch number, index and bytes.
     Chunk(ObjectId, u64, u32, Bytes),
     /// There is no such sealed copy: fetch number.

@@ -14,7 +14,8 @@ use Rattle.private_store.specs.declared.faults.Fault.{Fault}
 use Rattle.private_store.specs.declared.faults.Fault.TheVariants.{DeviceFailed, Damaged}
 use Rattle.private_store.specs.declared.inputs.WorkVerdict.{WorkVerdict}
 use Rattle.private_store.specs.declared.inputs.WorkVerdict.TheVariants as work
-use Rattle.private_store.specs.Copies.{is_primary, is_created, is_sealed, is_away, was_sealed}
+use Rattle.obj_id.specs.Kinds.{is_primary}
+use Rattle.private_store.specs.Copies.{is_created, is_sealed, is_away, was_sealed, may_evict, may_spill, may_pass}
 use Rattle.private_store.specs.Kept.{is_restoring, is_fetching}
 
 -- a copy, without what stands on it: extent, pins, holds, and the fetch that brings it
@@ -72,14 +73,14 @@ abbrev pub is_idle : Marks → Bool → Bool → Bool
 is_idle copy held granted = not held && not granted && is_none copy.working
 
 abbrev pub is_evictable : Marks → Bool → Bool → Bool
-is_evictable copy held granted = is_sealed copy.state && is_idle copy held granted && (not (is_primary copy.kind) || is_some copy.backed)
+is_evictable copy held granted = may_evict copy.state copy.kind copy.backed (is_idle copy held granted)
 
 -- whether the end of its work, with nothing else, would let its extent go
 abbrev pub is_passing : Marks → Bool → Bool → Bool → Bool
-is_passing copy resident held granted = is_some copy.working && resident && not held && not granted
+is_passing copy resident held granted = may_pass (is_some copy.working) resident held granted
 
 abbrev pub is_spillable : Marks → Bool → Bool → Bool
-is_spillable copy held granted = is_sealed copy.state && is_primary copy.kind && is_none copy.backed && is_idle copy held granted && not copy.doomed
+is_spillable copy held granted = may_spill copy.state copy.kind copy.backed copy.doomed (is_idle copy held granted)
 
 -- ---- which change a copy can take
 

@@ -7,7 +7,8 @@ ghost use Rattle.std.specs.Prelude.{◌≡◌, ◌≢◌, Bool, true, false, Som
 ghost use Rattle.obj_id.specs.declared.refusals.Refusal.{Refusal};
 ghost use Rattle.obj_id.specs.declared.works.WorkKind.TheVariants.{Write, Read};
 ghost use Rattle.obj_id.specs.declared.commands.CopyState.TheVariants.{Sealed, Restoring, Away};
-ghost use Rattle.private_store.specs.Copies.{is_primary, is_sealed, was_sealed as was_sealed_lem};
+ghost use Rattle.obj_id.specs.Kinds.{is_primary};
+ghost use Rattle.private_store.specs.Copies.{is_sealed, was_sealed as was_sealed_lem};
 ghost use Rattle.private_store.specs.Kept.{is_fetching, is_restoring};
 ghost use Rattle.object_state.specs.Marks.{Marks, IsMarked, is_written, is_idle as is_idle_lem, is_evictable as is_evictable_lem, is_passing as is_passing_lem, is_spillable as is_spillable_lem, is_sized as is_sized_lem, can_spill as can_spill_lem, can_go_away as can_go_away_lem, can_restore as can_restore_lem, new_marks, fetched_marks, seal_check as seal_check_lem, written, read_back};
 
@@ -151,7 +152,7 @@ impl ObjectCopy {
     {
         self.is_sealed()
             && self.is_idle(held, granted)
-            && (!self.is_primary() || self.backed.is_some())
+            && (!self.kind.is_primary() || self.backed.is_some())
     }
 
     /// Whether it may be spilled: it is a sealed and idle primary that is neither backed nor doomed.
@@ -159,7 +160,7 @@ impl ObjectCopy {
         ensures { result ≡ is_spillable_lem self.now held granted }
     {
         self.is_sealed()
-            && self.is_primary()
+            && self.kind.is_primary()
             && self.backed.is_none()
             && self.is_idle(held, granted)
             && !self.doomed
@@ -183,7 +184,7 @@ impl ObjectCopy {
     pub fn can_spill(&self) -> bool
         ensures { result ≡ can_spill_lem self.now }
     {
-        self.is_sealed() && self.is_primary() && self.backed.is_none() && self.working.is_none()
+        self.is_sealed() && self.kind.is_primary() && self.backed.is_none() && self.working.is_none()
     }
 
     /// Whether its extent can be given up for its bytes on the device.
@@ -335,12 +336,6 @@ impl ObjectCopy {
         ensures { result ≡ is_fetching self.now.state }
     {
         matches!(self.state, CopyState::Fetching)
-    }
-
-    fn is_primary(&self) -> bool
-        ensures { result ≡ is_primary self.now.kind }
-    {
-        matches!(self.kind, Kind::Primary)
     }
 
     /// Whether it is neither held nor granted nor working.

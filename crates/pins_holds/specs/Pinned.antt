@@ -6,7 +6,7 @@ use Rattle.obj_id.specs.declared.refusals.Refusal.{Refusal}
 use Rattle.obj_id.specs.declared.refusals.Refusal.TheVariants.{Exists, Absent, NotHeld, TooMany, NotOwner}
 use Rattle.private_store.specs.Limits.{most_holds, most_borrowers}
 use Rattle.private_store.specs.Shape.{Copy}
-use Rattle.private_store.specs.Copies.{is_primary}
+use Rattle.obj_id.specs.Kinds.{is_primary}
 use Rattle.private_store.specs.Copies as copies
 use Rattle.private_store.specs.Commands as commands
 

@@ -5,7 +5,7 @@
 ghost use Rattle.std.specs.Prelude.{◌≡◌, ◌≢◌, ◌+◌, ◌-◌, ◌<◌, true, false, Some, None, OnOk, OnErr, IsOk, IsErrOf};
 ghost use Rattle.obj_id.specs.declared.refusals.Refusal.{Refusal};
 ghost use Rattle.obj_id.specs.declared.refusals.Refusal.TheVariants.{NoMemory};
-ghost use Rattle.private_store.specs.Copies.{is_primary as is_primary_lem};
+ghost use Rattle.obj_id.specs.Kinds.{is_primary as is_primary_lem};
 ghost use Rattle.pins_holds.specs.Sessions.{AreHolds};
 ghost use Rattle.pins_holds.specs.Pinned.{unheld, in_scope as in_scope_lem, is_held as is_held_lem, holds_of as holds_of_lem, has_borrower, with_holds, with_borrower, without_borrower, unpin_check as unpin_check_lem, borrow_check as borrow_check_lem, give_up_check as give_up_check_lem, hold_check as hold_check_lem, release_check as release_check_lem, IsPinned};
 
@@ -45,7 +45,7 @@ impl Pins {
     {
         Pins {
             kind,
-            pinned: is_primary(kind),
+            pinned: kind.is_primary(),
             borrowers: Borrowers::new(alloc),
             holds: Holds::new(alloc),
         }
@@ -123,7 +123,7 @@ impl Pins {
     pub fn unpin_check(&self, owner: bool) -> Option<Refusal>
         ensures { result ≡ unpin_check_lem self.now owner }
     {
-        if !(is_primary(self.kind) && owner) {
+        if !(self.kind.is_primary() && owner) {
             return Some(Refusal::NotOwner);
         }
         if !self.pinned {
@@ -153,7 +153,7 @@ impl Pins {
     pub fn borrow_check(&self, task: TaskNo) -> Option<Refusal>
         ensures { result ≡ borrow_check_lem self.now task }
     {
-        if !is_primary(self.kind) {
+        if !self.kind.is_primary() {
             return Some(Refusal::NotOwner);
         }
         if self.borrowers.has(task) {
@@ -185,7 +185,7 @@ impl Pins {
     pub fn give_up_check(&self, task: TaskNo) -> Option<Refusal>
         ensures { result ≡ give_up_check_lem self.now task }
     {
-        if !is_primary(self.kind) {
+        if !self.kind.is_primary() {
             return Some(Refusal::NotOwner);
         }
         if !self.borrowers.has(task) {
@@ -262,11 +262,4 @@ impl Pins {
     {
         self.holds.clear(session);
     }
-}
-
-/// Whether it is a primary.
-fn is_primary(kind: Kind) -> bool
-    ensures { result ≡ is_primary_lem kind }
-{
-    matches!(kind, Kind::Primary)
 }

@@ -17,7 +17,8 @@ use Rattle.private_store.specs.Tables.{ById, at, with_entry, without_entry, is_a
 use Rattle.private_store.specs.Limits.{has_numbers}
 use Rattle.private_store.specs.Extents.{rounded, is_free, is_apart}
 use Rattle.private_store.specs.Shape.{Copy, Shape, WorkInFlight, Seen}
-use Rattle.private_store.specs.Copies.{is_primary, extent_of, device_used}
+use Rattle.obj_id.specs.Kinds.{is_primary}
+use Rattle.private_store.specs.Copies.{extent_of, device_used}
 use Rattle.private_store.specs.Room.{Room, fits, wait, full, busy, evict, spill, set_copy, drop_copy, evicted, asked, no_room, room_by, spill_room, spill_plan, evict_room, make_room, victims, spilled, offset_without, bytes_of_copies, works_left}
 use Rattle.private_store.specs.Kept.{is_placed, are_apart}
 use Rattle.private_store.proofs.Tests.{true_false, some_value, none_some, both_left, both_right, both, neither}

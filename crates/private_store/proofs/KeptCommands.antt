@@ -10,7 +10,8 @@ use Rattle.obj_id.specs.declared.commands.CopyState.TheVariants.{Sealed}
 use Rattle.private_store.specs.Limits.{most_borrowers}
 use Rattle.private_store.specs.Tables.{at, ids_of, with_entry}
 use Rattle.private_store.specs.Shape.{Shape, Change}
-use Rattle.private_store.specs.Copies.{is_primary, is_created}
+use Rattle.obj_id.specs.Kinds.{is_primary}
+use Rattle.private_store.specs.Copies.{is_created}
 use Rattle.private_store.specs.Room.{set_copy}
 use Rattle.private_store.specs.Change.{done, sending, has_ended, settled}
 use Rattle.private_store.specs.Commands.{write, seal, read, release, unpin, borrow, give_up, delete, peek, leave, leave_one, holds_of, with_holds, without_borrower, has_borrower, at_each}

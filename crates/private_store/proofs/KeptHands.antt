@@ -10,7 +10,8 @@ use Rattle.obj_id.specs.Ids.{same_id}
 use Rattle.private_store.specs.Limits.{most_hands, greatest_depth}
 use Rattle.private_store.specs.Tables.{at}
 use Rattle.private_store.specs.Shape.{Copy, Shape, HandGiven}
-use Rattle.private_store.specs.Copies.{is_primary, is_sealed, is_idle}
+use Rattle.obj_id.specs.Kinds.{is_primary}
+use Rattle.private_store.specs.Copies.{is_sealed, is_idle}
 use Rattle.private_store.specs.Room.{drop_copy}
 use Rattle.private_store.specs.Change.{settled}
 use Rattle.private_store.specs.Commands.{grant, grant_own, grant_foreign, is_sealed_primary, has_given, withdraw}

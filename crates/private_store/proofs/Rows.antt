@@ -9,7 +9,8 @@ use Rattle.obj_id.specs.Ids.{id_cmp, same_id}
 use Rattle.obj_id.specs.declared.commands.CopyState.TheVariants.{Away}
 use Rattle.private_store.specs.Tables.{ById, at, with_entry, without_entry}
 use Rattle.private_store.specs.Shape.{Copy, Shape, WorkInFlight, Seen}
-use Rattle.private_store.specs.Copies.{is_sealed, is_primary, is_idle}
+use Rattle.obj_id.specs.Kinds.{is_primary}
+use Rattle.private_store.specs.Copies.{is_sealed, is_idle}
 use Rattle.private_store.specs.Room.{set_copy, drop_copy, evicted}
 use Rattle.private_store.specs.Change.{settled, doomed}
 use Rattle.private_store.specs.Kept.{has_write}

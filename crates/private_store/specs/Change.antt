@@ -10,7 +10,8 @@ use Rattle.obj_id.specs.declared.commands.Reply.TheVariants as reply
 use Rattle.obj_id.specs.Ids.{same_task}
 use Rattle.private_store.specs.Tables.{ById, at}
 use Rattle.private_store.specs.Shape.{Copy, Shape, Change, Sending, remove_location, free}
-use Rattle.private_store.specs.Copies.{is_primary, was_sealed, is_idle}
+use Rattle.obj_id.specs.Kinds.{is_primary}
+use Rattle.private_store.specs.Copies.{was_sealed, is_idle}
 use Rattle.private_store.specs.Room.{Room, set_copy, drop_copy}
 
 -- the store as it is, and this answer

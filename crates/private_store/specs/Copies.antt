@@ -7,17 +7,13 @@ use Rattle.obj_id.specs.declared.works.Extent.{Extent}
 use Rattle.obj_id.specs.declared.works.Quota.{Quota}
 use Rattle.obj_id.specs.declared.ids.ObjectId.{ObjectId}
 use Rattle.obj_id.specs.declared.commands.Kind.{Kind}
-use Rattle.obj_id.specs.declared.commands.Kind.TheVariants.{Primary, Secondary}
 use Rattle.obj_id.specs.declared.commands.CopyState.{CopyState}
 use Rattle.obj_id.specs.declared.commands.CopyState.TheVariants.{Created, Sealed, Restoring, Fetching, Away}
 use Rattle.obj_id.specs.Ids.{same_id}
+use Rattle.obj_id.specs.Kinds.{is_primary}
 use Rattle.private_store.specs.Tables.{at}
 use Rattle.private_store.specs.Extents.{rounded, end_of}
 use Rattle.private_store.specs.Shape.{Copy, Shape}
-
-abbrev pub is_primary : Kind → Bool
-is_primary Primary = true
-is_primary Secondary = false
 
 abbrev pub is_created : CopyState → Bool
 is_created Created = true
@@ -58,15 +54,27 @@ is_granted store id = list_any (λ hand. same_id id hand.id) store.given
 abbrev pub is_idle : Shape → ObjectId → Copy → Bool
 is_idle store id copy = not (is_held copy) && not (is_granted store id) && not (is_working store id)
 
+-- what may be evicted, by its marks and whether it is idle
+abbrev pub may_evict : CopyState → Kind → Option ℕ → Bool → Bool
+may_evict state kind backed idle = is_sealed state && idle && (not (is_primary kind) || is_some backed)
+
+-- what may be spilled
+abbrev pub may_spill : CopyState → Kind → Option ℕ → Bool → Bool → Bool
+may_spill state kind backed doomed idle = is_sealed state && is_primary kind && is_none backed && idle && not doomed
+
+-- what the end of its work, with nothing else, would let go
+abbrev pub may_pass : (working resident held granted : Bool) → Bool
+may_pass working resident held granted = working && resident && not held && not granted
+
 abbrev pub is_evictable : Shape → ObjectId → Copy → Bool
-is_evictable store id copy = is_sealed copy.state && is_idle store id copy && (not (is_primary copy.kind) || is_some copy.backed)
+is_evictable store id copy = may_evict copy.state copy.kind copy.backed (is_idle store id copy)
 
 -- whether the end of a work, with nothing else, would let its extent go
 abbrev pub is_passing : Shape → ObjectId → Copy → Bool
-is_passing store id copy = is_working store id && is_some copy.offset && not (is_held copy) && not (is_granted store id)
+is_passing store id copy = may_pass (is_working store id) (is_some copy.offset) (is_held copy) (is_granted store id)
 
 abbrev pub is_spillable : Shape → ObjectId → Copy → Bool
-is_spillable store id copy = is_sealed copy.state && is_primary copy.kind && is_none copy.backed && is_idle store id copy && not copy.doomed
+is_spillable store id copy = may_spill copy.state copy.kind copy.backed copy.doomed (is_idle store id copy)
 
 abbrev pub in_scope : Copy → Bool
 in_scope copy = copy.pinned || elim copy.borrowers [ [] ↦ false | _ ∷ _ ↦ true ]

@@ -10,7 +10,8 @@ use Rattle.private_store.specs.Limits.{most_works, has_numbers}
 use Rattle.private_store.specs.Tables.{at, with_entry, without_entry, is_among}
 use Rattle.private_store.specs.Extents.{rounded, first}
 use Rattle.private_store.specs.Shape.{Copy, Shape, Sending, remove_location}
-use Rattle.private_store.specs.Copies.{extent_of, is_primary, is_evictable, is_passing, is_spillable, device_used}
+use Rattle.obj_id.specs.Kinds.{is_primary}
+use Rattle.private_store.specs.Copies.{extent_of, is_evictable, is_passing, is_spillable, device_used}
 
 -- ---- the plan
 

@@ -16,7 +16,12 @@ pub enum Input {
     /// A message of the job arrived here.
     Arrive(Arrival),
     /// Another job granted an object: its bytes, the giver, and the depth of the hand.
-    Received(ObjectId, Bytes, JobNo, u32),
+    Received {
+        id: ObjectId,
+        bytes: Bytes,
+        giver: JobNo,
+        depth: u32,
+    },
     /// A hand to this job ended: the object, the giver and the depth.
     Withdrawn(ObjectId, JobNo, u32),
     /// The job ended here.
@@ -39,7 +44,12 @@ pub enum Judged {
     Pull(ObjectId, u64, bool),
     /// Fetch number, and the node that has no such copy.
     NotHere(ObjectId, u64, u32),
-    Received(ObjectId, u32, JobNo, u32),
+    Received {
+        id: ObjectId,
+        length: u32,
+        giver: JobNo,
+        depth: u32,
+    },
     Withdrawn(ObjectId, JobNo, u32),
     End,
 }

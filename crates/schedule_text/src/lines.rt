@@ -99,7 +99,13 @@ fn step_of(
             outcome,
         })),
         Verb::Deliver => Ok(deliver(fields, nodes).map(|((way, message), damaged)| {
-            Line::Step(Step::Deliver(message.0, way.0, way.1, message.1, damaged))
+            Line::Step(Step::Deliver {
+                job: message.0,
+                from: way.0,
+                to: way.1,
+                number: message.1,
+                damaged,
+            })
         })),
     }
 }

@@ -27,7 +27,7 @@ impl Prefix {
     {
         match step {
             Step::At(node, event) => prefix_at(*node, event),
-            Step::Deliver(..) => Prefix::Network,
+            Step::Deliver { .. } => Prefix::Network,
         }
     }
 

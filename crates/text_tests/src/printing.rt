@@ -272,6 +272,12 @@ fn a_step_says_who_is_answered(rt: HostRuntime) {
     );
     assert_eq!(rt; Prefix::of(&Step::At(1, Event::JobEnd(JobNo(1)))), OPERATOR);
     assert_eq!(rt; Prefix::of(&Step::At(0, Event::Take)), DEVICE);
-    let deliver = Step::Deliver(JobNo(1), Place::Directory, Place::Node(0), 1, false);
+    let deliver = Step::Deliver {
+        job: JobNo(1),
+        from: Place::Directory,
+        to: Place::Node(0),
+        number: 1,
+        damaged: false,
+    };
     assert_eq!(rt; Prefix::of(&deliver), Prefix::Network);
 }

@@ -95,21 +95,39 @@ fn deliveries_are_read(rt: HostRuntime) -> Result<(), Fail> {
     assert!(rt;
         matches!(
             &first,
-            Some(Line::Step(Step::Deliver(JobNo(1), Place::Node(0), Place::Directory, 1, false)))
+            Some(Line::Step(Step::Deliver {
+                job: JobNo(1),
+                from: Place::Node(0),
+                to: Place::Directory,
+                number: 1,
+                damaged: false,
+            }))
         )
     );
     let second = read(alloc, "deliver 1 d 1 2 damage")?;
     assert!(rt;
         matches!(
             &second,
-            Some(Line::Step(Step::Deliver(JobNo(1), Place::Directory, Place::Node(1), 2, true)))
+            Some(Line::Step(Step::Deliver {
+                job: JobNo(1),
+                from: Place::Directory,
+                to: Place::Node(1),
+                number: 2,
+                damaged: true,
+            }))
         )
     );
     let none = read(alloc, "deliver 0 d d 0")?;
     assert!(rt;
         matches!(
             &none,
-            Some(Line::Step(Step::Deliver(JobNo(0), Place::Directory, Place::Directory, 0, false)))
+            Some(Line::Step(Step::Deliver {
+                job: JobNo(0),
+                from: Place::Directory,
+                to: Place::Directory,
+                number: 0,
+                damaged: false,
+            }))
         )
     );
     Ok(())

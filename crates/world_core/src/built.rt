@@ -13,7 +13,7 @@ pub fn is_built_step(nodes: u32, step: &Step) -> bool
 {
     match step {
         Step::At(place, event) => *place < nodes && is_built(event),
-        Step::Deliver(..) => false,
+        Step::Deliver { .. } => false,
     }
 }
 

@@ -78,7 +78,7 @@ impl World {
                 Ok(reply) => StepAnswer::Told(reply),
                 Err(_) => StepAnswer::Told(Reply::Refused(Refusal::NoMemory)),
             },
-            Step::Deliver(..) => unreachable!(),
+            Step::Deliver { .. } => unreachable!(),
         }
     }
 

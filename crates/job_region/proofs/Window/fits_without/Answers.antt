@@ -19,10 +19,10 @@ returns-then-len-eq0 c =
 pub least_without-requires-clause-found : goal.least_without-requires-clause-found
 least_without-requires-clause-found c =
     let w = c.self.inside in
-    let need = c.round_up.result in
-    let some : 0 < need = omega (arith, c.round_up.ensures, c.if-len-eq0.false) in
+    let need = c.rounded.result in
+    let some : 0 < need = omega (arith, c.rounded.ensures, c.if-len-eq0.false) in
     c.search-found.ensures.offset
-    ∙ place_is w.memory.items w.quota c.args.len need w.extents.items w.holes c.round_up.ensures c.self.invariant.whole c.self.invariant.laid some c.self.invariant.free c.args.self.now c.self.view_is
+    ∙ place_is w.memory.items w.quota c.args.len need w.extents.items w.holes c.rounded.ensures c.self.invariant.whole c.self.invariant.laid some c.self.invariant.free c.args.self.now c.self.view_is
     ∙ ap (λ (hs : List Hole). option_map (λ (h : Hole). h.offset) (first_fitting need hs)) c.self.invariant.free
     ∙ hole_is_gap w.quota need some 0 w.extents.items
     ∙ ap (gap w.quota need 0) (sym c.deref.ensures.value)
@@ -30,9 +30,9 @@ least_without-requires-clause-found c =
 pub returns : goal.returns
 returns c =
     let w = c.self.inside in
-    let need = c.round_up.result in
+    let need = c.rounded.result in
     let gone = c.args.gone.now in
     c.least_without.ensures
     ∙ ap (λ (es : List Extent). gap w.quota need 0 (kept gone es)) c.deref.ensures.value
-    ∙ sym (first_is_gap w.memory.items gone w.quota c.args.len need w.extents.items c.round_up.ensures c.self.invariant.whole c.self.invariant.laid)
+    ∙ sym (first_is_gap w.memory.items gone w.quota c.args.len need w.extents.items c.rounded.ensures c.self.invariant.whole c.self.invariant.laid)
     ∙ ap (λ (r : Region). extents.first (extents_of (without gone r.placed)) r.quota c.args.len) c.self.view_is
