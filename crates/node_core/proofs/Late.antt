@@ -12,7 +12,7 @@ use Rattle.spill_work.specs.Line.{WorkLine}
 use Rattle.node_table.specs.Row.{Row, Beside, shape_of}
 use Rattle.node_table.specs.Late.{may_grow}
 use Rattle.node_table.specs.Shown.{seen, IsShown}
-use Rattle.node_table.proofs.Late.{create_late, seal_late, get_late, read_late, list_late}
+use Rattle.node_table.proofs.Late.{create_late, seal_late, get_late, read_late, list_late, leave_late}
 use Rattle.node_core.specs.Hosted.{Hosted, alone, IsRowView, IsViewBy}
 use Rattle.node_core.specs.Built.{is_built, is_built_command}
 use Rattle.node_core.specs.Late.{is_accepted, IsLate, IsUnrefused, IsEventUnrefused}
@@ -30,7 +30,7 @@ module _ (node : ℕ) (row : Row) (beside : Beside) (contents : Contents) (sessi
   row_late (command.Write id offset bytes) built u = absurd (let g = u.grows in cc)
   row_late (command.Release id) built u = absurd (let g = u.grows in cc)
   row_late command.Usage built u = absurd (let g = u.grows in cc)
-  row_late command.Leave built u = absurd (let g = u.grows in cc)
+  row_late command.Leave built u = leave_late node row beside contents session h
   row_late (command.Unpin id task) built u = absurd cc
   row_late (command.Borrow id task) built u = absurd cc
   row_late (command.GiveUp id task) built u = absurd cc

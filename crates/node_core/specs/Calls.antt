@@ -1,5 +1,6 @@
 -- What a command is to the job of its session.
-use Rattle.std.specs.Prelude.{◌≡◌, ℕ, ◌==◌, Bool, true, false, List}
+use Rattle.std.specs.Prelude.{◌≡◌, ℕ, ◌==◌, Bool, true, false, List, Option}
+use Rattle.std.specs.Option.{option_map_or}
 use Rattle.obj_id.specs.declared.commands.Command.{Command}
 use Rattle.obj_id.specs.declared.commands.Command.TheVariants as command
 use Rattle.private_store.specs.declared.inputs.Input.TheVariants as input
@@ -9,7 +10,8 @@ use Rattle.private_store.specs.Contents.{Contents}
 use Rattle.spill_work.specs.Line.{WorkLine}
 use Rattle.node_table.specs.Row.{Row}
 use Rattle.node_table.specs.Shown.{IsShown, Given, TakesStep}
-use Rattle.node_core.specs.Hosted.{alone}
+use Rattle.node_table.specs.Usages.{total, doomed_one}
+use Rattle.node_core.specs.Hosted.{Hosted, row_at, alone}
 
 -- whether the object that the command names, if it must name an own one, is the job's
 abbrev pub is_own : ℕ → Command (List ℕ) → Bool
@@ -30,15 +32,16 @@ abbrev pub Obeys : ℕ → ℕ → Row → WorkLine → ℕ → Command (List �
 Obeys node job old line session c told new after =
     (contents : Contents) → old.job ≡ job → IsShown old (alone line job) contents → TakesStep node old (alone line job) contents (input.Call session c) told new (alone after job)
 
--- a command that takes no memory, and so is never refused for want of it
-abbrev pub takes_no_memory : Command (List ℕ) → Bool
-takes_no_memory (command.Write id offset bytes) = true
-takes_no_memory (command.Release id) = true
-takes_no_memory command.Usage = true
-takes_no_memory command.Leave = true
-takes_no_memory _ = false
+-- a command that takes no memory of a job with this row, or none, and so is never refused for it: Leave takes some
+-- where a copy is doomed
+abbrev pub takes_no_memory : Option Row → Command (List ℕ) → Bool
+takes_no_memory row (command.Write id offset bytes) = true
+takes_no_memory row (command.Release id) = true
+takes_no_memory row command.Usage = true
+takes_no_memory row command.Leave = option_map_or (λ r. total doomed_one r.copies == 0) row true
+takes_no_memory row _ = false
 
 -- an event that takes none
-abbrev pub is_frugal : Event → Bool
-is_frugal (event.Call job session c) = takes_no_memory c
-is_frugal _ = false
+abbrev pub is_frugal : Hosted → Event → Bool
+is_frugal node (event.Call job session c) = takes_no_memory (row_at node job) c
+is_frugal node _ = false

@@ -50,7 +50,7 @@ IsLate old e = (v : ℕ → View) → ShowsAll old v → may_want old v e ≡ tr
 pub record IsUnrefused (row : Row) (job session : ℕ) (c : Command (List ℕ)) : Type 0 where
   pub own : is_own job c ≡ true
   pub passed : early_check row session c ≡ None
-  pub grows : takes_no_memory c ≡ false
+  pub grows : takes_no_memory (Some row) c ≡ false
 
 -- on the row of a live job
 pub record IsCallUnrefused (node : Hosted) (job : JobNo) (session : ℕ) (c : Command (List ℕ)) : Type 0 where

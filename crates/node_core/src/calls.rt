@@ -18,7 +18,8 @@ use spill_work::Works;
 use std::alloc::Global;
 
 /// Carries out a command on the row of the session's job. `NotGranted` for another job's object. The error
-/// is want of memory, and then nothing has changed; Write, Release, Usage and Leave take none. Works that it asks for
+/// is out of memory, and then nothing has changed; Write, Release and Usage take none, and Leave takes some only where a
+/// copy is doomed. Works that it asks for
 /// come last in the line, and those before them stay.
 pub(crate) fn carry_out(
     alloc: Global,
@@ -36,7 +37,7 @@ pub(crate) fn carry_out(
     ensures others { (other : JobNo) → same_job job other ≡ false → IsSameFor other works.old works.new }
     ensures memory { (r : Refusal) → IsErrOf result r → r ≡ NoMemory }
     ensures late { OnErr result (IsUnrefused row.old job.0 session command.now) }
-    ensures frugal { takes_no_memory command.now ≡ true → IsOk result }
+    ensures frugal { takes_no_memory (Some row.old) command.now ≡ true → IsOk result }
     ensures err { OnErr result (row.new ≡ row.old) }
     ensures works { OnErr result (works.new ≡ works.old) }
 {
@@ -50,14 +51,11 @@ pub(crate) fn carry_out(
         Command::Seal(id) => return Ok(row.seal(alloc, node, session, id)?),
         Command::Get(id) => return row.get(alloc, node, session, id),
         Command::Release(id) => return Ok(row.release(alloc, session, id)),
+        Command::Leave => return Ok(row.leave(alloc, session)?),
         Command::Write(id, offset, bytes) => row.write(session, id, *offset, bytes),
         Command::Read(id, offset, len) => row.read(alloc, session, id, *offset, *len)?,
         Command::List => row.list(alloc, Items::new(alloc))?,
         Command::Usage => row.tell_usage(works),
-        Command::Leave => {
-            row.leave(session);
-            Reply::Ok
-        }
         Command::Unpin(..)
         | Command::Borrow(..)
         | Command::GiveUp(..)

@@ -96,7 +96,7 @@ impl Node {
         ensures late { OnErr result (IsLate self.old (node_event.Own event.now)) }
         ensures foreseen { IfOk result (λ o. IsAsForeseen self.old event.now (given_of o)) }
         ensures memory { (r : Refusal) → IsErrOf result r → r ≡ NoMemory }
-        ensures frugal { is_frugal event.now ≡ true → IsOk result }
+        ensures frugal { is_frugal self.old event.now ≡ true → IsOk result }
         ensures err { OnErr result (self.new ≡ self.old) }
     {
         let outcome = self.step_one(event)?;
@@ -110,7 +110,7 @@ impl Node {
         ensures few { IfOk result (λ o. length o.messages ≤ most_messages self.old event.now) }
         ensures late { OnErr result (IsEventUnrefused self.old event.now) }
         ensures memory { (r : Refusal) → IsErrOf result r → r ≡ NoMemory }
-        ensures frugal { is_frugal event.now ≡ true → IsOk result }
+        ensures frugal { is_frugal self.old event.now ≡ true → IsOk result }
         ensures err { OnErr result (self.new ≡ self.old) }
     {
         match event {
@@ -180,7 +180,7 @@ impl Node {
         ensures few { IfOk result (λ o. length o.messages ≤ most_by_command (row_at self.old job) command.now) }
         ensures late { OnErr result (IsCallUnrefused self.old job session command.now) }
         ensures memory { (r : Refusal) → IsErrOf result r → r ≡ NoMemory }
-        ensures frugal { takes_no_memory command.now ≡ true → IsOk result }
+        ensures frugal { takes_no_memory (row_at self.old job) command.now ≡ true → IsOk result }
         ensures err { OnErr result (self.new ≡ self.old) }
     {
         let Some(row) = self.rows.get_mut(&job) else {

@@ -18,7 +18,7 @@ use Rattle.obj_id.specs.declared.commands.Reply.TheVariants as reply
 use Rattle.private_store.specs.declared.inputs.Input.{Input}
 use Rattle.private_store.specs.declared.inputs.Input.TheVariants as input
 use Rattle.private_store.specs.Limits.{most_works, most_holds, has_numbers}
-use Rattle.private_store.specs.Tables.{at}
+use Rattle.private_store.specs.Tables.{at, ids_of}
 use Rattle.private_store.specs.Shape.{Shape, Change, Fetch, add_location}
 use Rattle.private_store.specs.Copies.{is_created, is_sealed}
 use Rattle.private_store.specs.Kept.{is_fetching, is_remembered}
@@ -43,6 +43,7 @@ use Rattle.node_table.proofs.Telling.{list_done}
 use Rattle.node_table.proofs.Getting.{get_at}
 use Rattle.node_table.proofs.Fetching.{fetch_done, again}
 use Rattle.node_table.proofs.Creating.{room_is}
+use Rattle.node_table.proofs.LeavingEach.{left_shape, leaves-each}
 
 -- ---- of what room is planned
 
@@ -139,6 +140,11 @@ module _ (node : ℕ) (row : Row) (beside : Beside) (contents : Contents) (sessi
 
   pub list_late : is_late command.List
   list_late = ap (may_grow s) (sym (list_done node row beside contents session h (map item_of row.copies) (granted_items s) refl refl).reply)
+
+  pub leave_late : is_late command.Leave
+  leave_late =
+      by_change command.Leave (done (fold (left_shape session) s (ids_of s.copies)))
+      (called row beside session command.Leave ∙ ap (erasing s) (leaves-each session (ids_of s.copies) s)) refl
 
   pub create_late : (id : ObjectId) (kind : Kind) (n : ℕ) → (id.job.0 == row.job) ≡ true → create_check row id n ≡ None → is_late (command.Create id kind n)
   create_late id kind n mine passed =

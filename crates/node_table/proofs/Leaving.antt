@@ -1,12 +1,14 @@
 -- A row takes Leave: each of its copies is changed once, by rising id.
-use Rattle.std.proofs.Common.{◌≡◌, ℕ, Bool, true, false, cond, List, [], ◌∷◌, fold, map, take, Option, Some, None, is_some, option_map, unwrap_or, refl, sym, ap, subst, ◌∙◌, T}
+use Rattle.std.proofs.Common.{◌≡◌, ℕ, Bool, true, false, cond, List, [], ◌∷◌, fold, map, take, Option, Some, None, is_some, option_map, unwrap_or, refl, sym, ap, subst, ◌∙◌, T, arith}
 use Rattle.std.specs.Option.{option_map_or, option_and_then}
+use Rattle.std.specs.Prelude.{◌+◌, ◌-◌, ◌^◌, min, sum_by}
 use Rattle.std.specs.List.{list_all}
 use Rattle.std.specs.Ordering.{is_eq, is_lt, ordering_reverse}
 use Rattle.std.specs.declared.cmp.Ordering.TheVariants.{Less}
 use Rattle.std.specs.Cmp.{tied_itself}
 use Rattle.std.specs.FinMap.{is_sorted}
 use Rattle.std.specs.FinMap.Entries.{below_all, by_order}
+use Rattle.std.proofs.lemmas.List.Sums.{sum_by-cons}
 use Rattle.obj_id.specs.declared.ids.ObjectId.{ObjectId}
 use Rattle.obj_id.specs.declared.commands.Command.TheVariants as command
 use Rattle.obj_id.specs.declared.commands.Reply.TheVariants as reply
@@ -35,6 +37,7 @@ use Rattle.node_table.specs.Entries.{changed, all_changed}
 use Rattle.node_table.specs.Kept.{Kept, left}
 use Rattle.node_table.specs.Row.{Row, Beside, copies_of, shape_of, place_of, ArePlaced}
 use Rattle.node_table.specs.Shown.{seen, IsPlain, IsShown, only, TakesStep}
+use Rattle.node_table.specs.Usages.{total, doomed_one}
 use Rattle.node_table.proofs.ByChecks.{called}
 use Rattle.node_table.proofs.CopyTables.{at-copies}
 use Rattle.node_table.proofs.Places.{same_places}
@@ -114,15 +117,29 @@ copies-left : (session : ℕ) (es : ById Kept) → copies_of (all_changed (left 
 copies-left session [] = refl
 copies-left session (e ∷ es) = ap (λ t. (e.0, unheld session e.1.copy) ∷ t) (copies-left session es)
 
-from_copies : (es : ById Kept) (q : ObjectId) (copy : Copy) → at (copies_of es) q ≡ Some copy → (k : Kept) × (at es q ≡ Some k) × (k.copy ≡ copy)
-from_copies es q copy e = by (at es q) (sym (at-copies es q) ∙ e)
-  where
-    by : (o : Option Kept) → option_map (λ k. k.copy) o ≡ Some copy → (k : Kept) × (o ≡ Some k) × (k.copy ≡ copy)
-    by (Some k) e = (k, refl, some_value k.copy copy e)
-    by None e = none_some copy e
-
-abbrev NoneDoomed : ById Copy → Type 0
+abbrev pub NoneDoomed : ById Copy → Type 0
 NoneDoomed es = (q : ObjectId) (copy : Copy) → at es q ≡ Some copy → copy.doomed ≡ false
+
+unmarked : (b : Bool) → ◌≡◌ {A = ℕ} (cond b 1 0) 0 → b ≡ false
+unmarked true e = absurd (omega (arith, e))
+unmarked false e = refl
+
+none_counted : (es : ById Kept) → sum_by (λ e. doomed_one e.1) es ≡ 0 → NoneDoomed (copies_of es)
+none_counted [] none q copy found = none_some copy found
+none_counted (e ∷ es) none q copy found =
+    let all = sum_by-cons (λ (e : ObjectId × Kept). doomed_one e.1) e es in
+    by (same_id q e.0) found (unmarked e.1.copy.doomed (omega (arith, all, none))) (none_counted es (omega (arith, all, none)) q copy)
+  where
+    by : (b : Bool) → cond b (Some e.1.copy) (at (copies_of es) q) ≡ Some copy → e.1.copy.doomed ≡ false → (at (copies_of es) q ≡ Some copy → copy.doomed ≡ false) → copy.doomed ≡ false
+    by true found here rest = ap (λ y. y.doomed) (sym (some_value e.1.copy copy found)) ∙ here
+    by false found here rest = rest found
+
+none_of : (n : ℕ) → min n (2 ^ 64 - 1) ≡ 0 → n ≡ 0
+none_of n e = grind (arith, e)
+
+-- where none is counted, none is doomed
+pub none_doomed : (es : ById Kept) → total doomed_one es ≡ 0 → NoneDoomed (copies_of es)
+none_doomed es none = none_counted es (none_of (sum_by (λ e. doomed_one e.1) es) none)
 
 sound-still : (session : ℕ) (es : ById Copy) (id : ObjectId) → NoneDoomed es → NoneDoomed (changed (unheld session) es id)
 sound-still session es id h = by (at es id) refl
@@ -152,7 +169,7 @@ leaves-each session (id ∷ ids) store h =
 
 -- ---- the step
 
-module _ (node : ℕ) (row : Row) (beside : Beside) (contents : Contents) (session : ℕ) (h : IsShown row beside contents) where
+module _ (node : ℕ) (row : Row) (beside : Beside) (contents : Contents) (session : ℕ) (h : IsShown row beside contents) (sound : NoneDoomed (copies_of row.copies)) where
   abbrev s : Shape
   s = shape_of row beside
 
@@ -168,11 +185,6 @@ module _ (node : ℕ) (row : Row) (beside : Beside) (contents : Contents) (sessi
 
   one : (q : ObjectId) (y : Kept) → at row_left.copies q ≡ Some y → (z : Kept) × (at row.copies q ≡ Some z) × (y ≡ left session z)
   one = from_all (left session) row.copies
-
-  sound : NoneDoomed s.copies
-  sound q copy found =
-      let k = from_copies row.copies q copy found in
-      ap (λ y. y.doomed) (sym k.2) ∙ (h.plain q k.0 k.1).doomed
 
   leave-is : leave s session ≡ done (shape_of row_left beside)
   leave-is =

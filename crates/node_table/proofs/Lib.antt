@@ -15,6 +15,7 @@ pub mod Holding
 pub mod Fetching
 pub mod Releasing
 pub mod Leaving
+pub mod LeavingEach
 pub mod Telling
 pub mod Totals
 pub mod Described

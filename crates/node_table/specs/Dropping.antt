@@ -1,5 +1,5 @@
 -- A row without one of its copies, and a copy that nothing keeps any more.
-use Rattle.std.specs.Prelude.{ℕ, Bool, ◌&&◌, if◌then◌else◌, List, [], option_to_list}
+use Rattle.std.specs.Prelude.{ℕ, Bool, ◌&&◌, if◌then◌else◌, List, [], ◌∷◌, ◌++◌, option_to_list}
 use Rattle.std.specs.Option.{option_map, option_map_or}
 use Rattle.obj_id.specs.declared.ids.ObjectId.{ObjectId}
 use Rattle.obj_id.specs.declared.works.DeviceKey.{DeviceKey}
@@ -7,7 +7,8 @@ use Rattle.private_store.specs.Tables.{at, without_entry}
 use Rattle.private_store.specs.Private.{key_of}
 use Rattle.job_region.specs.Region.{without}
 use Rattle.lru_evictor.specs.Orders.{without_id}
-use Rattle.node_table.specs.Kept.{Kept}
+use Rattle.node_table.specs.Entries.{changed}
+use Rattle.node_table.specs.Kept.{Kept, left}
 use Rattle.node_table.specs.RoomPlans.{is_idle}
 use Rattle.node_table.specs.Row.{Row, place_of}
 
@@ -32,3 +33,18 @@ settled_row row id = option_map_or (λ kept. if is_over kept then dropped row id
 abbrev pub keys_settled : Row → ObjectId → List DeviceKey
 keys_settled row id =
     option_map_or (λ kept. if is_over kept then option_to_list (option_map (key_of row.job) kept.copy.backed) else []) (at row.copies id) []
+
+-- ---- the session's holds
+
+-- the row without the session's holds on one copy
+abbrev pub unheld_row : ℕ → Row → ObjectId → Row
+unheld_row session row id = record row { copies = changed (left session) row.copies id }
+
+-- and without the copy, if nothing else keeps it
+abbrev pub left_row : ℕ → Row → ObjectId → Row
+left_row session row id = settled_row (unheld_row session row id) id
+
+-- the keys that are to be erased when this is done at each of these
+abbrev pub keys_left : ℕ → Row → List ObjectId → List DeviceKey
+keys_left session row [] = []
+keys_left session row (id ∷ ids) = keys_settled (unheld_row session row id) id ++ keys_left session (left_row session row id) ids

@@ -27,7 +27,11 @@ window_bytes kept = option_map_or (λ e. e.length) (extent_of kept.copy) 0
 abbrev pub device_bytes : Kept → ℕ
 device_bytes kept = if is_some kept.copy.backed || is_spilling kept then rounded kept.copy.length else 0
 
--- the bytes of all copies, as far as 64 bits have room for their number
+-- 1 for a doomed copy
+abbrev pub doomed_one : Kept → ℕ
+doomed_one kept = if kept.copy.doomed then 1 else 0
+
+-- the sum over all copies, as far as 64 bits have room for their number
 abbrev pub total : (Kept → ℕ) → ById Kept → ℕ
 total bytes table = min (sum_by (λ e. bytes e.1) table) (2 ^ 64 - 1)
 

@@ -8,7 +8,7 @@ ghost use Rattle.obj_id.specs.declared.refusals.Refusal.{Refusal};
 ghost use Rattle.node_table.specs.Checks.{release_check};
 ghost use Rattle.node_table.specs.Holding.{IsHeldAt, IsUnreadyAt, IsHoldRefusedAt};
 ghost use Rattle.std.specs.Prelude.{◌≡◌, [], true, Some, None, OnOk, OnErr, IsOk, IsErrOf, IfOk, IfErr, IfSome, IfNone, map, length, is_some};
-ghost use Rattle.node_table.specs.Usages.{item_of, total, window_bytes as window_bytes_lem, device_bytes as device_bytes_lem};
+ghost use Rattle.node_table.specs.Usages.{item_of, total, window_bytes as window_bytes_lem, device_bytes as device_bytes_lem, doomed_one};
 
 use crate::copy::RowCopy;
 use indexmap::IndexMap;
@@ -91,6 +91,17 @@ impl Copies {
         bytes
     }
 
+    /// How many of them are doomed. Takes a walk over them.
+    pub fn doomed_count(&self) -> u64
+        ensures { result ≡ total doomed_one self.now }
+    {
+        let mut count: u64 = 0;
+        for (_, copy) in &self.by_id {
+            count = count.saturating_add(copy.doomed_one());
+        }
+        count
+    }
+
     /// The copy under its id, in place of what was there. Where the map is full, it moves to a larger one. A
     /// failure changes nothing.
     pub fn insert(&mut self, id: ObjectId, copy: RowCopy) -> Result<(), AllocError>
@@ -142,6 +153,16 @@ impl Copies {
             return Err(Refusal::Absent);
         };
         copy.release(session)
+    }
+
+    /// No hold of the session on the copy. Takes no memory.
+    pub fn leave(&mut self, id: &ObjectId, session: u32)
+        ensures { self.new ≡ changed (left session) self.old id.now }
+    {
+        let Some(copy) = self.by_id.get_mut(id) else {
+            return;
+        };
+        copy.leave(session);
     }
 
     /// No hold of the session on any copy. Takes a walk over them, and no memory.

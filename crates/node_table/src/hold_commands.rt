@@ -1,17 +1,18 @@
 //! The commands that give holds up: Release and Leave.
-ghost use Rattle.std.specs.Prelude.{◌≡◌, ◌==◌, ℕ, [], true};
+ghost use Rattle.std.specs.Prelude.{◌≡◌, ◌==◌, ℕ, [], true, map, fold, IfOk, IsOk, OnOk, OnErr, ◌++◌, ◌+◌, ◌<◌, ◌≤◌, option_to_list, vec_len, vec_capacity};
 ghost use Rattle.obj_id.specs.declared.commands.Command.TheVariants as command;
-ghost use Rattle.obj_id.specs.declared.commands.Reply.TheVariants as reply;
 ghost use Rattle.private_store.specs.declared.inputs.Input.TheVariants as input;
 ghost use Rattle.private_store.specs.Contents.{Contents};
 ghost use Rattle.node_table.specs.Row.{Beside};
+ghost use Rattle.node_table.specs.Dropping.{left_row, keys_left};
 ghost use Rattle.node_table.specs.Outcomes.{given_of};
-ghost use Rattle.node_table.specs.Shown.{IsShown, TakesStep, only};
+ghost use Rattle.node_table.specs.Usages.{total, doomed_one};
+ghost use Rattle.node_table.specs.Shown.{IsShown, TakesStep};
 
-use crate::outcome::Outcome;
+use crate::outcome::{Erase, Outcome};
 use crate::row::JobRow;
-use obj_id::{Items, ObjectId, Reply};
-use std::alloc::Global;
+use obj_id::{DeviceKey, Items, ObjectId, OwnItem, Reply};
+use std::alloc::{AllocError, Global};
 
 impl JobRow {
     /// Release: one hold of the session on the copy less, which is removed if it is doomed and nothing else keeps it.
@@ -25,17 +26,59 @@ impl JobRow {
             Ok(()) => Outcome {
                 reply: Reply::Ok,
                 messages: Items::new(alloc),
-                erase: self.settle(id),
+                erase: Erase::of(self.settle(id)),
             },
             Err(refusal) => Outcome::only(alloc, Reply::Refused(refusal)),
         }
     }
 
-    /// Leave: no hold of the session on any copy. Takes a walk over the job's copies, and no memory.
-    pub fn leave(&mut self, session: u32)
-        ensures { (node : ℕ) (beside : Beside) (contents : Contents) → IsShown self.old beside contents
-            → TakesStep node self.old beside contents (input.Call session command.Leave) (only reply.Ok) self.new beside }
+    /// Leave: no hold of the session on any copy, and a doomed one that nothing else keeps is removed. Takes two walks
+    /// over the job's copies. The error is out of memory, which only a job with a doomed copy takes, and then nothing has
+    /// changed.
+    pub fn leave(&mut self, alloc: Global, session: u32) -> Result<Outcome, AllocError>
+        ensures ok { IfOk result (λ o. (node : ℕ) (beside : Beside) (contents : Contents) → IsShown self.old beside contents
+            → TakesStep node self.old beside contents (input.Call session command.Leave) (given_of o) self.new beside) }
+        ensures silent { IfOk result (λ o. o.messages ≡ []) }
+        ensures frugal { total doomed_one self.old.copies ≡ 0 → IsOk result }
+        ensures err { OnErr result (self.new ≡ self.old) }
     {
-        self.leave_copies(session);
+        if self.copies().doomed_count() == 0 {
+            self.leave_copies(session);
+            return Ok(Outcome::only(alloc, Reply::Ok));
+        }
+        let items = self.copies().items(alloc)?;
+        let keys = self.leave_each(alloc, session, items.as_slice())?;
+        Ok(Outcome {
+            reply: Reply::Ok,
+            messages: Items::new(alloc),
+            erase: Erase::Many(keys),
+        })
+    }
+
+    /// No hold of the session on any of these copies, one after another, and those that are over are removed. Answers
+    /// the device keys that are to be erased. The error is out of memory, and then nothing has changed.
+    fn leave_each(&mut self, alloc: Global, session: u32, items: &[OwnItem]) -> Result<Items<DeviceKey>, AllocError>
+        ensures keys { IfOk result (λ keys. keys ≡ keys_left session self.old (map (λ item. item.id) items.now)) }
+        ensures row { OnOk result (self.new ≡ fold (left_row session) self.old (map (λ item. item.id) items.now)) }
+        ensures err { OnErr result (self.new ≡ self.old) }
+    {
+        let mut keys = Vec::with_capacity(alloc, items.len())?;
+        for item in items {
+            self.leave_copy(&item.id, session);
+            push_key(&mut keys, self.settle(&item.id));
+        }
+        Ok(Items::from_vec(keys))
+    }
+}
+
+/// The key comes last, if there is one. There is room for it.
+fn push_key(keys: &mut Vec<DeviceKey>, key: Option<DeviceKey>)
+    requires { vec_len keys.old < vec_capacity keys.old }
+    ensures items { keys.new.items ≡ keys.old.items ++ option_to_list key }
+    ensures len { vec_len keys.new ≤ vec_len keys.old + 1 }
+    ensures capacity { vec_capacity keys.old ≤ vec_capacity keys.new }
+{
+    if let Some(key) = key {
+        keys.push(key).unwrap();
     }
 }

@@ -8,7 +8,7 @@ ghost use Rattle.private_store.specs.Contents.{Contents};
 ghost use Rattle.private_store.specs.Hands.{Hand};
 ghost use Rattle.node_table.specs.Row.{Beside, beside_of, shape_of};
 ghost use Rattle.node_table.specs.Shown.{IsShown, TakesStep, only};
-ghost use Rattle.node_table.specs.Usages.{item_of, window_bytes as window_bytes_lem, device_bytes as device_bytes_lem, used};
+ghost use Rattle.node_table.specs.Usages.{item_of, window_bytes as window_bytes_lem, device_bytes as device_bytes_lem, doomed_one as doomed_one_lem, used};
 
 use crate::copy::RowCopy;
 use crate::row::JobRow;
@@ -38,6 +38,13 @@ impl RowCopy {
             Some(extent) => extent.length,
             None => 0,
         }
+    }
+
+    /// 1 if it is doomed, and otherwise 0.
+    pub fn doomed_one(&self) -> u64
+        ensures { result ≡ doomed_one_lem self.now }
+    {
+        u64::from(self.doomed())
     }
 
     /// The device bytes that count for it: none unless it is backed or is being written.

@@ -1,6 +1,7 @@
 //! What a step of a row gives.
-ghost use Rattle.std.specs.Prelude.{◌≡◌, ◌∷◌, [], IfOk};
+ghost use Rattle.std.specs.Prelude.{◌≡◌, ◌∷◌, [], IfOk, option_to_list};
 ghost use Rattle.node_table.specs.Shown.{only as only_lem};
+ghost use Rattle.node_table.specs.Erased.{keys_of};
 ghost use Rattle.node_table.specs.Outcomes.{given_of};
 
 use bytes::Bytes;
@@ -22,6 +23,18 @@ pub enum Erase {
     NoKey,
     One(DeviceKey),
     Many(Items<DeviceKey>),
+}
+
+impl Erase {
+    /// This key, or none.
+    pub fn of(key: Option<DeviceKey>) -> Erase
+        ensures { keys_of result ≡ option_to_list key }
+    {
+        match key {
+            None => Erase::NoKey,
+            Some(key) => Erase::One(key),
+        }
+    }
 }
 
 impl Outcome {

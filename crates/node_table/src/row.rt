@@ -1,5 +1,5 @@
 //! The row of one job.
-ghost use Rattle.std.specs.Prelude.{◌≡◌, ◌||◌, ℕ, ◌+◌, ◌≤◌, nat_eq, take, drop, length, true, false, Some, None, IfOk, IfErr, IfSome, IfNone, OnOk, OnErr, IsOk, IsErrOf};
+ghost use Rattle.std.specs.Prelude.{◌≡◌, ◌||◌, ℕ, ◌+◌, ◌≤◌, nat_eq, take, drop, length, true, false, Some, None, IfOk, IfErr, IfSome, IfNone, OnOk, OnErr, IsOk, IsErrOf, option_to_list};
 ghost use Rattle.std.specs.Map.{set_value};
 ghost use Rattle.obj_id.specs.declared.works.Extent.{Extent};
 ghost use Rattle.obj_id.specs.declared.refusals.Refusal.{Refusal};
@@ -17,14 +17,12 @@ ghost use Rattle.node_table.specs.Entries.{changed, all_changed, each_changed};
 ghost use Rattle.node_table.specs.Kept.{Kept, sealed, held, released, left, spilling_if, fetched_kept};
 ghost use Rattle.node_table.specs.Checks.{release_check};
 ghost use Rattle.node_table.specs.Row.{Row, new_row, place_of, ArePlaced};
-ghost use Rattle.node_table.specs.Dropping.{dropped, settled_row, keys_settled};
-ghost use Rattle.node_table.specs.Erased.{keys_of};
+ghost use Rattle.node_table.specs.Dropping.{dropped, settled_row, keys_settled, unheld_row};
 ghost use Rattle.node_table.specs.Holding.{IsUnreadyAt, IsHoldRefusedAt, IsRowHeld};
 ghost use Rattle.node_table.specs.Creating.{placed_without, IsReplaced};
 
 use crate::copies::Copies;
 use crate::copy::RowCopy;
-use crate::outcome::Erase;
 use indexmap::IndexSet;
 use job_region::Window;
 use lru_evictor::{UseOrder, extents_by_offset};
@@ -314,26 +312,28 @@ impl JobRow {
 
     /// The copy is removed if it is doomed and nothing keeps it any more. Answers the device key that is then to be
     /// erased, if it has one. Takes no memory.
-    pub(crate) fn settle(&mut self, id: &ObjectId) -> Erase
+    pub(crate) fn settle(&mut self, id: &ObjectId) -> Option<DeviceKey>
         ensures row { self.new ≡ settled_row self.old id.now }
-        ensures keys { keys_of result ≡ keys_settled self.old id.now }
+        ensures keys { option_to_list result ≡ keys_settled self.old id.now }
         ensures placed { ArePlaced self.old.window.placed (place_of self.old.copies) }
     {
-        let Some(copy) = self.copies.get(id) else {
-            return Erase::NoKey;
-        };
+        let copy = self.copies.get(id)?;
         if !copy.is_over() {
-            return Erase::NoKey;
+            return None;
         }
         let backed = copy.backed();
         self.drop_copy(id);
-        let Some(number) = backed else {
-            return Erase::NoKey;
-        };
-        Erase::One(DeviceKey {
+        Some(DeviceKey {
             job: self.job,
-            number,
+            number: backed?,
         })
+    }
+
+    /// No hold of the session on the copy. Takes no memory.
+    pub(crate) fn leave_copy(&mut self, id: &ObjectId, session: u32)
+        ensures { self.new ≡ unheld_row session self.old id.now }
+    {
+        self.copies.leave(id, session);
     }
 
     /// No hold of the session on any copy. Takes no memory.

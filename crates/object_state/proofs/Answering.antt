@@ -68,12 +68,12 @@ marks_are_answered store number verdict w copy after digest found e now =
 
 module _ (store : Shape) (id : ObjectId) (copy : Copy) (digest : Option Digest) where
   pub evictable_same : (working : Option WorkKind) → is_some working ≡ is_working store id → is_evictable (marks_of copy digest working) (is_held copy) (is_granted store id) ≡ copies.is_evictable store id copy
-  evictable_same None e = ap (λ b. copies.is_sealed copy.state && (not (is_held copy) && not (is_granted store id) && not b) && (not (copies.is_primary copy.kind) || is_some copy.backed)) e
-  evictable_same (Some kind) e = ap (λ b. copies.is_sealed copy.state && (not (is_held copy) && not (is_granted store id) && not b) && (not (copies.is_primary copy.kind) || is_some copy.backed)) e
+  evictable_same None e = ap (λ b. copies.may_evict copy.state copy.kind copy.backed (not (is_held copy) && not (is_granted store id) && not b)) e
+  evictable_same (Some kind) e = ap (λ b. copies.may_evict copy.state copy.kind copy.backed (not (is_held copy) && not (is_granted store id) && not b)) e
 
   pub passing_same : (working : Option WorkKind) → is_some working ≡ is_working store id → is_passing (marks_of copy digest working) (is_some copy.offset) (is_held copy) (is_granted store id) ≡ copies.is_passing store id copy
-  passing_same working e = ap (λ b. b && is_some copy.offset && not (is_held copy) && not (is_granted store id)) e
+  passing_same working e = ap (λ b. copies.may_pass b (is_some copy.offset) (is_held copy) (is_granted store id)) e
 
   pub spillable_same : (working : Option WorkKind) → is_some working ≡ is_working store id → is_spillable (marks_of copy digest working) (is_held copy) (is_granted store id) ≡ copies.is_spillable store id copy
-  spillable_same None e = ap (λ b. copies.is_sealed copy.state && copies.is_primary copy.kind && is_none copy.backed && (not (is_held copy) && not (is_granted store id) && not b) && not copy.doomed) e
-  spillable_same (Some kind) e = ap (λ b. copies.is_sealed copy.state && copies.is_primary copy.kind && is_none copy.backed && (not (is_held copy) && not (is_granted store id) && not b) && not copy.doomed) e
+  spillable_same None e = ap (λ b. copies.may_spill copy.state copy.kind copy.backed copy.doomed (not (is_held copy) && not (is_granted store id) && not b)) e
+  spillable_same (Some kind) e = ap (λ b. copies.may_spill copy.state copy.kind copy.backed copy.doomed (not (is_held copy) && not (is_granted store id) && not b)) e

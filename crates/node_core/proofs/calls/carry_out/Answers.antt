@@ -12,7 +12,7 @@ use Rattle.node_core.specs.Hosted.{alone}
 use Rattle.node_core.specs.Calls.{is_own}
 use Rattle.node_core.proofs.Calling.{if_ok, not_granted, told_so}
 use Rattle.node_core.proofs.calls.carry_out.Goals as goal
-use Rattle.node_core.proofs.calls.carry_out.Goals.{in-Write, in-Read+in_ok-reply-in-Read, in-List+in_ok-reply-in-List, in-Usage, in-Leave}
+use Rattle.node_core.proofs.calls.carry_out.Goals.{in-Write, in-Read+in_ok-reply-in-Read, in-List+in_ok-reply-in-List, in-Usage}
 
 pub returns-then-not-is_own-clause-ok : goal.returns-then-not-is_own-clause-ok
 returns-then-not-is_own-clause-ok c contents own h =
@@ -46,10 +46,6 @@ returns-clause-ok c contents own h =
           w.in-Usage.is c.only-2.ensures w.reply-is w.row-is
           (subst (λ n. TakesStep c.args.node c.args.row.now (alone c.args.works.now n) contents (input.Call c.args.session command.Usage) (only w.tell_usage-reply.result) c.args.row.now (alone c.args.works.now n)) own
           (w.tell_usage-reply.ensures c.args.node c.args.session [] (λ id. []) contents (subst (λ n. IsShown c.args.row.now (alone c.args.works.now n) contents) (sym own) h)))
-      | in-Leave w ↦
-          so command.Leave (given_of c.only-2.result) c.match-command.reply _ c.match-command.row w.leave.new.self
-          w.in-Leave.is c.only-2.ensures w.reply-is w.row-is
-          (w.leave.ensures c.args.node (alone c.args.works.now c.args.job.0) contents h)
     ]
 
 pub returns-in-Create-clause-ok : goal.returns-in-Create-clause-ok
@@ -83,3 +79,8 @@ returns-in-Release-clause-ok c contents own h =
     let mine = ap (λ n. c.in-Release.id.job.0 == n) own ∙ ap (is_own c.args.job.0) (sym c.in-Release.is) ∙ sym c.is_own.ensures ∙ c.if-not-is_own.false in
     subst (λ d. TakesStep c.args.node c.args.row.now (alone c.args.works.now c.args.job.0) contents (input.Call c.args.session d) (given_of c.release.result) c.release.new.self (alone c.args.works.now c.args.job.0)) (sym c.in-Release.is)
     (c.release.ensures.step c.args.node (alone c.args.works.now c.args.job.0) contents mine h)
+
+pub returns-in-Leave-clause-ok : goal.returns-in-Leave-clause-ok
+returns-in-Leave-clause-ok c contents own h =
+    subst (λ d. TakesStep c.args.node c.args.row.now (alone c.args.works.now c.args.job.0) contents (input.Call c.args.session d) (given_of c.in_ok-leave-in-Leave.field-0) c.leave.new.self (alone c.args.works.now c.args.job.0)) (sym c.in-Leave.is)
+    (c.in_ok-leave-in-Leave.ensures.ok c.args.node (alone c.args.works.now c.args.job.0) contents h)

@@ -11,7 +11,7 @@ use Rattle.node_table.proofs.row.JobRow.release.Goals as goal
 pub returns-in-Ok-clause-step : goal.returns-in-Ok-clause-step
 returns-in-Ok-clause-step c node beside contents mine h =
     let was = c.in-Ok.ensures.ok in
-    let keys = c.settle.ensures.keys ∙ ap (λ r. keys_settled r c.args.id.now) was in
+    let keys = c.of.ensures ∙ c.settle.ensures.keys ∙ ap (λ r. keys_settled r c.args.id.now) was in
     subst (λ g. TakesStep node c.args.self.now beside contents (input.Call c.args.session (command.Release c.args.id.now)) g c.settle.new.self beside) (sym (λ i. record { reply = reply.Ok; posts = c.new.ensures i; erased = keys i }))
     (subst (λ r. TakesStep node c.args.self.now beside contents (input.Call c.args.session (command.Release c.args.id.now)) (record { reply = reply.Ok; posts = []; erased = keys_settled (row_released node c.args.self.now beside contents c.args.session c.args.id.now mine h) c.args.id.now }) r beside)
     (sym (c.settle.ensures.row ∙ ap (λ r. settled_row r c.args.id.now) was))

@@ -1,0 +1,417 @@
+-- A row takes Leave copy by copy, where there are doomed ones.
+use Rattle.std.proofs.Common.{◌≡◌, ℕ, Bool, true, false, not, ◌&&◌, cond, List, [], ◌∷◌, ◌++◌, fold, filter, map, flat_map, take, Option, Some, None, is_some, is_none, option_map, unwrap_or, inl, inr, refl, sym, ap, subst, ◌∙◌, T}
+use Rattle.std.specs.Prelude.{option_to_list, filter_map}
+use Rattle.std.proofs.lemmas.List.{map-append}
+use Rattle.std.specs.List.{list_all, cons_option}
+use Rattle.std.specs.Option.{option_map_or}
+use Rattle.std.specs.FinMap.Entries.{is_sorted, below_all}
+use Rattle.obj_id.specs.declared.ids.ObjectId.{ObjectId}
+use Rattle.obj_id.specs.declared.works.DeviceKey.{DeviceKey}
+use Rattle.obj_id.specs.declared.works.Extent.{Extent}
+use Rattle.obj_id.specs.declared.commands.Command.TheVariants as command
+use Rattle.obj_id.specs.declared.commands.OwnItem.{OwnItem}
+use Rattle.obj_id.specs.declared.commands.Reply.TheVariants as reply
+use Rattle.obj_id.specs.Ids.{id_cmp, same_id}
+use Rattle.obj_id.proofs.SameIds.{same_id-itself, same_id-equal, same_id-flip}
+use Rattle.private_store.specs.declared.inputs.Input.{Input}
+use Rattle.private_store.specs.declared.inputs.Input.TheVariants as input
+use Rattle.private_store.specs.Tables.{ById, at, with_entry, without_entry, ids_of, is_among}
+use Rattle.private_store.specs.Shape.{Copy, Shape, Change}
+use Rattle.private_store.specs.Copies.{extent_of, is_held, is_granted, is_working, is_idle}
+use Rattle.private_store.specs.Room.{set_copy, drop_copy}
+use Rattle.private_store.specs.Change.{done, sending, erasing, settled, keys_gone}
+use Rattle.private_store.specs.Commands.{leave, leave_one, at_each, with_holds}
+use Rattle.private_store.specs.Contents.{Contents, judge, keeps_digest, no_digest}
+use Rattle.private_store.specs.Kept.{has_hand}
+use Rattle.private_store.specs.Private.{key_of}
+use Rattle.private_store.specs.Step.{step, reordered}
+use Rattle.private_store.proofs.Filling.{filled, below_none}
+use Rattle.private_store.proofs.RefusingLemmas.{keys_none, all_found}
+use Rattle.private_store.proofs.Rows.{at-put, at-put_here, at-drop}
+use Rattle.private_store.proofs.Tests.{T_true, true_T, and_left, and_right, none_some, some_value, true_false, false_true}
+use Rattle.job_region.specs.Region.{bytes_at as placed_bytes}
+use Rattle.lru_evictor.specs.Orders.{AreThere}
+use Rattle.lru_evictor.proofs.Reorders.{reordered-unused}
+use Rattle.node_table.specs.Entries.{changed}
+use Rattle.node_table.specs.Kept.{Kept, left}
+use Rattle.node_table.specs.Row.{Row, Beside, copies_of, shape_of, place_of, ArePlaced}
+use Rattle.node_table.specs.Dropping.{dropped, is_over, settled_row, keys_settled, unheld_row, left_row, keys_left}
+use Rattle.node_table.specs.Shown.{seen, work_on, IsPlain, IsShown, Given, only, TakesStep}
+use Rattle.node_table.specs.Usages.{item_of}
+use Rattle.node_table.proofs.ByChecks.{called}
+use Rattle.node_table.proofs.Changes.{changed-found, changed-absent}
+use Rattle.node_table.proofs.Changing.{From, from_changed, there_with}
+use Rattle.node_table.proofs.CopyTables.{at-first, at-rest, at-copies, at-copies_found, at-copies_none, copies-changed, sorted-copies}
+use Rattle.node_table.proofs.Described.{working-on, idle_same}
+use Rattle.node_table.proofs.Dropping.{change_left, moves_left, left_placed}
+use Rattle.node_table.proofs.Places.{changed_placed}
+use Rattle.node_table.proofs.Releasing.{plain-holds}
+use Rattle.node_table.proofs.Stepping.{Moves, moved, bytes_now, digests_now, same_bytes, received_stays}
+
+-- ---- the definition, copy by copy
+
+module _ (session : ℕ) where
+  abbrev unheld : Copy → Copy
+  unheld copy = with_holds copy session 0
+
+  abbrev pub left_shape : Shape → ObjectId → Shape
+  left_shape store id = option_map_or (λ copy. settled (set_copy store id (unheld copy)) id) (at store.copies id) store
+
+  leaves-one : (store : Shape) (id : ObjectId) → sending [] (leave_one session store id) ≡ done (left_shape store id)
+  unfolding sending
+  leaves-one store id = by (at store.copies id)
+    where
+      by : (o : Option Copy) → sending [] (option_map_or (λ copy. done (settled (set_copy store id (unheld copy)) id)) o (done store)) ≡ done (option_map_or (λ copy. settled (set_copy store id (unheld copy)) id) o store)
+      by None = refl
+      by (Some copy) = refl
+
+  pub leaves-each : (ids : List ObjectId) (store : Shape) → at_each (leave_one session) ids (done store) ≡ done (fold left_shape store ids)
+  leaves-each [] store = refl
+  leaves-each (id ∷ ids) store = ap (λ c. at_each (leave_one session) ids c) (leaves-one store id) ∙ leaves-each ids (left_shape store id)
+
+-- ---- one copy
+
+-- the order of use where a copy that was there is put again
+reordered-with : (order : List ObjectId) (copies : ById Copy) (id : ObjectId) (now : Copy) → is_some (at copies id) ≡ true → reordered order (with_entry copies id now) None ≡ reordered order copies None
+reordered-with order copies id now there = ap (λ ids. ids ++ []) (same order)
+  where
+    there_too : (q : ObjectId) → is_some (at (with_entry copies id now) q) ≡ is_some (at copies q)
+    there_too q = ap is_some (at-put copies id now q) ∙ by (same_id q id) refl
+      where
+        by : (b : Bool) → same_id q id ≡ b → is_some (cond b (Some now) (at copies q)) ≡ is_some (at copies q)
+        by true s = sym (ap (λ i. is_some (at copies i)) (same_id-equal q id s) ∙ there)
+        by false s = refl
+
+    same : (ids : List ObjectId) → filter (λ q. is_some (at (with_entry copies id now) q) && true) ids ≡ filter (λ q. is_some (at copies q) && true) ids
+    same [] = refl
+    same (q ∷ ids) = λ i. cond (there_too q i && true) (q ∷ same ids i) (same ids i)
+
+module _ (node : ℕ) (row : Row) (beside : Beside) (contents : Contents) (h : IsShown row beside contents) (x : Input) (session : ℕ) where
+  -- what was done so far gave this store
+  abbrev pub so_far : Shape → Change
+  so_far s = done s
+
+  abbrev pub MovedTo : Shape → Row → Type 0
+  MovedTo s r = Moves node row beside contents h x (so_far s) (only reply.Ok) r beside
+
+  module _ (s : Shape) (r : Row) (m : MovedTo s r) (placed : ArePlaced r.window.placed (place_of r.copies)) (id : ObjectId) where
+    module _ (k : Kept) (found : at r.copies id ≡ Some k) where
+      abbrev now : Copy
+      now = (left session k).copy
+
+      abbrev s_r : Shape
+      s_r = shape_of r beside
+
+      -- what is so of a copy, whichever holds it has
+      carried : (P : Kept → Type 0) → ((z : Kept) → P z → P (left session z)) → (q : ObjectId) (y : Kept) → at (unheld_row session r id).copies q ≡ Some y → ((z : Kept) → at r.copies q ≡ Some z → P z) → P y
+      carried P still q y e was = by (from_changed (left session) r.copies id k found q y e)
+        where
+          by : (z : Kept) × (at r.copies q ≡ Some z) × From (left session) r.copies id q y z → P y
+          by (z, there, inl t) = subst P (sym t.1) (still z (was z there))
+          by (z, there, inr t) = subst P (sym t.1) (was z there)
+
+      copies_is : copies_of (unheld_row session r id).copies ≡ with_entry (copies_of r.copies) id now
+      copies_is = copies-changed (left session) r.copies id k found
+
+      m_unheld : MovedTo (set_copy s_r id now) (unheld_row session r id)
+      m_unheld = record {
+        shape = ap (λ t. record s_r { copies = t }) (sym copies_is);
+        order =
+            ap (λ t. reordered row.order t None) copies_is
+            ∙ reordered-with row.order (copies_of r.copies) id now (ap is_some (at-copies_found r.copies id k found)) ∙ m.order;
+        there = subst (λ t. AreThere t r.order) (sym copies_is) (there_with (copies_of r.copies) id now r.order m.there);
+        listed = λ q y e. carried (λ z. is_among r.order q ≡ true) (λ z p. p) q y e (λ z there. m.listed q z there);
+        bytes = λ q y e found lies.
+            carried (λ z. (e : Extent) → extent_of z.copy ≡ Some e → filled (at (bytes_now node row beside contents h x (so_far s)) q) z.copy ≡ take z.copy.length (placed_bytes e r.window.placed)) (λ z p. p) q y found
+            (λ z there e lies. m.bytes q z e there lies) e lies;
+        digests = λ q y found keeps.
+            carried (λ z. keeps_digest z.copy ≡ true → unwrap_or (at (digests_now node row beside contents h x (so_far s)) q) no_digest ≡ unwrap_or z.digest no_digest) (λ z p. p) q y found
+            (λ z there keeps. m.digests q z there keeps) keeps;
+        working = λ q y found. carried (λ z. z.working ≡ work_on beside.works q) (λ z p. p) q y found (λ z there. m.working q z there);
+        granted = λ q y found. carried (λ z. z.granted ≡ has_hand beside.given q) (λ z p. p) q y found (λ z there. m.granted q z there);
+        received = m.received;
+        plain = λ q y found. carried (λ z. IsPlain z.copy) (λ z p. plain-holds z.copy session 0 p) q y found (λ z there. m.plain q z there);
+        reply = m.reply;
+        erased = m.erased;
+      }
+
+      placed_unheld : ArePlaced r.window.placed (place_of (unheld_row session r id).copies)
+      placed_unheld = changed_placed r.window.placed r.copies placed (left session) (λ z. refl) id
+
+      over_is : is_over (left session k) ≡ now.doomed && is_idle (set_copy s_r id now) id now
+      over_is = ap (λ b. now.doomed && b) (idle_same (is_held now) k.granted (is_granted s_r id) (is_working s_r id) k.working (m.granted id k found) (ap is_some (m.working id k found) ∙ working-on beside.works id))
+
+      left_is : left_shape session s id ≡ cond (is_over (left session k)) (drop_copy (set_copy s_r id now) id) (set_copy s_r id now)
+      left_is =
+          ap (λ t. left_shape session t id) m.shape
+          ∙ ap (λ o. option_map_or (λ copy. settled (set_copy s_r id (with_holds copy session 0)) id) o s_r) (at-copies_found r.copies id k found)
+          ∙ ap (λ o. option_map_or (λ copy. cond (copy.doomed && is_idle (set_copy s_r id now) id copy) (drop_copy (set_copy s_r id now) id) (set_copy s_r id now)) o (set_copy s_r id now)) (at-put_here (copies_of r.copies) id now)
+          ∙ ap (λ b. cond b (drop_copy (set_copy s_r id now) id) (set_copy s_r id now)) (sym over_is)
+
+      found_now : at (unheld_row session r id).copies id ≡ Some (left session k)
+      found_now = ap (λ t. at t id) (changed-found (left session) id r.copies k found) ∙ at-put_here r.copies id (left session k)
+
+      row_is : left_row session r id ≡ cond (is_over (left session k)) (dropped (unheld_row session r id) id) (unheld_row session r id)
+      row_is = ap (λ o. option_map_or (λ kept. cond (is_over kept) (dropped (unheld_row session r id) id) (unheld_row session r id)) o (unheld_row session r id)) found_now
+
+      by_over : (b : Bool) → MovedTo (cond b (drop_copy (set_copy s_r id now) id) (set_copy s_r id now)) (cond b (dropped (unheld_row session r id) id) (unheld_row session r id))
+      by_over false = m_unheld
+      by_over true = moves_left node row beside contents h x (so_far (set_copy s_r id now)) (only reply.Ok) (unheld_row session r id) m_unheld refl placed_unheld id [] (only reply.Ok) refl refl
+
+      placed_over : (b : Bool) → ArePlaced (cond b (dropped (unheld_row session r id) id) (unheld_row session r id)).window.placed (place_of (cond b (dropped (unheld_row session r id) id) (unheld_row session r id)).copies)
+      placed_over false = placed_unheld
+      placed_over true = left_placed r.window.placed (unheld_row session r id).copies placed_unheld id
+
+      pub found_moves : MovedTo (left_shape session s id) (left_row session r id)
+      found_moves = subst (λ t. MovedTo t (left_row session r id)) (sym left_is) (subst (MovedTo (cond (is_over (left session k)) (drop_copy (set_copy s_r id now) id) (set_copy s_r id now))) (sym row_is) (by_over (is_over (left session k))))
+
+      pub found_placed : ArePlaced (left_row session r id).window.placed (place_of (left_row session r id).copies)
+      found_placed = subst (λ r. ArePlaced r.window.placed (place_of r.copies)) (sym row_is) (placed_over (is_over (left session k)))
+
+    module _ (none : at r.copies id ≡ None) where
+      same_row : left_row session r id ≡ r
+      same_row =
+          ap (λ t. settled_row (record r { copies = t }) id) (changed-absent (left session) id r.copies none)
+          ∙ ap (λ o. option_map_or (λ kept. cond (is_over kept) (dropped r id) r) o r) none
+
+      same_shape : left_shape session s id ≡ s
+      same_shape = ap (λ o. option_map_or (λ copy. settled (set_copy s id (with_holds copy session 0)) id) o s) (ap (λ t. at t.copies id) m.shape ∙ at-copies_none r.copies id none)
+
+      pub none_moves : MovedTo (left_shape session s id) (left_row session r id)
+      none_moves = subst (λ t. MovedTo t (left_row session r id)) (sym same_shape) (subst (MovedTo s) (sym same_row) m)
+
+      pub none_placed : ArePlaced (left_row session r id).window.placed (place_of (left_row session r id).copies)
+      none_placed = subst (λ r. ArePlaced r.window.placed (place_of r.copies)) (sym same_row) placed
+
+    pub one_moves : MovedTo (left_shape session s id) (left_row session r id)
+    one_moves = by (at r.copies id) refl
+      where
+        by : (o : Option Kept) → at r.copies id ≡ o → MovedTo (left_shape session s id) (left_row session r id)
+        by (Some k) found = found_moves k found
+        by None none = none_moves none
+
+    pub one_placed : ArePlaced (left_row session r id).window.placed (place_of (left_row session r id).copies)
+    one_placed = by (at r.copies id) refl
+      where
+        by : (o : Option Kept) → at r.copies id ≡ o → ArePlaced (left_row session r id).window.placed (place_of (left_row session r id).copies)
+        by (Some k) found = found_placed k found
+        by None none = none_placed none
+
+  -- ---- each copy
+
+  pub each_moves : (ids : List ObjectId) (s : Shape) (r : Row) → MovedTo s r → ArePlaced r.window.placed (place_of r.copies) → MovedTo (fold (left_shape session) s ids) (fold (left_row session) r ids)
+  each_moves [] s r m placed = m
+  each_moves (id ∷ ids) s r m placed = each_moves ids (left_shape session s id) (left_row session r id) (one_moves s r m placed id) (one_placed s r m placed id)
+
+-- ---- other copies
+
+module _ (session : ℕ) where
+  unheld_other : (r : Row) (id q : ObjectId) → same_id id q ≡ false → at (unheld_row session r id).copies q ≡ at r.copies q
+  unheld_other r id q other = by (at r.copies id)
+    where
+      by : (o : Option Kept) → at (option_map_or (λ k. with_entry r.copies id (left session k)) o r.copies) q ≡ at r.copies q
+      by None = refl
+      by (Some k) = at-put r.copies id (left session k) q ∙ ap (λ b. cond b (Some (left session k)) (at r.copies q)) (same_id-flip q id ∙ other)
+
+  settled_other : (r : Row) (id q : ObjectId) → same_id id q ≡ false → at (settled_row r id).copies q ≡ at r.copies q
+  settled_other r id q other = by (at r.copies id)
+    where
+      over : (b : Bool) → at (cond b (dropped r id) r).copies q ≡ at r.copies q
+      over true = at-drop r.copies id q ∙ ap (λ b. cond (not b) (at r.copies q) None) other
+      over false = refl
+
+      by : (o : Option Kept) → at (option_map_or (λ kept. cond (is_over kept) (dropped r id) r) o r).copies q ≡ at r.copies q
+      by None = refl
+      by (Some k) = over (is_over k)
+
+  left_other : (r : Row) (id q : ObjectId) → same_id id q ≡ false → at (left_row session r id).copies q ≡ at r.copies q
+  left_other r id q other = settled_other (unheld_row session r id) id q other ∙ unheld_other r id q other
+
+  settled_job : (r : Row) (id : ObjectId) → (settled_row r id).job ≡ r.job
+  settled_job r id = by (at r.copies id)
+    where
+      over : (b : Bool) → (cond b (dropped r id) r).job ≡ r.job
+      over true = refl
+      over false = refl
+
+      by : (o : Option Kept) → (option_map_or (λ kept. cond (is_over kept) (dropped r id) r) o r).job ≡ r.job
+      by None = refl
+      by (Some k) = over (is_over k)
+
+  unheld_found : (r : Row) (id : ObjectId) (k : Kept) → at r.copies id ≡ Some k → at (unheld_row session r id).copies id ≡ Some (left session k)
+  unheld_found r id k found = ap (λ t. at t id) (changed-found (left session) id r.copies k found) ∙ at-put_here r.copies id (left session k)
+
+  left_found : (r : Row) (id : ObjectId) (k : Kept) → at r.copies id ≡ Some k → is_none (at (left_row session r id).copies id) ≡ is_over (left session k)
+  left_found r id k found =
+      ap (λ o. is_none (at (option_map_or (λ kept. cond (is_over kept) (dropped (unheld_row session r id) id) (unheld_row session r id)) o (unheld_row session r id)).copies id)) (unheld_found r id k found)
+      ∙ by (is_over (left session k))
+    where
+      by : (b : Bool) → is_none (at (cond b (dropped (unheld_row session r id) id) (unheld_row session r id)).copies id) ≡ b
+      by true = ap is_none (at-drop (unheld_row session r id).copies id id ∙ ap (λ b. cond (not b) (at (unheld_row session r id).copies id) None) (same_id-itself id))
+      by false = ap is_none (unheld_found r id k found)
+
+  -- ---- all copies, by rising id
+
+  -- an entry after the first has another id
+  later_id : (e : ObjectId × Kept) (es : ById Kept) → T (below_all id_cmp e.0 es) → (q : ObjectId) (k : Kept) → at es q ≡ Some k → same_id e.0 q ≡ false
+  later_id e es below q k found = by (same_id e.0 q) refl
+    where
+      by : (b : Bool) → same_id e.0 q ≡ b → b ≡ false
+      by true s = none_some k (sym (below_none e.0 es below) ∙ ap (at es) (same_id-equal e.0 q s) ∙ found)
+      by false s = refl
+
+  -- each entry is one of the row's
+  abbrev AreOf : ById Kept → Row → Type 0
+  AreOf es r = (q : ObjectId) (k : Kept) → at es q ≡ Some k → at r.copies q ≡ Some k
+
+  rest_of : (e : ObjectId × Kept) (es : ById Kept) (r : Row) → T (is_sorted id_cmp (e ∷ es)) → AreOf (e ∷ es) r → AreOf es (left_row session r e.0)
+  rest_of e es r sorted are q k found =
+      left_other r e.0 q (later_id e es (and_left (below_all id_cmp e.0 es) _ sorted) q k found) ∙ are q k (at-rest e es sorted q k found)
+
+  fold_other : (es : ById Kept) (r : Row) (q : ObjectId) → at es q ≡ None → at (fold (left_row session) r (ids_of es)).copies q ≡ at r.copies q
+  fold_other [] r q none = refl
+  fold_other (e ∷ es) r q none = by (same_id q e.0) refl none (λ rest. fold_other es (left_row session r e.0) q rest)
+    where
+      by : (b : Bool) → same_id q e.0 ≡ b → cond b (Some e.1) (at es q) ≡ None → (at es q ≡ None → at (fold (left_row session) (left_row session r e.0) (ids_of es)).copies q ≡ at (left_row session r e.0).copies q)
+          → at (fold (left_row session) (left_row session r e.0) (ids_of es)).copies q ≡ at r.copies q
+      by true s none rest = none_some e.1 (sym none)
+      by false s none rest = rest none ∙ left_other r e.0 q (same_id-flip e.0 q ∙ s)
+
+  fold_found : (es : ById Kept) (r : Row) → T (is_sorted id_cmp es) → AreOf es r → (q : ObjectId) (k : Kept) → at es q ≡ Some k → is_none (at (fold (left_row session) r (ids_of es)).copies q) ≡ is_over (left session k)
+  fold_found [] r sorted are q k found = none_some k found
+  fold_found (e ∷ es) r sorted are q k found =
+      by (same_id q e.0) refl found (λ rest. fold_found es (left_row session r e.0) (and_right (below_all id_cmp e.0 es) _ sorted) (rest_of e es r sorted are) q k rest)
+    where
+      after : Row
+      after = fold (left_row session) (left_row session r e.0) (ids_of es)
+
+      by : (b : Bool) → same_id q e.0 ≡ b → cond b (Some e.1) (at es q) ≡ Some k → (at es q ≡ Some k → is_none (at after.copies q) ≡ is_over (left session k)) → is_none (at after.copies q) ≡ is_over (left session k)
+      by true s found rest =
+          ap (λ i. is_none (at after.copies i)) (same_id-equal q e.0 s)
+          ∙ ap is_none (fold_other es (left_row session r e.0) e.0 (below_none e.0 es (and_left (below_all id_cmp e.0 es) _ sorted)))
+          ∙ left_found r e.0 e.1 (are e.0 e.1 (at-first e es)) ∙ ap (λ z. is_over (left session z)) (some_value e.1 k found)
+      by false s found rest = rest found
+
+  -- ---- device keys
+
+  -- the number of the key that is gone with a copy
+  abbrev over_keys : Kept → List ℕ
+  over_keys k = cond (is_over (left session k)) (option_to_list k.copy.backed) []
+
+  abbrev all_over : ById Kept → List ℕ
+  all_over es = flat_map (λ e. over_keys e.1) es
+
+  keys_by_row : (es : ById Kept) (r : Row) → T (is_sorted id_cmp es) → AreOf es r → keys_left session r (ids_of es) ≡ map (key_of r.job) (all_over es)
+  keys_by_row [] r sorted are = refl
+  keys_by_row (e ∷ es) r sorted are =
+      (λ i. first i ++ (keys_by_row es (left_row session r e.0) (and_right (below_all id_cmp e.0 es) _ sorted) (rest_of e es r sorted are) ∙ ap (λ n. map (key_of n) (all_over es)) (settled_job (unheld_row session r e.0) e.0)) i)
+      ∙ sym (map-append (key_of r.job) (over_keys e.1) (all_over es))
+    where
+      one : (b : Bool) (o : Option ℕ) → cond b (option_to_list (option_map (key_of r.job) o)) [] ≡ map (key_of r.job) (cond b (option_to_list o) [])
+      one true None = refl
+      one true (Some n) = refl
+      one false o = refl
+
+      first : keys_settled (unheld_row session r e.0) e.0 ≡ map (key_of r.job) (over_keys e.1)
+      first =
+          ap (λ o. option_map_or (λ kept. cond (is_over kept) (option_to_list (option_map (key_of r.job) kept.copy.backed)) []) o []) (unheld_found r e.0 e.1 (are e.0 e.1 (at-first e es)))
+          ∙ one (is_over (left session e.1)) e.1.copy.backed
+
+  keys_by_table : (es : ById Kept) (after : ById Copy) → T (is_sorted id_cmp es) → ((q : ObjectId) (k : Kept) → at es q ≡ Some k → is_none (at after q) ≡ is_over (left session k)) → keys_gone (copies_of es) after ≡ all_over es
+  keys_by_table [] after sorted gone = refl
+  keys_by_table (e ∷ es) after sorted gone =
+      ap (λ b. cons_option (cond b e.1.copy.backed None) (keys_gone (copies_of es) after)) (gone e.0 e.1 (at-first e es))
+      ∙ ap (cons_option (cond (is_over (left session e.1)) e.1.copy.backed None)) (keys_by_table es after (and_right (below_all id_cmp e.0 es) _ sorted) (λ q k found. gone q k (at-rest e es sorted q k found)))
+      ∙ by (is_over (left session e.1)) e.1.copy.backed
+    where
+      by : (b : Bool) (o : Option ℕ) → cons_option (cond b o None) (all_over es) ≡ cond b (option_to_list o) [] ++ all_over es
+      by true None = refl
+      by true (Some n) = refl
+      by false o = refl
+
+-- ---- the step
+
+pub ids-listed : (es : ById Kept) → map (λ (item : OwnItem). item.id) (map item_of es) ≡ ids_of es
+ids-listed [] = refl
+ids-listed (e ∷ es) = ap (λ ids. e.0 ∷ ids) (ids-listed es)
+
+ids-copies : (es : ById Kept) → ids_of (copies_of es) ≡ ids_of es
+ids-copies [] = refl
+ids-copies (e ∷ es) = ap (λ ids. e.0 ∷ ids) (ids-copies es)
+
+module _ (node : ℕ) (row : Row) (beside : Beside) (contents : Contents) (session : ℕ) (h : IsShown row beside contents) (placed : ArePlaced row.window.placed (place_of row.copies)) where
+  abbrev s : Shape
+  s = shape_of row beside
+
+  abbrev x : Input
+  x = input.Call session command.Leave
+
+  abbrev pub row_after : Row
+  row_after = fold (left_row session) row (ids_of row.copies)
+
+  abbrev shape_after : Shape
+  shape_after = fold (left_shape session) s (ids_of row.copies)
+
+  abbrev pub given : Given
+  given = record { reply = reply.Ok; posts = []; erased = keys_left session row (ids_of row.copies) }
+
+  sorted : T (is_sorted id_cmp row.copies)
+  sorted = subst T (sorted-copies row.copies) (T_true _ h.kept.kept.shape.by_id)
+
+  begins : MovedTo node row beside contents h x session s row
+  begins = record {
+    shape = refl;
+    order = sym (reordered-unused row.order (copies_of row.copies) h.there);
+    there = h.there;
+    listed = h.listed;
+    bytes = same_bytes node row beside contents h x;
+    digests = h.digests;
+    working = h.working;
+    granted = h.granted;
+    received = received_stays node row beside contents h x refl;
+    plain = h.plain;
+    reply = refl;
+    erased = refl;
+  }
+
+  ends : MovedTo node row beside contents h x session shape_after row_after
+  ends = each_moves node row beside contents h x session (ids_of row.copies) s row begins placed
+
+  gone : (q : ObjectId) (k : Kept) → at row.copies q ≡ Some k → is_none (at shape_after.copies q) ≡ is_over (left session k)
+  gone q k found =
+      ap (λ t. is_none (at t.copies q)) ends.shape ∙ ap is_none (at-copies row_after.copies q) ∙ none_too (at row_after.copies q)
+      ∙ fold_found session row.copies row sorted (λ q k f. f) q k found
+    where
+      none_too : (o : Option Kept) → is_none (option_map (λ (k : Kept). k.copy) o) ≡ is_none o
+      none_too None = refl
+      none_too (Some k) = refl
+
+  abbrev c : Change
+  c = erasing s (done shape_after)
+
+  keys : given.erased ≡ map (key_of row.job) c.erased
+  keys = keys_by_row session row.copies row sorted (λ q k f. f) ∙ ap (map (key_of row.job)) (sym (keys_by_table session row.copies shape_after.copies sorted gone))
+
+  step_is : step row.order s (judge node (seen row beside contents) x) ≡ c
+  step_is =
+      called row beside session command.Leave
+      ∙ ap (erasing s) (leaves-each session (ids_of s.copies) s ∙ ap (λ ids. done (fold (left_shape session) s ids)) (ids-copies row.copies))
+
+  m : Moves node row beside contents h x c given row_after beside
+  m = record {
+    shape = ends.shape;
+    order = ends.order;
+    there = ends.there;
+    listed = ends.listed;
+    bytes = ends.bytes;
+    digests = ends.digests;
+    working = ends.working;
+    granted = ends.granted;
+    received = ends.received;
+    plain = ends.plain;
+    reply = refl;
+    erased = keys;
+  }
+
+  pub each_left : TakesStep node row beside contents x given row_after beside
+  each_left = moved node row beside contents h x c step_is given row_after beside m refl
