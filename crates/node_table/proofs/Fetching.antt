@@ -132,7 +132,7 @@ module _ (node : ℕ) (row : Row) (beside : Beside) (contents : Contents) (sessi
         (λ t lies. none_some e lies) (λ old lies. same_bytes node row beside contents h (input.Call session (command.Get id)) q y e old lies) lies;
     digests = λ q y there keeps. of_each q y there (λ z. keeps_digest z.copy ≡ true → unwrap_or (at contents.digests q) no_digest ≡ unwrap_or z.digest no_digest)
         (λ t keeps. true_false keeps) (λ old keeps. h.digests q y old keeps) keeps;
-    plain = λ q y there. of_each q y there (λ z. IsPlain z.copy) (λ t. record { state = refl; doomed = refl; backed = refl; fault = refl }) (λ old. h.plain q y old);
+    plain = λ q y there. of_each q y there (λ z. IsPlain z.copy) (λ t. record { state = refl; backed = refl; fault = refl }) (λ old. h.plain q y old);
     working = λ q y there. of_each q y there (λ z. z.working ≡ work_on beside.works q)
         (λ t. sym (ap (work_on beside.works) (same_id-equal q id t) ∙ no_work)) (λ old. h.working q y old);
     granted = λ q y there. of_each q y there (λ z. z.granted ≡ has_hand beside.given q)

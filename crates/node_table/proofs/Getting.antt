@@ -227,7 +227,7 @@ module _ (node : ℕ) (row : Row) (beside : Beside) (contents : Contents) (sessi
       here = ap (λ t. is_some (at t id)) (sym copies_is) ∙ ap is_some (at-put_here (copies_of row.copies) id now)
 
       plain_now : IsPlain now
-      plain_now = let p = h.plain id k found in record { state = p.state; doomed = p.doomed; backed = p.backed; fault = p.fault }
+      plain_now = let p = h.plain id k found in record { state = p.state; backed = p.backed; fault = p.fault }
 
       m : Moves node row beside contents h x (erasing s c) (only (reply.Got k.copy.length)) row_held beside
       m = record {

@@ -99,7 +99,7 @@ module _ (node : ℕ) (row : Row) (beside : Beside) (contents : Contents) (sessi
       copies_is = sym (copies-changed (sealed digest) row.copies id k found)
 
       plain_now : IsPlain now
-      plain_now = let p = h.plain id k found in record { state = by k.copy.state w.created p.state; doomed = p.doomed; backed = p.backed; fault = p.fault }
+      plain_now = let p = h.plain id k found in record { state = by k.copy.state w.created p.state; backed = p.backed; fault = p.fault }
         where
           by : (state : CopyState) → is_created state ≡ true → is_plain state k.copy.fetch ≡ true → is_none k.copy.fetch ≡ true
           by Created e p = p

@@ -37,11 +37,10 @@ is_plain _ fetch = false
 abbrev pub seen : Row → Beside → Contents → View
 seen row beside contents = record { shape = shape_of row beside; order = row.order; contents = contents }
 
--- a copy as the events that are built make them: written, sealed, or on its way from an unknown source;
--- and not doomed, nor on the device
+-- a copy as the events that are built make them: written, sealed, or on its way from an unknown source,
+-- and not on the device
 pub record IsPlain (copy : Copy) : Type 0 where
   pub state : is_plain copy.state copy.fetch ≡ true
-  pub doomed : copy.doomed ≡ false
   pub backed : copy.backed ≡ None
   pub fault : copy.fault ≡ None
 
