@@ -2,3 +2,4 @@ mod Alike
 mod Left
 mod Made
 mod Reach
+mod Linked
