@@ -3,3 +3,4 @@ mod Left
 mod Made
 mod Reach
 mod Linked
+mod Ranked

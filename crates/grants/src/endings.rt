@@ -1,13 +1,15 @@
 //! Which hands end, and in what order that is told.
-ghost use Rattle.std.specs.Prelude.{◌≡◌, ◌++◌, ◌∷◌, [], not, filter, IfOk, OnOk};
+ghost use Rattle.std.specs.Prelude.{◌≡◌, ◌++◌, ◌∷◌, [], true, not, filter, IfOk, OnOk};
 ghost use Rattle.std.specs.List.{list_any};
-ghost use Rattle.private_store.specs.Hands.{hangs_on, same_hand, ended_from, hand_placed, hands_sorted};
+ghost use Rattle.private_store.specs.Hands.{hangs_on, same_hand, ended_from, hands_sorted};
 ghost use Rattle.grants.specs.Table.{ends as ends_lem};
+ghost use Rattle.grants.specs.Links.{are_apart};
 
 use crate::hands::{Hand, Link, same_id, same_task};
 use indexmap::IndexSet;
 use obj_id::{JobNo, ObjectId, TaskNo};
 use std::alloc::{AllocError, Global};
+use std::collections::BTreeMap;
 use std::marker::Model;
 
 /// Which hands end of their giver's own accord.
@@ -127,28 +129,19 @@ pub(crate) fn ended(alloc: Global, hands: &Vec<Hand>, ending: &Ending) -> Result
     Ok(gone)
 }
 
-/// Puts the hand in its place among those whose ends are told.
-fn place(told: &mut Vec<Hand>, hand: Hand) -> Result<(), AllocError>
-    ensures ok { OnOk result (told.new.items ≡ hand_placed hand told.old.items) }
-{
-    let mut at = 0;
-    while at < told.len() && !hand.is_told_before(&told[at]) {
-        at += 1;
-    }
-    told.insert(at, hand)?;
-    Ok(())
-}
-
-/// The hands in the order in which their ends are told.
+/// The hands, no two of which are the same, in the order in which their ends are told.
 pub(crate) fn sorted(alloc: Global, hands: &Vec<Hand>) -> Result<Vec<Hand>, AllocError>
+    requires { are_apart hands.now.items ≡ true }
     ensures { IfOk result (λ told. told.items ≡ hands_sorted hands.now.items) }
 {
-    let mut told = Vec::new(alloc);
+    let mut ranked = BTreeMap::new(alloc);
     let mut left = hands.len();
     while left > 0 {
         left -= 1;
-        place(&mut told, hands[left])?;
+        let hand = hands[left];
+        ranked.insert(hand.rank(), hand)?;
     }
+    let told = ranked.into_values().collect(alloc)?;
     Ok(told)
 }
 
