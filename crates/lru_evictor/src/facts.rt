@@ -62,7 +62,7 @@ pub enum Plan {
 /// Where an object goes once some copies have gone.
 #[derive(Debug, Drop)]
 pub struct Vacancy {
-    /// The copies that are to be evicted, in this order: none where there is room as it is.
+    /// The copies that are to be evicted, in this order: none if there is room as it is.
     pub victims: Items<ObjectId>,
     /// Their extents, by rising offset.
     pub gone: Items<Extent>,

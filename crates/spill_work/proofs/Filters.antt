@@ -111,7 +111,7 @@ module _ {X : Type 0} where
         | false ↦ filter_changed p f h xs
       ]
 
-  -- a change of those that pass a test, where none does
+  -- a change of those that pass a test, if none does
   pub unchanged : (p : X → Bool) (f : X → X) → ((x : X) → p x ≡ false → f x ≡ x) → (xs : List X) → list_all (λ x. not (p x)) xs ≡ true → map f xs ≡ xs
   unchanged p f h [] n = refl
   unchanged p f h (x ∷ xs) n =

@@ -276,7 +276,7 @@ module _ (job : JobNo) (number : ℕ) where
           (λ k xs a. all_filter (is_timed_of k) (stays job number) xs a) (λ n xs a. all_filter (is_before n) (stays job number) xs a) rows)
           ∙ sym (filter_map (λ (t : Timed). t.work) (λ w. not (is_at job number w)) (in_turn rows))
 
-    -- where there is no row
+    -- if there is no row
     pub no_mark : row_of rows job ≡ [] → works_in rows ≡ map (marked_at job number) (works_in rows)
     no_mark none = sym (unchanged (is_at job number) (marked_at job number) (λ w miss. ap (λ b. if b then taken w else w) miss) (works_in rows)
         (all_map (λ (t : Timed). t.work) (λ w. not (is_at job number w)) (in_turn rows) ∙ none_at none))

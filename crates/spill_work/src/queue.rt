@@ -24,8 +24,7 @@ pub struct Queued {
     pub taken: bool,
 }
 
-/// A work on each of these objects comes last among those that nobody has taken, where there is room for
-/// them.
+/// A work on each of these objects comes last among those that nobody has taken, which have room for them.
 pub(crate) fn push_numbered(
     waiting: &mut VecDeque<Asked>,
     job: JobNo,

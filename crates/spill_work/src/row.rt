@@ -96,7 +96,7 @@ impl Row {
     }
 }
 
-/// The works come last, where there is room for them.
+/// The works come last among these, which have room for them.
 fn push_timed(
     works: &mut Vec<Timed>,
     job: JobNo,
