@@ -2,3 +2,5 @@ mod Alike
 mod Left
 mod Made
 mod Reach
+mod Linked
+mod Ranked

@@ -1,3 +1,4 @@
 pub mod Back
 pub mod Table
 pub mod Chains
+pub mod Links

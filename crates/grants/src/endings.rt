@@ -1,12 +1,16 @@
 //! Which hands end, and in what order that is told.
-ghost use Rattle.std.specs.Prelude.{◌≡◌, [], not, filter, IfOk, OnOk};
+ghost use Rattle.std.specs.Prelude.{◌≡◌, ◌++◌, ◌∷◌, [], true, not, filter, IfOk, OnOk};
 ghost use Rattle.std.specs.List.{list_any};
-ghost use Rattle.private_store.specs.Hands.{hangs_on, same_hand, ended_from, hand_placed, hands_sorted};
+ghost use Rattle.private_store.specs.Hands.{hangs_on, same_hand, ended_from, hands_sorted};
 ghost use Rattle.grants.specs.Table.{ends as ends_lem};
+ghost use Rattle.grants.specs.Links.{are_apart};
 
-use crate::hands::{Hand, same_id, same_task};
+use crate::hands::{Hand, Link, same_id, same_task};
+use indexmap::IndexSet;
 use obj_id::{JobNo, ObjectId, TaskNo};
 use std::alloc::{AllocError, Global};
+use std::collections::BTreeMap;
+use std::marker::Model;
 
 /// Which hands end of their giver's own accord.
 #[derive(Clone, Copy)]
@@ -39,20 +43,6 @@ impl Ending {
     }
 }
 
-/// Whether the hand hangs on one of these.
-fn hangs_on_any(hand: &Hand, gone: &Vec<Hand>) -> bool
-    ensures { result ≡ list_any (hangs_on hand.now) gone.now.items }
-{
-    gone.iter().any(|below| hand.hangs(below))
-}
-
-/// Whether the hand is one of these.
-fn is_among(hand: &Hand, gone: &Vec<Hand>) -> bool
-    ensures { result ≡ list_any (same_hand hand.now) gone.now.items }
-{
-    gone.iter().any(|other| hand.is_same(other))
-}
-
 /// Whether any hand ends by itself.
 pub(crate) fn any_ends(hands: &Vec<Hand>, ending: &Ending) -> bool
     ensures { result ≡ list_any (ends_lem ending.now) hands.now.items }
@@ -60,52 +50,104 @@ pub(crate) fn any_ends(hands: &Vec<Hand>, ending: &Ending) -> bool
     hands.iter().any(|hand| ending.ends(hand))
 }
 
+/// Hands that end, found by what others hang on: object, giver and taker.
+#[derive(Drop)]
+pub(crate) struct Gone {
+    hands: Vec<Hand>,
+    links: IndexSet<Link>,
+}
+
+impl Model for Gone {
+    ghost use Rattle.std.specs.Prelude.{List};
+    ghost use Rattle.private_store.specs.Hands.{Hand as StandingHand};
+    ghost use Rattle.grants.specs.Links.{AreLinked};
+
+    ghost Value = { List StandingHand };
+
+    ghost view = { λ g. g.hands.items };
+
+    ghost invariant = { λ g. AreLinked g.hands.items g.links.keys };
+}
+
+impl Gone {
+    /// None.
+    fn new(alloc: Global) -> Gone
+        ensures { result ≡ [] }
+    {
+        Gone {
+            hands: Vec::new(alloc),
+            links: IndexSet::new(alloc),
+        }
+    }
+
+    /// One more.
+    fn push(&mut self, hand: Hand) -> Result<(), AllocError>
+        ensures { OnOk result (self.new ≡ self.old ++ hand ∷ []) }
+    {
+        self.hands.reserve(1)?;
+        self.links.insert(hand.link())?;
+        self.hands.push(hand).unwrap();
+        Ok(())
+    }
+
+    /// Whether the hand hangs on one of these.
+    fn carries(&self, hand: &Hand) -> bool
+        ensures { result ≡ list_any (hangs_on hand.now) self.now }
+    {
+        match hand.below() {
+            Some(link) => self.links.contains(&link),
+            None => false,
+        }
+    }
+
+    /// Whether the hand is one of these.
+    fn has(&self, hand: &Hand) -> bool
+        ensures { result ≡ list_any (same_hand hand.now) self.now }
+    {
+        self.links.contains(&hand.link())
+    }
+
+    /// The hands.
+    pub(crate) fn hands(&self) -> &Vec<Hand>
+        ensures { result.now.items ≡ self.now }
+    {
+        &self.hands
+    }
+}
+
 /// The hands that end, with all that hang on them, oldest first. A hand is younger than the one that it
 /// hangs on, so one walk finds them.
-pub(crate) fn ended(
-    alloc: Global,
-    hands: &Vec<Hand>,
-    ending: &Ending,
-) -> Result<Vec<Hand>, AllocError>
-    ensures { IfOk result (λ gone. gone.items ≡ ended_from (ends_lem ending.now) [] hands.now.items) }
+pub(crate) fn ended(alloc: Global, hands: &Vec<Hand>, ending: &Ending) -> Result<Gone, AllocError>
+    ensures { IfOk result (λ gone. gone ≡ ended_from (ends_lem ending.now) [] hands.now.items) }
 {
-    let mut gone = Vec::new(alloc);
+    let mut gone = Gone::new(alloc);
     for hand in hands {
-        if ending.ends(hand) || hangs_on_any(hand, &gone) {
+        if ending.ends(hand) || gone.carries(hand) {
             gone.push(*hand)?;
         }
     }
     Ok(gone)
 }
 
-/// Puts the hand in its place among those whose ends are told.
-fn place(told: &mut Vec<Hand>, hand: Hand) -> Result<(), AllocError>
-    ensures ok { OnOk result (told.new.items ≡ hand_placed hand told.old.items) }
-{
-    let mut at = 0;
-    while at < told.len() && !hand.is_told_before(&told[at]) {
-        at += 1;
-    }
-    told.insert(at, hand)?;
-    Ok(())
-}
-
-/// The hands in the order in which their ends are told.
+/// The hands, no two of which are the same, in the order in which their ends are told.
 pub(crate) fn sorted(alloc: Global, hands: &Vec<Hand>) -> Result<Vec<Hand>, AllocError>
+    requires { are_apart hands.now.items ≡ true }
     ensures { IfOk result (λ told. told.items ≡ hands_sorted hands.now.items) }
 {
-    let mut told = Vec::new(alloc);
+    let mut ranked = BTreeMap::new(alloc);
     let mut left = hands.len();
     while left > 0 {
         left -= 1;
-        place(&mut told, hands[left])?;
+        let hand = hands[left];
+        ranked.insert(hand.rank(), hand)?;
     }
+    let told = ranked.into_values().collect(alloc)?;
     Ok(told)
 }
 
 /// Takes out those that are among the ones that have gone; the others keep their order.
-pub(crate) fn take_out(hands: &mut Vec<Hand>, gone: &Vec<Hand>)
-    ensures { hands.new.items ≡ filter (λ hand. not (list_any (same_hand hand) gone.now.items)) hands.old.items }
+pub(crate) fn take_out(hands: &mut Vec<Hand>, gone: &Gone)
+    ensures { hands.new.items ≡ filter (λ hand. not (list_any (same_hand hand) gone.now)) hands.old.items }
 {
-    hands.retain(|hand| !is_among(hand, gone));
+    hands.retain(|hand| !gone.has(hand));
 }

@@ -3,14 +3,32 @@ ghost use Rattle.std.specs.Prelude.{◌≡◌, ◌==◌, Some, None, find, filte
 ghost use Rattle.std.specs.List.{list_any};
 ghost use Rattle.std.specs.Ordering.{is_lt};
 ghost use Rattle.obj_id.specs.Ids.{id_cmp, same_id as same_id_lem, same_task as same_task_lem};
-ghost use Rattle.private_store.specs.Hands.{ground as ground_lem, same_hand as same_hand_lem, hangs_on as hangs_on_lem, hand_cmp, is_withdrawn as is_withdrawn_lem, is_given_by as is_given_by_lem};
+ghost use Rattle.private_store.specs.Hands.{ground as ground_lem, is_withdrawn as is_withdrawn_lem, is_given_by as is_given_by_lem};
 ghost use Rattle.grants.specs.Table.{shows as shows_lem, is_first as is_first_lem, given_by as given_by_lem, given_to as given_to_lem, with_seen, seen_list};
 ghost use Rattle.grants.specs.Back.{number_of};
+ghost use Rattle.grants.specs.Links.{link_of, below_of, rank_of};
 ghost use Rattle.std.specs.Option.{option_map};
 
 use obj_id::{JobNo, ObjectId, TaskNo};
 use std::alloc::{AllocError, Global};
 use std::marker::Model;
+
+/// What tells a hand from all others that stand, and what hangs on it names it by.
+#[derive(Clone, Copy, PartialEq, Eq, Hash)]
+pub(crate) struct Link {
+    pub id: ObjectId,
+    pub giver: JobNo,
+    pub taker: JobNo,
+}
+
+/// The order in which ends are told.
+#[derive(Clone, Copy, PartialEq, Eq, PartialOrd, Ord)]
+pub(crate) struct Rank {
+    depth: u32,
+    id: ObjectId,
+    giver: JobNo,
+    taker: JobNo,
+}
 
 /// A standing grant of an object by one job to another. A contract sees giver and taker by their
 /// numbers.
@@ -128,25 +146,27 @@ impl Hand {
         self.giver.0 == giver.0 && same_id(id, &self.id) && self.taker.0 == taker.0
     }
 
-    /// Whether object, giver and taker are the same.
-    pub(crate) fn is_same(&self, other: &Hand) -> bool
-        ensures { result ≡ same_hand_lem self.now other.now }
+    /// Its object, giver and taker.
+    pub(crate) fn link(&self) -> Link
+        ensures { result ≡ link_of self.now }
     {
-        same_id(&self.id, &other.id)
-            && self.giver.0 == other.giver.0
-            && self.taker.0 == other.taker.0
+        Link {
+            id: self.id,
+            giver: self.giver,
+            taker: self.taker,
+        }
     }
 
-    /// Whether it hangs on the other.
-    pub(crate) fn hangs(&self, below: &Hand) -> bool
-        ensures { result ≡ hangs_on_lem self.now below.now }
+    /// The link of the hand that it hangs on, if it hangs on one.
+    pub(crate) fn below(&self) -> Option<Link>
+        ensures { result ≡ below_of self.now }
     {
-        same_id(&self.id, &below.id)
-            && self.giver.0 == below.taker.0
-            && match self.hangs_on {
-                None => false,
-                Some(giver) => giver.0 == below.giver.0,
-            }
+        let giver = self.hangs_on?;
+        Some(Link {
+            id: self.id,
+            giver,
+            taker: self.giver,
+        })
     }
 
     /// Whether its object's id is less than that of the other's.
@@ -156,16 +176,16 @@ impl Hand {
         self.id.cmp(&other.id).is_lt()
     }
 
-    /// Whether its end is told before the other's: by depth, object, giver and taker.
-    pub(crate) fn is_told_before(&self, other: &Hand) -> bool
-        ensures { result ≡ is_lt (hand_cmp self.now other.now) }
+    /// Where its end is told among others: by depth, object, giver and taker.
+    pub(crate) fn rank(&self) -> Rank
+        ensures { result ≡ rank_of self.now }
     {
-        self.depth
-            .cmp(&other.depth)
-            .then(self.id.cmp(&other.id))
-            .then(self.giver.0.cmp(&other.giver.0))
-            .then(self.taker.0.cmp(&other.taker.0))
-            .is_lt()
+        Rank {
+            depth: self.depth,
+            id: self.id,
+            giver: self.giver,
+            taker: self.taker,
+        }
     }
 }
 

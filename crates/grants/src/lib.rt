@@ -3,7 +3,7 @@
 //! out are the definitions that the jobs' own stores are told by.
 //!
 //! At most 64 hands of one giver stand, and 64 jobs live, so the list has at most 4,096 hands. Each call
-//! scans it; a call that ends hands looks, for each hand, through those that have ended already.
+//! scans it; a call that ends hands finds those that have ended already by their links.
 #![tactic(auto)]
 
 ghost use Rattle.std.specs.Prelude.{◌≡◌, ◌≢◌, ◌↔◌, ◌<◌, ◌≤◌, ℕ, filter, length, List, [], Some, None, find, IfOk, OnOk, OnErr, IsErrOf, IsOk, MatchResult};
@@ -244,7 +244,7 @@ impl Grants {
             return Ok(Items::new(self.alloc));
         }
         let gone = endings::ended(self.alloc, &self.hands, &ending)?;
-        let told = endings::sorted(self.alloc, &gone)?;
+        let told = endings::sorted(self.alloc, gone.hands())?;
         endings::take_out(&mut self.hands, &gone);
         Ok(Items::from_vec(told))
     }

@@ -1,14 +1,15 @@
 //! The plan for room.
-ghost use Rattle.std.specs.Prelude.{◌≡◌, ◌+◌, ◌<◌, ◌≤◌, ◌++◌, List, Some, None, take, drop, length, nat_lt, IfOk, IfErr};
+ghost use Rattle.std.specs.Prelude.{◌≡◌, ◌+◌, ◌<◌, ◌≤◌, ◌++◌, List, Some, None, true, take, drop, length, nat_lt, IfOk, IfErr};
 ghost use Rattle.obj_id.specs.declared.refusals.Refusal.{Refusal};
 ghost use Rattle.private_store.specs.Shape.{Shape};
 ghost use Rattle.private_store.specs.Room.{plan as room_plan};
 ghost use Rattle.lru_evictor.specs.Orders.{order_of};
-ghost use Rattle.lru_evictor.specs.Facts.{bytes_at, device_bytes};
-ghost use Rattle.lru_evictor.specs.Plans.{shown, IsDescribed, evict_here, spill_here};
+ghost use Rattle.lru_evictor.specs.Facts.{bytes_at, device_bytes, fits_without as is_room_without};
+ghost use Rattle.lru_evictor.specs.Plans.{shown, plan_of, makes_room, IsDescribed, IsVacant, evict_here, spill_here};
+ghost use Rattle.lru_evictor.specs.declared.facts.RoomFound.TheVariants.{Place};
 
-use crate::facts::{Choice, CopyLookup, DeviceRoom, Plan};
-use crate::search::{gather, shortest};
+use crate::facts::{Choice, CopyLookup, DeviceRoom, Plan, RoomFound, Vacancy};
+use crate::search::{extents_by_offset, gather, shortest};
 use crate::use_order::UseOrder;
 use job_region::Window;
 use obj_id::limits::MOST_WORKS;
@@ -33,6 +34,7 @@ impl UseOrder {
     ) -> Result<Plan, Refusal>
         ensures plan { IfOk result (λ p. (store : Shape) → IsDescribed store window.now device (C.facts copies.now)
             → shown p ≡ room_plan (order_of job.0 self.now) store len) }
+        ensures room { IfOk result (λ p. makes_room window.now (C.facts copies.now) len (shown p) ≡ true) }
         ensures memory { (r : Refusal) → result ≡ Err r → r ≡ Refusal.NoMemory }
     {
         let mut ids = Vec::new(alloc);
@@ -70,6 +72,58 @@ impl UseOrder {
             }
         }
     }
+
+    /// The plan, and where the object goes if it can be placed at once: the extents that go for it and the
+    /// offset, so that nobody has to look for them again. `NoMemory` alone; changes nothing.
+    ///
+    /// Takes what `plan` takes, and one search of the window more.
+    pub fn find_room<C: CopyLookup>(
+        &self,
+        alloc: Global,
+        job: JobNo,
+        len: u32,
+        device: DeviceRoom,
+        window: &Window,
+        copies: &C,
+    ) -> Result<RoomFound, Refusal>
+        ensures plan { IfOk result (λ r. (store : Shape) → IsDescribed store window.now device (C.facts copies.now)
+            → plan_of r ≡ room_plan (order_of job.0 self.now) store len) }
+        ensures place { IfOk result (λ r. (v : Vacancy) → r ≡ Place v → IsVacant window.now (C.facts copies.now) len v) }
+        ensures memory { (r : Refusal) → result ≡ Err r → r ≡ Refusal.NoMemory }
+    {
+        match self.plan(alloc, job, len, device, window, copies)? {
+            Plan::Fits => place(alloc, window, copies, Items::new(alloc), len),
+            Plan::Evict(ids) => place(alloc, window, copies, ids, len),
+            Plan::Wait => Ok(RoomFound::Wait),
+            Plan::Full => Ok(RoomFound::Full),
+            Plan::Busy => Ok(RoomFound::Busy),
+            Plan::Spill(ids) => Ok(RoomFound::Spill(ids)),
+        }
+    }
+}
+
+/// The place that there is without these copies.
+fn place<C: CopyLookup>(
+    alloc: Global,
+    window: &Window,
+    copies: &C,
+    victims: Items<ObjectId>,
+    len: u32,
+) -> Result<RoomFound, Refusal>
+    requires { is_room_without window.now (C.facts copies.now) len victims ≡ true }
+    ensures plan { IfOk result (λ r. plan_of r ≡ evict_here victims) }
+    ensures place { IfOk result (λ r. (v : Vacancy) → r ≡ Place v → IsVacant window.now (C.facts copies.now) len v) }
+    ensures memory { (r : Refusal) → result ≡ Err r → r ≡ Refusal.NoMemory }
+{
+    let gone = extents_by_offset(alloc, copies, victims.as_slice())?;
+    let Some(offset) = window.fits_without(&gone, len) else {
+        unreachable!()
+    };
+    Ok(RoomFound::Place(Vacancy {
+        victims,
+        gone: Items::from_vec(gone),
+        offset,
+    }))
 }
 
 /// The plan that evicts these copies, if there are any.

@@ -1,1 +1,6 @@
+mod Counted
+mod Filters
+mod InTurn
 mod LineLemmas
+mod Marks
+mod Rows

@@ -1,57 +1,23 @@
 -- What a change of the line leaves to each job.
-use Rattle.std.proofs.Common.{◌≡◌, ℕ, ◌+◌, ◌<◌, ◌≤◌, suc, Bool, true, false, not, cond, ◌&&◌, ◌==◌, List, [], ◌∷◌, ◌++◌, map, filter, length, Option, Some, None, refl, sym, ap, subst, ◌∙◌, arith}
-use Rattle.std.specs.Prelude.{find, if◌then◌else◌, nat_lt, is_some, slice_get, unwrap_or}
-use Rattle.std.specs.Option.{option_map}
-use Rattle.std.proofs.Math.ListN.{set, get_or}
-use Rattle.std.specs.List.{position_or_len}
-use Rattle.std.proofs.lemmas.Option.{slice_get-get_or, slice_get_past}
-use Rattle.std.proofs.lemmas.Bool.{ltb-true, ltb-false}
+use Rattle.std.proofs.Common.{◌≡◌, ℕ, ◌+◌, Bool, true, false, not, cond, ◌&&◌, ◌==◌, List, [], ◌∷◌, ◌++◌, map, filter, length, Some, refl, ap, ◌∙◌, arith}
+use Rattle.std.specs.Prelude.{find, if◌then◌else◌, unwrap_or}
 use Rattle.std.proofs.lemmas.Bool.Decides.{nat_tests}
 use Rattle.obj_id.specs.declared.ids.JobNo.{JobNo}
 use Rattle.obj_id.specs.declared.ids.ObjectId.{ObjectId}
 use Rattle.obj_id.specs.declared.works.WorkKind.{WorkKind}
 use Rattle.private_store.specs.Shape.{WorkInFlight}
-use Rattle.spill_work.specs.declared.queue.Asked.{Asked}
 use Rattle.spill_work.specs.declared.queue.Queued.{Queued}
-use Rattle.spill_work.specs.Line.{WorkLine, same_job, is_of, is_at, shown, marked, used_by, is_write, numbered, numbered_works, Asks, AsksAll, Finishes, Drops}
+use Rattle.spill_work.specs.Line.{WorkLine, same_job, is_of, is_at, shown, marked, used_by, is_write, numbered, numbered_works, AsksAll, MarksTaken, Finishes, Drops}
 
 -- the job's part of the line
 abbrev pub part : List Queued → JobNo → List WorkInFlight
 part works job = map (λ work. shown work.asked) (filter (is_of job) works)
 
-pub part-append : (works : List Queued) (w : Queued) (job : JobNo) → part (works ++ w ∷ []) job ≡ part works job ++ (if is_of job w then shown w.asked ∷ [] else [])
-part-append [] w job =
-    elim (is_of job w) as (λ b. map (λ (q : Queued). shown q.asked) (cond b (w ∷ []) []) ≡ (if b then shown w.asked ∷ [] else [])) [ true ↦ refl | false ↦ refl ]
-part-append (x ∷ xs) w job =
-    let rest = part-append xs w job in
-    elim (is_of job x) as (λ b. map (λ (q : Queued). shown q.asked) (cond b (x ∷ filter (is_of job) (xs ++ w ∷ [])) (filter (is_of job) (xs ++ w ∷ [])))
-    ≡ map (λ (q : Queued). shown q.asked) (cond b (x ∷ filter (is_of job) xs) (filter (is_of job) xs)) ++ (if is_of job w then shown w.asked ∷ [] else [])) [
-      | true ↦ ap (λ r. shown x.asked ∷ r) rest
-      | false ↦ rest
-    ]
-
 itself : (n : ℕ) → (n == n) ≡ true
 itself n = grind (arith, nat_tests)
 
--- to the job that asks, the work comes last
-pub part-own : (works : List Queued) (asked : Asked) → part (works ++ record { asked = asked; taken = false } ∷ []) asked.job ≡ part works asked.job ++ shown asked ∷ []
-part-own works asked =
-    part-append works (record { asked = asked; taken = false }) asked.job
-    ∙ ap (λ b. part works asked.job ++ (if b then shown asked ∷ [] else [])) (itself asked.job.0)
-
 eqb_symmetric : (a k : ℕ) → (a == k) ≡ (k == a)
 eqb_symmetric a k = grind (arith, nat_tests)
-
-append_nothing : {X : Type 0} (xs : List X) → xs ++ [] ≡ xs
-append_nothing [] = refl
-append_nothing (x ∷ xs) = ap (λ r. x ∷ r) (append_nothing xs)
-
--- to another job it is not there
-pub part-other : (works : List Queued) (asked : Asked) (job : JobNo) → same_job asked.job job ≡ false → part (works ++ record { asked = asked; taken = false } ∷ []) job ≡ part works job
-part-other works asked job apart =
-    part-append works (record { asked = asked; taken = false }) job
-    ∙ ap (λ b. part works job ++ (if b then shown asked ∷ [] else [])) (eqb_symmetric job.0 asked.job.0 ∙ apart)
-    ∙ append_nothing (part works job)
 
 -- what a job has stays under a filter that keeps its works
 pub part-filter : (p : Queued → Bool) (job : JobNo) (works : List Queued) → ((w : Queued) → is_of job w ≡ true → p w ≡ true) → part (filter p works) job ≡ part works job
@@ -135,54 +101,10 @@ part-marked job number other (x ∷ xs) =
           ]
     ]
 
--- ---- places
-
--- what stands before the place of a work stays, and the work there is taken
-pub set-marked : (job : JobNo) (number : ℕ) (works : List Queued) (i : ℕ) (d : Queued) → position_or_len (is_at job number) works ≡ i → i < length works
-    → set works i (record (get_or works i d) { taken = true }) ≡ marked job number works
-set-marked job number [] i d at within = absurd (omega arith)
-set-marked job number (x ∷ xs) i d at within =
-    let j = position_or_len (is_at job number) xs in
-    (elim (is_at job number x) as (λ b. cond (not b) (1 + position_or_len (is_at job number) xs) 0 ≡ i
-    → set (x ∷ xs) i (record (get_or (x ∷ xs) i d) { taken = true }) ≡ (if b then record x { taken = true } ∷ xs else x ∷ marked job number xs)) [
-      | true ↦ λ e. subst (λ k. set (x ∷ xs) k (record (get_or (x ∷ xs) k d) { taken = true }) ≡ record x { taken = true } ∷ xs) e refl
-      | false ↦ λ e.
-          let next : suc j ≡ i = omega arith in
-          let inside : j < length xs = omega arith in
-          subst (λ k. set (x ∷ xs) k (record (get_or (x ∷ xs) k d) { taken = true }) ≡ x ∷ marked job number xs) next (ap (λ r. x ∷ r) (set-marked job number xs j d refl inside))
-    ]) at
-
--- where there is none, all stays
-pub marked-none : (job : JobNo) (number : ℕ) (works : List Queued) → length works ≤ position_or_len (is_at job number) works → marked job number works ≡ works
-marked-none job number [] none = refl
-marked-none job number (x ∷ xs) none =
-    (elim (is_at job number x) as (λ b. length (x ∷ xs) ≤ cond (not b) (1 + position_or_len (is_at job number) xs) 0
-    → (if b then record x { taken = true } ∷ xs else x ∷ marked job number xs) ≡ x ∷ xs) [
-      | true ↦ λ h. absurd (omega arith)
-      | false ↦ λ h. ap (λ r. x ∷ r) (marked-none job number xs (omega arith))
-    ]) none
-
-pub is_some-map : {A B : Type 0} (f : A → B) (o : Option A) → is_some (option_map f o) ≡ is_some o
-is_some-map f None = refl
-is_some-map f (Some x) = refl
-
--- what a read at a place gives, by what it says of itself
-pub read_at : (read : Option Queued) (works : List Queued) (i : ℕ) → is_some read ≡ nat_lt i (length works) → ((d : Queued) → unwrap_or read d ≡ get_or works i d)
-    → read ≡ slice_get works i
-read_at None works i there value = sym (slice_get_past works i (ltb-false i (length works) (sym there)))
-read_at (Some w) works i there value = ap Some (value w) ∙ sym (slice_get-get_or works i w (ltb-true i (length works) (sym there)))
-
 -- ---- the changes of the line
 
-pub asks : (old new : WorkLine) (asked : Asked) → asked.number ≡ used_by old asked.job + 1 → new.works ≡ old.works ++ record { asked = asked; taken = false } ∷ []
-    → used_by new asked.job ≡ asked.number → ((job : JobNo) → same_job asked.job job ≡ false → used_by new job ≡ used_by old job) → Asks old asked new
-asks old new asked number works own others = record {
-  number = number;
-  works = works;
-  own_works = ap (λ ws. part ws asked.job) works ∙ part-own old.works asked;
-  own_used = own;
-  others = λ job apart. record { works = ap (λ ws. part ws job) works ∙ part-other old.works asked job apart; used = others job apart };
-}
+pub marks_taken : (old new : WorkLine) (job : JobNo) (number : ℕ) → new ≡ record old { works = marked job number old.works } → MarksTaken old job number new
+marks_taken old new job number is = record { line = is; same = λ other. ap (λ l. part l.works other) is ∙ part-marked job number other old.works }
 
 pub finishes : (old new : WorkLine) (job : JobNo) (number : ℕ) (w : Queued) → find (is_at job number) old.works ≡ Some w → w.taken ≡ true
     → new ≡ record old { works = filter (λ v. not (is_at job number v)) old.works } → Finishes old job number w.asked new
@@ -246,19 +168,3 @@ module _ (job : JobNo) (kind : WorkKind) where
     own_used = own;
     others = λ other apart. record { works = ap (λ ws. part ws other) works ∙ part-numbered_other other apart (used_by old job) ids old.works; used = others other apart };
   }
-
-  -- no works
-  pub asks_none : (line : WorkLine) (ids : List ObjectId) → ids ≡ [] → AsksAll line job kind ids line
-  asks_none line [] none = asks_all line line [] (sym (append_nothing line.works)) (omega arith) (λ other apart. refl)
-  asks_none line (id ∷ ids) none = absurd cc
-
-pub none_of : (ids : List ObjectId) → (length ids == 0) ≡ true → ids ≡ []
-none_of [] t = refl
-none_of (id ∷ ids) t = absurd (omega (arith, is_zero (length (id ∷ ids)) t))
-  where
-    is_zero : (n : ℕ) → (n == 0) ≡ true → n ≡ 0
-    is_zero n t = grind (arith, nat_tests, t)
-
-pub some_of : (ids : List ObjectId) → (length ids == 0) ≡ false → ids ≡ [] → ⊥
-some_of [] t none = absurd cc
-some_of (id ∷ ids) t none = absurd cc

@@ -1,1 +1,3 @@
 pub mod Line
+pub mod Turns
+pub mod Numbers

@@ -97,6 +97,13 @@ pub record AsksAll (old : WorkLine) (job : JobNo) (kind : WorkKind) (ids : List 
 
 -- ---- handing out
 
+abbrev pub asked_of : Queued → Asked
+asked_of work = work.asked
+
+-- those that nobody has taken
+abbrev pub waiting : List Queued → List Asked
+waiting works = map asked_of (filter (λ work. not work.taken) works)
+
 -- the first that nobody has taken
 abbrev pub front_of : List Queued → Option Asked
 front_of works = option_map (λ work. work.asked) (find (λ work. not work.taken) works)

@@ -8,30 +8,38 @@ ghost use Rattle.obj_id.specs.declared.refusals.Refusal.{Refusal};
 ghost use Rattle.obj_id.specs.declared.refusals.Refusal.TheVariants.{NoMemory};
 ghost use Rattle.spill_work.specs.Line.{WorkLine, same_job, used_by, in_flight as in_flight_lem, room_for as room_for_lem, ask_check as ask_check_lem, Asks, AsksAll, front_of, Takes, MarksTaken, finish_check as finish_check_lem, Finishes, Drops};
 
+mod by_job;
 mod queue;
+mod row;
 
+use by_job::ByJob;
 use indexmap::IndexMap;
 use obj_id::limits::MOST_WORKS;
 use obj_id::{JobNo, ObjectId, Refusal, WorkKind};
 pub use queue::{Asked, Queued};
 use std::alloc::{AllocError, Global};
+use std::collections::VecDeque;
 use std::marker::Model;
 
 /// The works in flight of all jobs.
 #[derive(Drop)]
 pub struct Works {
-    // in the order asked
-    line: Vec<Queued>,
+    line: ByJob,
+    // those that nobody has taken, in the order asked
+    waiting: VecDeque<Asked>,
     // the last number that a work of the job had
     used: IndexMap<JobNo, u64>,
 }
 
 impl Model for Works {
     ghost use Rattle.spill_work.specs.Line.{WorkLine};
+    ghost use Rattle.spill_work.specs.Numbers.{AreNumbered};
 
     ghost Value = { WorkLine };
 
-    ghost view = { λ w. record { works = w.line.items; used = w.used.entries } };
+    ghost view = { λ w. record { works = w.line; used = w.used.entries } };
+
+    ghost invariant = { λ w. AreNumbered w.line w.used.entries w.waiting.items };
 }
 
 impl Works {
@@ -40,17 +48,17 @@ impl Works {
         ensures { result ≡ record { works = []; used = [] } }
     {
         Works {
-            line: Vec::new(alloc),
+            line: ByJob::new(alloc),
+            waiting: VecDeque::new(alloc),
             used: IndexMap::new(alloc),
         }
     }
 
-    /// How many works of the job are in flight. Takes a scan of the line, which has at most 8 works of
-    /// each job.
+    /// How many works of the job are in flight.
     pub fn in_flight(&self, job: JobNo) -> usize
         ensures { result ≡ in_flight_lem self.now job }
     {
-        queue::count_of(&self.line, job)
+        self.line.count_of(job)
     }
 
     /// The last number that a work of the job had, or 0.
@@ -83,13 +91,7 @@ impl Works {
             return Err(refusal);
         }
         let number = self.asked(job) + 1;
-        let asked = Asked {
-            job,
-            number,
-            id,
-            kind,
-        };
-        self.append(asked)?;
+        self.append(job, &[id], kind)?;
         Ok(number)
     }
 
@@ -110,12 +112,7 @@ impl Works {
         if ids.is_empty() {
             return Ok(());
         }
-        let last = self.asked(job);
-        // all growth comes first, so that the pushes can't fail
-        self.line.reserve(ids.len())?;
-        self.used.insert(job, last + ids.len() as u64)?;
-        queue::push_numbered(&mut self.line, job, kind, last, ids);
-        Ok(())
+        self.append(job, ids, kind)
     }
 
     /// Why no work of the job can be asked for: `Busy`, `TooMany`, or nothing.
@@ -136,14 +133,16 @@ impl Works {
     pub fn front(&self) -> Option<Asked>
         ensures { result ≡ front_of self.now.works }
     {
-        queue::front(&self.line)
+        let asked = self.waiting.front()?;
+        Some(*asked)
     }
 
     /// Marks a job's work as taken, if there is one under the number. Takes no memory.
     pub fn mark_taken(&mut self, job: JobNo, number: u64)
         ensures { MarksTaken self.old job number self.new }
     {
-        queue::mark(&mut self.line, job, number);
+        self.line.mark(job, number);
+        queue::take_out(&mut self.waiting, job, number);
     }
 
     /// Hands out the front and marks it as taken. Takes no memory.
@@ -163,9 +162,9 @@ impl Works {
         ensures refused { (r : Refusal) → IsErrOf result r → finish_check_lem self.old job number ≡ Some r }
         ensures err { OnErr result (self.new ≡ self.old) }
     {
-        match queue::work_at(&self.line, job, number) {
+        match self.line.work_at(job, number) {
             Some(work) if work.taken => {
-                queue::take_out(&mut self.line, job, number);
+                self.line.take_out(job, number);
                 Ok(work.asked)
             }
             _ => Err(Refusal::Stale),
@@ -176,25 +175,25 @@ impl Works {
     pub fn drop_job(&mut self, job: JobNo)
         ensures { Drops self.old job self.new }
     {
-        queue::take_out_all(&mut self.line, job);
+        self.line.take_out_all(job);
+        queue::take_out_all(&mut self.waiting, job);
         self.used.shift_remove(&job);
     }
 
-    /// The work comes last in the line, and its number is the job's last. A failure changes nothing.
-    fn append(&mut self, asked: Asked) -> Result<(), AllocError>
-        requires { asked.number ≡ used_by self.old asked.job + 1 }
-        ensures ok { OnOk result (Asks self.old asked self.new) }
+    /// A work on each of these objects comes last in the line, under the job's next numbers. A failure
+    /// changes nothing.
+    fn append(&mut self, job: JobNo, ids: &[ObjectId], kind: WorkKind) -> Result<(), AllocError>
+        requires { room_for_lem self.old job (length ids.now) ≡ true }
+        ensures ok { OnOk result (AsksAll self.old job kind ids.now self.new) }
         ensures err { OnErr result (self.new ≡ self.old) }
     {
-        // all growth comes first, so that the push can't fail
-        self.line.reserve(1)?;
-        self.used.insert(asked.job, asked.number)?;
-        self.line
-            .push(Queued {
-                asked,
-                taken: false,
-            })
-            .unwrap();
+        let last = self.asked(job);
+        // all growth comes first, so that nothing after the line's can fail
+        self.used.reserve(1)?;
+        self.waiting.reserve(ids.len())?;
+        self.line.ask(job, kind, last, ids)?;
+        queue::push_numbered(&mut self.waiting, job, kind, last, ids);
+        self.used.insert(job, last + ids.len() as u64).unwrap();
         Ok(())
     }
 }

@@ -1,9 +1,11 @@
-//! The works of all jobs in one line, and what is done with a line alone.
-ghost use Rattle.std.specs.Prelude.{◌≡◌, ◌+◌, ◌<◌, ◌^◌, ◌++◌, ◌≤◌, not, find, filter, length, vec_len, vec_capacity};
-ghost use Rattle.std.specs.List.{position_or_len};
-ghost use Rattle.spill_work.specs.Line.{is_of as is_of_lem, is_at as is_at_lem, front_of, marked, numbered};
+//! A work, and whether it was taken; and those that nobody has taken.
+ghost use Rattle.std.specs.Prelude.{◌≡◌, ◌+◌, ◌<◌, ◌^◌, ◌++◌, ◌≤◌, not, map, filter, length};
+ghost use Rattle.std.specs.VecDeque.{deque_len, deque_capacity};
+ghost use Rattle.spill_work.specs.Line.{asked_of, numbered};
+ghost use Rattle.spill_work.specs.Numbers.{is_asked, is_asked_of};
 
 use obj_id::{JobNo, ObjectId, WorkKind};
+use std::collections::VecDeque;
 
 /// A work that was asked of the device, by the number that it has in its job.
 #[derive(Clone, Copy, Debug, PartialEq, Eq)]
@@ -22,89 +24,17 @@ pub struct Queued {
     pub taken: bool,
 }
 
-/// Whether the work is the job's.
-fn is_of(work: &Queued, job: JobNo) -> bool
-    ensures { result ≡ is_of_lem job work.now }
-{
-    job.0 == work.asked.job.0
-}
-
-/// Whether it is the job's work under the number.
-fn is_at(work: &Queued, job: JobNo, number: u64) -> bool
-    ensures { result ≡ is_at_lem job number work.now }
-{
-    is_of(work, job) && work.asked.number == number
-}
-
-/// How many works the job has.
-pub fn count_of(works: &Vec<Queued>, job: JobNo) -> usize
-    ensures { result ≡ length (filter (is_of_lem job) works.now.items) }
-{
-    works.iter().filter(|work| is_of(work, job)).count()
-}
-
-/// The place of the job's work under the number, or the line's length.
-fn place_of(works: &Vec<Queued>, job: JobNo, number: u64) -> usize
-    ensures { result ≡ position_or_len (is_at_lem job number) works.now.items }
-{
-    for (place, work) in works.iter().enumerate() {
-        if is_at(work, job, number) {
-            return place;
-        }
-    }
-    works.len()
-}
-
-/// The job's work under the number.
-pub fn work_at(works: &Vec<Queued>, job: JobNo, number: u64) -> Option<Queued>
-    ensures { result ≡ find (is_at_lem job number) works.now.items }
-{
-    works.get(place_of(works, job, number)).copied()
-}
-
-/// The first work that nobody has taken.
-pub fn front(works: &Vec<Queued>) -> Option<Asked>
-    ensures { result ≡ front_of works.now.items }
-{
-    works.iter().find(|work| !work.taken).map(|work| work.asked)
-}
-
-/// Marks the job's work under the number as taken, if there is one.
-pub fn mark(works: &mut Vec<Queued>, job: JobNo, number: u64)
-    ensures { works.new.items ≡ marked job number works.old.items }
-{
-    let place = place_of(works, job, number);
-    if place < works.len() {
-        let work = &mut works[place];
-        work.taken = true;
-    }
-}
-
-/// Takes out the job's work under the number; the others keep their order.
-pub fn take_out(works: &mut Vec<Queued>, job: JobNo, number: u64)
-    ensures { works.new.items ≡ filter (λ work. not (is_at_lem job number work)) works.old.items }
-{
-    works.retain(|work| !is_at(work, job, number));
-}
-
-/// Takes out all works of the job; the others keep their order.
-pub fn take_out_all(works: &mut Vec<Queued>, job: JobNo)
-    ensures { works.new.items ≡ filter (λ work. not (is_of_lem job work)) works.old.items }
-{
-    works.retain(|work| !is_of(work, job));
-}
-
-/// A work on each of these objects comes last in the line, which has room for them.
-pub fn push_numbered(
-    works: &mut Vec<Queued>,
+/// A work on each of these objects comes last among those that nobody has taken, which have room for them.
+pub(crate) fn push_numbered(
+    waiting: &mut VecDeque<Asked>,
     job: JobNo,
     kind: WorkKind,
     last: u64,
     ids: &[ObjectId],
 )
     requires numbers { last + length ids.now < 2 ^ 64 }
-    requires room { vec_len works.old + length ids.now ≤ vec_capacity works.old }
-    ensures { works.new.items ≡ works.old.items ++ numbered job kind last ids.now }
+    requires room { deque_len waiting.old + length ids.now ≤ deque_capacity waiting.old }
+    ensures { waiting.new.items ≡ waiting.old.items ++ map asked_of (numbered job kind last ids.now) }
 {
     let mut number = last;
     for id in ids {
@@ -115,11 +45,37 @@ pub fn push_numbered(
             id: *id,
             kind,
         };
-        works
-            .push(Queued {
-                asked,
-                taken: false,
-            })
-            .unwrap();
+        waiting.push_back(asked).unwrap();
     }
+}
+
+/// Whether it is the job's work under the number.
+fn is_asked_at(asked: &Asked, job: JobNo, number: u64) -> bool
+    ensures { result ≡ is_asked job number asked.now }
+{
+    job.0 == asked.job.0 && asked.number == number
+}
+
+/// Takes the job's work under the number out of those that nobody has taken. It is their first one in a
+/// node, since workers take them in their order.
+pub(crate) fn take_out(waiting: &mut VecDeque<Asked>, job: JobNo, number: u64)
+    requires { length (filter (is_asked job number) waiting.old.items) ≤ 1 }
+    ensures { waiting.new.items ≡ filter (λ asked. not (is_asked job number asked)) waiting.old.items }
+{
+    let is_first = match waiting.front() {
+        Some(asked) => is_asked_at(asked, job, number),
+        None => false,
+    };
+    if is_first {
+        waiting.pop_front();
+    } else {
+        waiting.retain(|asked| !is_asked_at(asked, job, number));
+    }
+}
+
+/// Takes out the job's; the others keep their order.
+pub(crate) fn take_out_all(waiting: &mut VecDeque<Asked>, job: JobNo)
+    ensures { waiting.new.items ≡ filter (λ asked. not (is_asked_of job asked)) waiting.old.items }
+{
+    waiting.retain(|asked| job.0 != asked.job.0);
 }

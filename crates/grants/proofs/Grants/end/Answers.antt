@@ -2,8 +2,14 @@ use Rattle.std.proofs.Common.{not, filter, sym, ap, subst, ◌∙◌}
 use Rattle.std.specs.List.{list_any}
 use Rattle.private_store.specs.Hands.{same_hand, hands_sorted}
 use Rattle.grants.specs.Table.{AreHands, ends}
+use Rattle.grants.specs.Links.{are_apart}
+use Rattle.grants.proofs.Ranked.{ended_apart}
 use Rattle.grants.proofs.Left.{left_are_hands, none_left, none_end, none_pass, some_pass, all_left}
 use Rattle.grants.proofs.Grants.end.Goals as goal
+
+pub sorted-requires : goal.sorted-requires
+sorted-requires c =
+    ap are_apart (c.hands.ensures ∙ c.in_ok-gone.ensures) ∙ ended_apart (ends c.args.ending) c.self.inside.hands.items c.self.invariant
 
 pub invariant_of-self : goal.invariant_of-self
 invariant_of-self c =

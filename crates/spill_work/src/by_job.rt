@@ -1,0 +1,130 @@
+//! The works of all jobs, found by their job.
+ghost use Rattle.std.specs.Prelude.{◌≡◌, ◌+◌, ◌<◌, ◌^◌, ◌++◌, [], not, find, filter, map, length, OnOk, OnErr};
+ghost use Rattle.spill_work.specs.Line.{is_of, is_at, numbered};
+ghost use Rattle.spill_work.specs.Turns.{marked_at, with_row};
+
+use crate::queue::Queued;
+use crate::row::Row;
+use indexmap::IndexMap;
+use obj_id::{JobNo, ObjectId, WorkKind};
+use std::alloc::{AllocError, Global};
+use std::marker::Model;
+
+/// The works of all jobs. A contract sees them in the order asked; a call looks at its own job's alone.
+#[derive(Drop)]
+pub(crate) struct ByJob {
+    alloc: Global,
+    rows: IndexMap<JobNo, Row>,
+    // Of the work that is asked for next. Nothing but the order that a contract sees goes by it.
+    turn: u64,
+}
+
+impl Model for ByJob {
+    ghost use Rattle.std.specs.Prelude.{List};
+    ghost use Rattle.spill_work.specs.declared.queue.Queued.{Queued};
+    ghost use Rattle.spill_work.specs.Turns.{works_in, AreRows};
+
+    ghost Value = { List Queued };
+
+    ghost view = { λ b. works_in b.rows.entries };
+
+    ghost invariant = { λ b. AreRows b.rows.entries b.turn };
+}
+
+impl ByJob {
+    /// No works. Takes no memory.
+    pub(crate) fn new(alloc: Global) -> ByJob
+        ensures { result ≡ [] }
+    {
+        ByJob {
+            alloc,
+            rows: IndexMap::new(alloc),
+            turn: 0,
+        }
+    }
+
+    /// How many works the job has.
+    pub(crate) fn count_of(&self, job: JobNo) -> usize
+        ensures { result ≡ length (filter (is_of job) self.now) }
+    {
+        match self.rows.get(&job) {
+            Some(row) => row.len(),
+            None => 0,
+        }
+    }
+
+    /// The job's work under the number.
+    pub(crate) fn work_at(&self, job: JobNo, number: u64) -> Option<Queued>
+        ensures { result ≡ find (is_at job number) self.now }
+    {
+        match self.rows.get(&job) {
+            Some(row) => row.work_at(number),
+            None => None,
+        }
+    }
+
+    /// Marks what the job has under the number as taken.
+    pub(crate) fn mark(&mut self, job: JobNo, number: u64)
+        ensures { self.new ≡ map (marked_at job number) self.old }
+    {
+        let Some(row) = self.rows.get_mut(&job) else {
+            return;
+        };
+        row.mark(number);
+    }
+
+    /// Takes out what the job has under the number; the others keep their order.
+    pub(crate) fn take_out(&mut self, job: JobNo, number: u64)
+        ensures { self.new ≡ filter (λ work. not (is_at job number work)) self.old }
+    {
+        let Some(row) = self.rows.get_mut(&job) else {
+            return;
+        };
+        row.take_out(number);
+    }
+
+    /// Takes out all works of the job; the others keep their order.
+    pub(crate) fn take_out_all(&mut self, job: JobNo)
+        ensures { self.new ≡ filter (λ work. not (is_of job work)) self.old }
+    {
+        // What the count says of the rows is what the proof needs.
+        let _count = self.rows.len();
+        self.rows.shift_remove(&job);
+    }
+
+    /// A work of the job on each of these objects comes last, under the numbers that come next. A failure
+    /// changes nothing.
+    pub(crate) fn ask(
+        &mut self,
+        job: JobNo,
+        kind: WorkKind,
+        last: u64,
+        ids: &[ObjectId],
+    ) -> Result<(), AllocError>
+        requires { last + length ids.now < 2 ^ 64 }
+        ensures ok { OnOk result (self.new ≡ self.old ++ numbered job kind last ids.now) }
+        ensures err { OnErr result (self.new ≡ self.old) }
+    {
+        let Some(turn) = self.turn.checked_add(ids.len() as u64) else {
+            return Err(AllocError);
+        };
+        enter(&mut self.rows, self.alloc, job)?;
+        let Some(row) = self.rows.get_mut(&job) else {
+            unreachable!()
+        };
+        row.ask(job, kind, last, self.turn, ids)?;
+        self.turn = turn;
+        Ok(())
+    }
+}
+
+/// The job has a row, with nothing in it if it is new. A failure changes nothing.
+fn enter(rows: &mut IndexMap<JobNo, Row>, alloc: Global, job: JobNo) -> Result<(), AllocError>
+    ensures ok { OnOk result (rows.new.entries ≡ with_row job rows.old.entries) }
+    ensures err { OnErr result (rows.new.entries ≡ rows.old.entries) }
+{
+    if !rows.contains_key(&job) {
+        rows.insert(job, Row::new(alloc))?;
+    }
+    Ok(())
+}
