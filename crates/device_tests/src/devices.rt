@@ -1,4 +1,5 @@
 //! The devices: what real files do, and which call of a faulty device fails.
+use assertions::{holds, same};
 use bytes::Bytes;
 use obj_id::{DeviceKey, JobNo};
 use spill_device::{DeviceFault, FaultyDevice, FileDevice, FolderFault, MemoryDevice, SpillDevice};
@@ -78,7 +79,7 @@ fn write<D: SpillDevice>(
     let failures = device.failures();
     match device.write(key, bytes) {
         Err(DeviceFault::NoMemory) => {
-            assert_eq!(rt; device.failures(), failures);
+            same!(rt; device.failures(), failures);
             device.write(key, bytes)
         }
         told => told,
@@ -94,7 +95,7 @@ fn read<D: SpillDevice>(
     let failures = device.failures();
     match device.read(key, len) {
         Err(DeviceFault::NoMemory) => {
-            assert_eq!(rt; device.failures(), failures);
+            same!(rt; device.failures(), failures);
             device.read(key, len)
         }
         told => told,
@@ -109,7 +110,7 @@ fn erase<D: SpillDevice>(
     let failures = device.failures();
     match device.erase(key) {
         Err(DeviceFault::NoMemory) => {
-            assert_eq!(rt; device.failures(), failures);
+            same!(rt; device.failures(), failures);
             device.erase(key)
         }
         told => told,
@@ -129,34 +130,34 @@ fn has<D: SpillDevice>(rt: &impl Abort, device: &mut D, key: DeviceKey, bytes: &
 
 /// What is asked of any device that keeps its bytes.
 fn keeps_its_bytes<D: SpillDevice>(rt: &impl Abort, device: &mut D) {
-    assert_eq!(rt; device.failures(), 0);
-    assert_eq!(rt; erase(rt, device, KEY), Ok(()));
-    assert_eq!(rt; write(rt, device, KEY, &[1, 2, 3]), Ok(()));
-    assert_eq!(rt; write(rt, device, OTHER, &[9]), Ok(()));
-    assert!(rt; has(rt, device, KEY, &[1, 2, 3]));
-    assert_eq!(rt; write(rt, device, KEY, &[4, 5]), Ok(()));
-    assert!(rt; has(rt, device, KEY, &[4, 5]));
-    assert!(rt; has(rt, device, OTHER, &[9]));
-    assert_eq!(rt; device.failures(), 0);
+    same!(rt; device.failures(), 0);
+    same!(rt; erase(rt, device, KEY), Ok(()));
+    same!(rt; write(rt, device, KEY, &[1, 2, 3]), Ok(()));
+    same!(rt; write(rt, device, OTHER, &[9]), Ok(()));
+    holds!(rt; has(rt, device, KEY, &[1, 2, 3]));
+    same!(rt; write(rt, device, KEY, &[4, 5]), Ok(()));
+    holds!(rt; has(rt, device, KEY, &[4, 5]));
+    holds!(rt; has(rt, device, OTHER, &[9]));
+    same!(rt; device.failures(), 0);
     assert!(rt; matches!(read(rt, device, KEY, 3), Err(DeviceFault::Failed)));
-    assert_eq!(rt; device.failures(), 1);
-    assert_eq!(rt; erase(rt, device, KEY), Ok(()));
-    assert_eq!(rt; erase(rt, device, KEY), Ok(()));
+    same!(rt; device.failures(), 1);
+    same!(rt; erase(rt, device, KEY), Ok(()));
+    same!(rt; erase(rt, device, KEY), Ok(()));
     assert!(rt; matches!(read(rt, device, KEY, 2), Err(DeviceFault::Failed)));
-    assert_eq!(rt; device.failures(), 2);
-    assert!(rt; has(rt, device, OTHER, &[9]));
+    same!(rt; device.failures(), 2);
+    holds!(rt; has(rt, device, OTHER, &[9]));
 }
 
 /// What is asked of it where two jobs have works of one number.
 fn keeps_jobs_apart<D: SpillDevice>(rt: &impl Abort, device: &mut D) {
-    assert_eq!(rt; write(rt, device, OTHER, &[9]), Ok(()));
+    same!(rt; write(rt, device, OTHER, &[9]), Ok(()));
     assert!(rt; matches!(read(rt, device, NEIGHBOUR, 1), Err(DeviceFault::Failed)));
-    assert_eq!(rt; write(rt, device, NEIGHBOUR, &[7, 8]), Ok(()));
-    assert!(rt; has(rt, device, OTHER, &[9]));
-    assert!(rt; has(rt, device, NEIGHBOUR, &[7, 8]));
-    assert_eq!(rt; erase(rt, device, OTHER), Ok(()));
-    assert!(rt; has(rt, device, NEIGHBOUR, &[7, 8]));
-    assert_eq!(rt; erase(rt, device, NEIGHBOUR), Ok(()));
+    same!(rt; write(rt, device, NEIGHBOUR, &[7, 8]), Ok(()));
+    holds!(rt; has(rt, device, OTHER, &[9]));
+    holds!(rt; has(rt, device, NEIGHBOUR, &[7, 8]));
+    same!(rt; erase(rt, device, OTHER), Ok(()));
+    holds!(rt; has(rt, device, NEIGHBOUR, &[7, 8]));
+    same!(rt; erase(rt, device, NEIGHBOUR), Ok(()));
     assert!(rt; matches!(read(rt, device, NEIGHBOUR, 2), Err(DeviceFault::Failed)));
 }
 
@@ -174,9 +175,9 @@ fn long_bytes(alloc: Global) -> Result<Vec<u8>, AllocError> {
 
 /// What is asked of it of an object that is longer than one chunk.
 fn keeps_long_bytes<D: SpillDevice>(rt: &impl Abort, device: &mut D, bytes: &[u8]) {
-    assert_eq!(rt; write(rt, device, OTHER, bytes), Ok(()));
-    assert!(rt; has(rt, device, OTHER, bytes));
-    assert_eq!(rt; erase(rt, device, OTHER), Ok(()));
+    same!(rt; write(rt, device, OTHER, bytes), Ok(()));
+    holds!(rt; has(rt, device, OTHER, bytes));
+    same!(rt; erase(rt, device, OTHER), Ok(()));
 }
 
 #[test]
@@ -210,8 +211,8 @@ fn files_keep_what_was_last_written(rt: HostRuntime) -> Result<(), Fail> {
     keeps_its_bytes(&rt, &mut device);
     // another device in the same folder finds what the first one left
     let mut next = over_files(&rt, folder.as_str())?;
-    assert!(rt; has(&rt, &mut next, OTHER, &[9]));
-    assert_eq!(rt; erase(&rt, &mut next, OTHER), Ok(()));
+    holds!(rt; has(&rt, &mut next, OTHER, &[9]));
+    same!(rt; erase(&rt, &mut next, OTHER), Ok(()));
     // nothing is left, under a temporary name either
     fs::remove_dir(&rt, folder.as_str())?;
     Ok(())
@@ -222,10 +223,10 @@ fn a_file_is_named_by_job_and_number(rt: HostRuntime) -> Result<(), Fail> {
     let folder = own_folder(&rt, process::id(rt.process()), "named")?;
     let file = joined(rt.alloc(), folder.as_str(), FILE)?;
     let mut device = over_files(&rt, folder.as_str())?;
-    assert_eq!(rt; write(&rt, &mut device, KEY, &[1, 2, 3]), Ok(()));
-    assert_eq!(rt; fs::metadata(&rt, file.as_str())?.len(), 3);
-    assert_eq!(rt; erase(&rt, &mut device, KEY), Ok(()));
-    assert!(rt; !fs::exists(&rt, file.as_str())?);
+    same!(rt; write(&rt, &mut device, KEY, &[1, 2, 3]), Ok(()));
+    same!(rt; fs::metadata(&rt, file.as_str())?.len(), 3);
+    same!(rt; erase(&rt, &mut device, KEY), Ok(()));
+    holds!(rt; !fs::exists(&rt, file.as_str())?);
     fs::remove_dir(&rt, folder.as_str())?;
     Ok(())
 }
@@ -235,14 +236,14 @@ fn a_short_or_longer_file_fails(rt: HostRuntime) -> Result<(), Fail> {
     let folder = own_folder(&rt, process::id(rt.process()), "lengths")?;
     let file = joined(rt.alloc(), folder.as_str(), FILE)?;
     let mut device = over_files(&rt, folder.as_str())?;
-    assert_eq!(rt; write(&rt, &mut device, KEY, &[1, 2, 3]), Ok(()));
+    same!(rt; write(&rt, &mut device, KEY, &[1, 2, 3]), Ok(()));
     fs::write(&rt, file.as_str(), "12")?;
     assert!(rt; matches!(read(&rt, &mut device, KEY, 3), Err(DeviceFault::Failed)));
     fs::write(&rt, file.as_str(), "1234")?;
     assert!(rt; matches!(read(&rt, &mut device, KEY, 3), Err(DeviceFault::Failed)));
     fs::remove_file(&rt, file.as_str())?;
     assert!(rt; matches!(read(&rt, &mut device, KEY, 3), Err(DeviceFault::Failed)));
-    assert_eq!(rt; device.failures(), 3);
+    same!(rt; device.failures(), 3);
     fs::remove_dir(&rt, folder.as_str())?;
     Ok(())
 }
@@ -251,26 +252,22 @@ fn a_short_or_longer_file_fails(rt: HostRuntime) -> Result<(), Fail> {
 fn a_write_that_fails_leaves_what_was_there(rt: HostRuntime) -> Result<(), Fail> {
     let folder = own_folder(&rt, process::id(rt.process()), "whole")?;
     let mut device = over_files(&rt, folder.as_str())?;
-    assert_eq!(rt; write(&rt, &mut device, OTHER, &[1, 2, 3]), Ok(()));
+    same!(rt; write(&rt, &mut device, OTHER, &[1, 2, 3]), Ok(()));
     // a folder stands where the temporary file would go
     let part = joined(rt.alloc(), folder.as_str(), "7.1.part")?;
     fs::create_dir(&rt, part.as_str())?;
-    assert_eq!(rt;
-        write(&rt, &mut device, OTHER, &[4]),
-        Err(DeviceFault::Failed)
-    );
-    assert_eq!(rt; device.failures(), 1);
-    assert!(rt; has(&rt, &mut device, OTHER, &[1, 2, 3]));
+    same!(rt; write(&rt, &mut device, OTHER, &[4]),
+        Err(DeviceFault::Failed));
+    same!(rt; device.failures(), 1);
+    holds!(rt; has(&rt, &mut device, OTHER, &[1, 2, 3]));
     // the folder itself is lost
     fs::remove_dir(&rt, part.as_str())?;
-    assert_eq!(rt; erase(&rt, &mut device, OTHER), Ok(()));
+    same!(rt; erase(&rt, &mut device, OTHER), Ok(()));
     fs::remove_dir(&rt, folder.as_str())?;
-    assert_eq!(rt;
-        write(&rt, &mut device, OTHER, &[4]),
-        Err(DeviceFault::Failed)
-    );
-    assert_eq!(rt; device.failures(), 2);
-    assert_eq!(rt; erase(&rt, &mut device, OTHER), Ok(()));
+    same!(rt; write(&rt, &mut device, OTHER, &[4]),
+        Err(DeviceFault::Failed));
+    same!(rt; device.failures(), 2);
+    same!(rt; erase(&rt, &mut device, OTHER), Ok(()));
     Ok(())
 }
 
@@ -296,8 +293,8 @@ fn a_folder_that_cant_be_made_is_told(rt: HostRuntime) -> Result<(), Fail> {
     fs::write(&rt, file.as_str(), "a file")?;
     let below = joined(rt.alloc(), file.as_str(), "below")?;
     let told = refusal_of(&rt, below.as_str())?;
-    assert!(rt; told.as_str().starts_with("the folder `"));
-    assert!(rt; told.as_str().contains(below.as_str()));
+    holds!(rt; told.as_str().starts_with("the folder `"));
+    holds!(rt; told.as_str().contains(below.as_str()));
     fs::remove_file(&rt, file.as_str())?;
     Ok(())
 }
@@ -305,29 +302,29 @@ fn a_folder_that_cant_be_made_is_told(rt: HostRuntime) -> Result<(), Fail> {
 #[test]
 fn the_kth_call_fails_and_no_other(rt: HostRuntime) {
     let mut memory = MemoryDevice::new(rt.alloc());
-    assert_eq!(rt; write(&rt, &mut memory, KEY, &[]), Ok(()));
+    same!(rt; write(&rt, &mut memory, KEY, &[]), Ok(()));
     let mut device = FaultyDevice::new(memory, 2);
-    assert_eq!(rt; device.erase(OTHER), Ok(()));
-    assert_eq!(rt; device.write(KEY, &[1]), Err(DeviceFault::Failed));
-    assert_eq!(rt; device.failures(), 1);
-    assert_eq!(rt; device.inner.failures(), 0);
+    same!(rt; device.erase(OTHER), Ok(()));
+    same!(rt; device.write(KEY, &[1]), Err(DeviceFault::Failed));
+    same!(rt; device.failures(), 1);
+    same!(rt; device.inner.failures(), 0);
     // the call that failed didn't reach the device beneath
-    assert!(rt; has(&rt, &mut device, KEY, &[]));
-    assert_eq!(rt; erase(&rt, &mut device, KEY), Ok(()));
+    holds!(rt; has(&rt, &mut device, KEY, &[]));
+    same!(rt; erase(&rt, &mut device, KEY), Ok(()));
     assert!(rt; matches!(device.read(KEY, 0), Err(DeviceFault::Failed)));
-    assert_eq!(rt; device.failures(), 2);
-    assert_eq!(rt; device.inner.failures(), 1);
+    same!(rt; device.failures(), 2);
+    same!(rt; device.inner.failures(), 1);
 }
 
 #[test]
 fn reads_and_erases_are_counted_as_calls(rt: HostRuntime) {
     let mut reads = FaultyDevice::new(MemoryDevice::new(rt.alloc()), 1);
     assert!(rt; matches!(reads.read(KEY, 1), Err(DeviceFault::Failed)));
-    assert_eq!(rt; reads.inner.failures(), 0);
+    same!(rt; reads.inner.failures(), 0);
     let mut erases = FaultyDevice::new(MemoryDevice::new(rt.alloc()), 1);
-    assert_eq!(rt; erases.erase(KEY), Err(DeviceFault::Failed));
-    assert_eq!(rt; erases.erase(KEY), Ok(()));
+    same!(rt; erases.erase(KEY), Err(DeviceFault::Failed));
+    same!(rt; erases.erase(KEY), Ok(()));
     let mut none = FaultyDevice::new(MemoryDevice::new(rt.alloc()), 0);
-    assert_eq!(rt; none.erase(KEY), Ok(()));
-    assert_eq!(rt; none.failures(), 0);
+    same!(rt; none.erase(KEY), Ok(()));
+    same!(rt; none.failures(), 0);
 }

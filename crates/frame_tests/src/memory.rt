@@ -1,4 +1,5 @@
 //! Want of memory: these tests take no memory but for what they test, so each passes whichever allocation fails.
+use assertions::same;
 use bytes::Bytes;
 use obj_id::{Command, JobKey, JobNo, Refusal, Reply};
 use private_store::Item;
@@ -62,13 +63,13 @@ fn a_frame_that_found_no_memory_is_made_again(rt: HostRuntime) -> Result<(), Fai
         Ok(frame) => frame,
         Err(_) => encode_command(alloc, &hello)?,
     };
-    assert_eq!(rt; frame.as_slice(), wanted.as_slice());
+    same!(rt; frame.as_slice(), wanted.as_slice());
     let reply = Reply::Bytes(Bytes::from_static(b"Hello"));
     let frame = match encode_reply(alloc, &reply) {
         Ok(frame) => frame,
         Err(_) => encode_reply(alloc, &reply)?,
     };
     let wanted = [0, 0, 0, 6, 131, 72, 101, 108, 108, 111];
-    assert_eq!(rt; frame.as_slice(), wanted.as_slice());
+    same!(rt; frame.as_slice(), wanted.as_slice());
     Ok(())
 }

@@ -1,4 +1,5 @@
 //! Streams as they are read.
+use assertions::holds;
 use obj_id::{Command, JobKey, JobNo, Kind, ObjectId, Refusal, TaskNo};
 use private_store::Item;
 use std::alloc::Global;
@@ -85,7 +86,7 @@ fn a_session_is_read_byte_by_byte(rt: HostRuntime) -> Result<(), Fail> {
             items.push(item)?;
         }
     }
-    assert!(rt; is_the_session(&items, object));
+    holds!(rt; is_the_session(&items, object));
     Ok(())
 }
 
@@ -160,6 +161,6 @@ fn the_longest_write_is_read(rt: HostRuntime) -> Result<(), Fail> {
             && bytes.as_slice() == payload.as_slice(),
         _ => false,
     };
-    assert!(rt; written);
+    holds!(rt; written);
     Ok(())
 }

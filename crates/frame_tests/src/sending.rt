@@ -2,6 +2,7 @@
 ghost use Rattle.std.specs.Prelude.{IsTrue};
 ghost use Rattle.wire_frames.specs.Writing.{has_command_frame, has_reply_frame};
 
+use assertions::same;
 use bytes::Bytes;
 use obj_id::{
     Command, CopyState, GrantedItem, Items, JobKey, JobNo, Kind, ObjectId, OwnItem, Refusal, Reply,
@@ -9,6 +10,7 @@ use obj_id::{
 };
 use private_store::{Awaited, Item};
 use std::alloc::{AllocError, Global};
+use std::process::Abort;
 use std::test::Fail;
 use wire_frames::{Reader, encode_command, encode_reply};
 
@@ -63,25 +65,55 @@ fn about(alloc: Global, head: &str, rest: &str) -> Result<String, AllocError> {
     format!(in alloc; "{head}{OBJECT}{rest}")
 }
 
+/// Checks the item's frame, both ways.
+fn sends(rt: &impl Abort, alloc: Global, item: &Item, digits: &str) -> Result<(), Fail>
+    requires { IsTrue (has_command_frame item.now) }
+{
+    let sent = both_ways(alloc, item)?;
+    same!(rt; sent.as_str(), digits);
+    Ok(())
+}
+
+/// Checks the frame of an item about the first object: its digits before the id, and those after it.
+fn sends_about(
+    rt: &impl Abort,
+    alloc: Global,
+    item: &Item,
+    head: &str,
+    rest: &str,
+) -> Result<(), Fail>
+    requires { IsTrue (has_command_frame item.now) }
+{
+    let digits = about(alloc, head, rest)?;
+    sends(rt, alloc, item, digits.as_str())
+}
+
+/// Checks the reply's frame.
+fn tells(rt: &impl Abort, alloc: Global, reply: &Reply<Bytes>, digits: &str) -> Result<(), Fail>
+    requires { IsTrue (has_reply_frame reply.now) }
+{
+    let frame = told(alloc, reply)?;
+    same!(rt; frame.as_str(), digits);
+    Ok(())
+}
+
 #[test]
 fn frames_without_an_id_are_sent_and_read(rt: HostRuntime) -> Result<(), Fail> {
     let alloc = rt.alloc();
-    let hello = both_ways(alloc, &Item::Hello(JobNo(258), JobKey([7; 32])))?;
-    assert_eq!(rt;
-        hello.as_str(),
-        "0000002501000001020707070707070707070707070707070707070707070707070707070707070707"
-    );
-    let end = both_ways(alloc, &Item::Command(Command::EndTask(TaskNo::numbered(2))))?;
-    assert_eq!(rt;
-        end.as_str(),
-        "000000150c0000000000000000000000000000000000000002"
-    );
-    let list = both_ways(alloc, &Item::Command(Command::List))?;
-    assert_eq!(rt; list.as_str(), "0000000110");
-    let usage = both_ways(alloc, &Item::Command(Command::Usage))?;
-    assert_eq!(rt; usage.as_str(), "0000000111");
-    let leave = both_ways(alloc, &Item::Command(Command::Leave))?;
-    assert_eq!(rt; leave.as_str(), "0000000112");
+    let hello = Item::Hello(JobNo(258), JobKey([7; 32]));
+    let digits =
+        "0000002501000001020707070707070707070707070707070707070707070707070707070707070707";
+    sends(&rt, alloc, &hello, digits)?;
+    let end = Item::Command(Command::EndTask(TaskNo::numbered(2)));
+    sends(
+        &rt,
+        alloc,
+        &end,
+        "000000150c0000000000000000000000000000000000000002",
+    )?;
+    sends(&rt, alloc, &Item::Command(Command::List), "0000000110")?;
+    sends(&rt, alloc, &Item::Command(Command::Usage), "0000000111")?;
+    sends(&rt, alloc, &Item::Command(Command::Leave), "0000000112")?;
     Ok(())
 }
 
@@ -89,27 +121,12 @@ fn frames_without_an_id_are_sent_and_read(rt: HostRuntime) -> Result<(), Fail> {
 fn copies_are_asked_for(rt: HostRuntime) -> Result<(), Fail> {
     let alloc = rt.alloc();
     let id = first_object()?;
-    let create = both_ways(
-        alloc,
-        &Item::Command(Command::Create(id, Kind::Primary, 20)),
-    )?;
-    assert_eq!(rt;
-        create.as_str(),
-        about(alloc, "0000002202", "0000000014")?.as_str()
-    );
-    let copy = both_ways(
-        alloc,
-        &Item::Command(Command::Create(id, Kind::Secondary, 258)),
-    )?;
-    assert_eq!(rt;
-        copy.as_str(),
-        about(alloc, "0000002202", "0100000102")?.as_str()
-    );
-    let wait = both_ways(alloc, &Item::Wait(Awaited::Create(id, Kind::Secondary, 1)))?;
-    assert_eq!(rt;
-        wait.as_str(),
-        about(alloc, "0000002214", "0100000001")?.as_str()
-    );
+    let create = Item::Command(Command::Create(id, Kind::Primary, 20));
+    sends_about(&rt, alloc, &create, "0000002202", "0000000014")?;
+    let copy = Item::Command(Command::Create(id, Kind::Secondary, 258));
+    sends_about(&rt, alloc, &copy, "0000002202", "0100000102")?;
+    let wait = Item::Wait(Awaited::Create(id, Kind::Secondary, 1));
+    sends_about(&rt, alloc, &wait, "0000002214", "0100000001")?;
     Ok(())
 }
 
@@ -117,16 +134,35 @@ fn copies_are_asked_for(rt: HostRuntime) -> Result<(), Fail> {
 fn an_id_alone_is_sent_and_read(rt: HostRuntime) -> Result<(), Fail> {
     let alloc = rt.alloc();
     let id = first_object()?;
-    let seal = both_ways(alloc, &Item::Command(Command::Seal(id)))?;
-    assert_eq!(rt; seal.as_str(), about(alloc, "0000001d04", "")?.as_str());
-    let get = both_ways(alloc, &Item::Command(Command::Get(id)))?;
-    assert_eq!(rt; get.as_str(), about(alloc, "0000001d05", "")?.as_str());
-    let wait = both_ways(alloc, &Item::Wait(Awaited::Get(id)))?;
-    assert_eq!(rt; wait.as_str(), about(alloc, "0000001d13", "")?.as_str());
-    let release = both_ways(alloc, &Item::Command(Command::Release(id)))?;
-    assert_eq!(rt; release.as_str(), about(alloc, "0000001d07", "")?.as_str());
-    let delete = both_ways(alloc, &Item::Command(Command::Delete(id)))?;
-    assert_eq!(rt; delete.as_str(), about(alloc, "0000001d0b", "")?.as_str());
+    sends_about(
+        &rt,
+        alloc,
+        &Item::Command(Command::Seal(id)),
+        "0000001d04",
+        "",
+    )?;
+    sends_about(
+        &rt,
+        alloc,
+        &Item::Command(Command::Get(id)),
+        "0000001d05",
+        "",
+    )?;
+    sends_about(&rt, alloc, &Item::Wait(Awaited::Get(id)), "0000001d13", "")?;
+    sends_about(
+        &rt,
+        alloc,
+        &Item::Command(Command::Release(id)),
+        "0000001d07",
+        "",
+    )?;
+    sends_about(
+        &rt,
+        alloc,
+        &Item::Command(Command::Delete(id)),
+        "0000001d0b",
+        "",
+    )?;
     Ok(())
 }
 
@@ -134,83 +170,82 @@ fn an_id_alone_is_sent_and_read(rt: HostRuntime) -> Result<(), Fail> {
 fn bytes_are_sent_and_asked_for(rt: HostRuntime) -> Result<(), Fail> {
     let alloc = rt.alloc();
     let id = first_object()?;
-    let hello = Bytes::from_static(b"Hello");
-    let write = both_ways(alloc, &Item::Command(Command::Write(id, 258, hello)))?;
-    assert_eq!(rt;
-        write.as_str(),
-        about(alloc, "0000002603", "0000010248656c6c6f")?.as_str()
-    );
-    let read = both_ways(alloc, &Item::Command(Command::Read(id, 1, 65_536)))?;
-    assert_eq!(rt;
-        read.as_str(),
-        about(alloc, "0000002506", "0000000100010000")?.as_str()
-    );
-    let peek = both_ways(alloc, &Item::Command(Command::Peek(id, 2, 0)))?;
-    assert_eq!(rt;
-        peek.as_str(),
-        about(alloc, "000000250f", "0000000200000000")?.as_str()
-    );
+    let write = Item::Command(Command::Write(id, 258, Bytes::from_static(b"Hello")));
+    sends_about(&rt, alloc, &write, "0000002603", "0000010248656c6c6f")?;
+    let read = Item::Command(Command::Read(id, 1, 65_536));
+    sends_about(&rt, alloc, &read, "0000002506", "0000000100010000")?;
+    let peek = Item::Command(Command::Peek(id, 2, 0));
+    sends_about(&rt, alloc, &peek, "000000250f", "0000000200000000")?;
     Ok(())
 }
 
 #[test]
-fn tasks_and_jobs_are_named(rt: HostRuntime) -> Result<(), Fail> {
+fn tasks_are_named(rt: HostRuntime) -> Result<(), Fail> {
     let alloc = rt.alloc();
     let id = first_object()?;
     let task = TaskNo::numbered(3);
     let digits = "0000000000000000000000000000000000000003";
-    let unpin = both_ways(alloc, &Item::Command(Command::Unpin(id, task)))?;
-    assert_eq!(rt;
-        unpin.as_str(),
-        about(alloc, "0000003108", digits)?.as_str()
-    );
-    let borrow = both_ways(alloc, &Item::Command(Command::Borrow(id, task)))?;
-    assert_eq!(rt;
-        borrow.as_str(),
-        about(alloc, "0000003109", digits)?.as_str()
-    );
-    let give_up = both_ways(alloc, &Item::Command(Command::GiveUp(id, task)))?;
-    assert_eq!(rt;
-        give_up.as_str(),
-        about(alloc, "000000310a", digits)?.as_str()
-    );
-    let grant = both_ways(alloc, &Item::Command(Command::Grant(id, JobNo(0))))?;
-    assert_eq!(rt;
-        grant.as_str(),
-        about(alloc, "000000210d", "00000000")?.as_str()
-    );
-    let withdraw = both_ways(alloc, &Item::Command(Command::Withdraw(id, JobNo(2))))?;
-    assert_eq!(rt;
-        withdraw.as_str(),
-        about(alloc, "000000210e", "00000002")?.as_str()
-    );
+    sends_about(
+        &rt,
+        alloc,
+        &Item::Command(Command::Unpin(id, task)),
+        "0000003108",
+        digits,
+    )?;
+    sends_about(
+        &rt,
+        alloc,
+        &Item::Command(Command::Borrow(id, task)),
+        "0000003109",
+        digits,
+    )?;
+    sends_about(
+        &rt,
+        alloc,
+        &Item::Command(Command::GiveUp(id, task)),
+        "000000310a",
+        digits,
+    )?;
+    Ok(())
+}
+
+#[test]
+fn jobs_are_named(rt: HostRuntime) -> Result<(), Fail> {
+    let alloc = rt.alloc();
+    let id = first_object()?;
+    let grant = Item::Command(Command::Grant(id, JobNo(0)));
+    sends_about(&rt, alloc, &grant, "000000210d", "00000000")?;
+    let withdraw = Item::Command(Command::Withdraw(id, JobNo(2)));
+    sends_about(&rt, alloc, &withdraw, "000000210e", "00000002")?;
     Ok(())
 }
 
 #[test]
 fn short_replies_are_sent(rt: HostRuntime) -> Result<(), Fail> {
     let alloc = rt.alloc();
-    assert_eq!(rt; told(alloc, &Reply::Ok)?.as_str(), "0000000180");
-    let placed = told(alloc, &Reply::Placed(0, 32))?;
-    assert_eq!(rt; placed.as_str(), "00000009810000000000000020");
-    assert_eq!(rt;
-        told(alloc, &Reply::Got(20))?.as_str(),
-        "000000058200000014"
-    );
-    let hello = told(alloc, &Reply::Bytes(Bytes::from_static(b"Hello")))?;
-    assert_eq!(rt; hello.as_str(), "000000068348656c6c6f");
-    assert_eq!(rt;
-        told(alloc, &Reply::Bytes(Bytes::new()))?.as_str(),
-        "0000000183"
-    );
-    assert_eq!(rt;
-        told(alloc, &Reply::Refused(Refusal::Full))?.as_str(),
-        "000000028f09"
-    );
-    assert_eq!(rt;
-        told(alloc, &Reply::Refused(Refusal::Stale))?.as_str(),
-        "000000028f18"
-    );
+    tells(&rt, alloc, &Reply::Ok, "0000000180")?;
+    tells(
+        &rt,
+        alloc,
+        &Reply::Placed(0, 32),
+        "00000009810000000000000020",
+    )?;
+    tells(&rt, alloc, &Reply::Got(20), "000000058200000014")?;
+    tells(&rt, alloc, &Reply::Refused(Refusal::Full), "000000028f09")?;
+    tells(&rt, alloc, &Reply::Refused(Refusal::Stale), "000000028f18")?;
+    Ok(())
+}
+
+#[test]
+fn replies_of_bytes_are_sent(rt: HostRuntime) -> Result<(), Fail> {
+    let alloc = rt.alloc();
+    tells(
+        &rt,
+        alloc,
+        &Reply::Bytes(Bytes::from_static(b"Hello")),
+        "000000068348656c6c6f",
+    )?;
+    tells(&rt, alloc, &Reply::Bytes(Bytes::new()), "0000000183")?;
     Ok(())
 }
 
@@ -224,13 +259,10 @@ fn usage_is_six_long_numbers(rt: HostRuntime) -> Result<(), Fail> {
         copies: 2,
         works: 1,
     };
-    let frame = told(rt.alloc(), &Reply::Usage(usage))?;
-    assert_eq!(rt;
-        frame.as_str(),
+    let digits =
         "000000318500000000000000400000000000000020000001000000000000000000000000100000000000000002\
-         0000000000000001"
-    );
-    Ok(())
+         0000000000000001";
+    tells(&rt, rt.alloc(), &Reply::Usage(usage), digits)
 }
 
 /// The digits of a list of one own copy in this state.
@@ -248,8 +280,8 @@ fn listed(alloc: Global, state: CopyState) -> Result<String, Fail> {
 #[test]
 fn own_copies_are_listed_with_their_state(rt: HostRuntime) -> Result<(), Fail> {
     let alloc = rt.alloc();
-    let none = told(alloc, &Reply::List(Items::new(alloc), Items::new(alloc)))?;
-    assert_eq!(rt; none.as_str(), "00000009840000000000000000");
+    let none = Reply::List(Items::new(alloc), Items::new(alloc));
+    tells(&rt, alloc, &none, "00000009840000000000000000")?;
     let states = [
         (CopyState::Created, "00010000010200000000"),
         (CopyState::Sealed, "01010000010200000000"),
@@ -259,7 +291,7 @@ fn own_copies_are_listed_with_their_state(rt: HostRuntime) -> Result<(), Fail> {
     ];
     for (state, digits) in states {
         let wanted = about(alloc, "0000002b8400000001", digits)?;
-        assert_eq!(rt; listed(alloc, state)?.as_str(), wanted.as_str());
+        same!(rt; listed(alloc, state)?.as_str(), wanted.as_str());
     }
     Ok(())
 }
@@ -274,9 +306,7 @@ fn granted_objects_are_listed_with_their_depth(rt: HostRuntime) -> Result<(), Fa
         length: 4,
         depth: 3,
     })?;
-    let list = told(alloc, &Reply::List(Items::new(alloc), granted))?;
-    let item = about(alloc, "", "0000000403")?;
-    let wanted = format!(in alloc; "0000002a840000000000000001{item}")?;
-    assert_eq!(rt; list.as_str(), wanted.as_str());
-    Ok(())
+    let list = Reply::List(Items::new(alloc), granted);
+    let wanted = about(alloc, "0000002a840000000000000001", "0000000403")?;
+    tells(&rt, alloc, &list, wanted.as_str())
 }

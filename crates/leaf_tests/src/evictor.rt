@@ -1,4 +1,5 @@
 //! The order of use, and a plan of each kind.
+use assertions::holds;
 use indexmap::IndexMap;
 use job_region::Window;
 use lru_evictor::{CopyFacts, CopyLookup, DeviceRoom, Plan, UseOrder};
@@ -159,29 +160,29 @@ fn enter(orders: &mut UseOrder, job: JobNo, index: u32, before: &[u32]) -> Resul
 #[test]
 fn a_job_s_ids_stand_in_the_order_of_their_use(rt: HostRuntime) -> Result<(), Fail> {
     let mut orders = UseOrder::new(rt.alloc());
-    assert!(rt; stands(&orders, JOB, &[]));
-    assert!(rt; enter(&mut orders, JOB, 1, &[])?);
-    assert!(rt; enter(&mut orders, JOB, 2, &[1])?);
-    assert!(rt; enter(&mut orders, JOB, 3, &[1, 2])?);
-    assert!(rt; enter(&mut orders, NEIGHBOUR, 1, &[])?);
-    assert!(rt; stands(&orders, JOB, &[1, 2, 3]));
+    holds!(rt; stands(&orders, JOB, &[]));
+    holds!(rt; enter(&mut orders, JOB, 1, &[])?);
+    holds!(rt; enter(&mut orders, JOB, 2, &[1])?);
+    holds!(rt; enter(&mut orders, JOB, 3, &[1, 2])?);
+    holds!(rt; enter(&mut orders, NEIGHBOUR, 1, &[])?);
+    holds!(rt; stands(&orders, JOB, &[1, 2, 3]));
     orders.touch(JOB, object(1)?);
-    assert!(rt; stands(&orders, JOB, &[2, 3, 1]));
+    holds!(rt; stands(&orders, JOB, &[2, 3, 1]));
     orders.touch(JOB, object(9)?);
-    assert!(rt; stands(&orders, JOB, &[2, 3, 1]));
-    assert!(rt; enter(&mut orders, JOB, 2, &[2, 3, 1])?);
-    assert!(rt; stands(&orders, JOB, &[3, 1, 2]));
+    holds!(rt; stands(&orders, JOB, &[2, 3, 1]));
+    holds!(rt; enter(&mut orders, JOB, 2, &[2, 3, 1])?);
+    holds!(rt; stands(&orders, JOB, &[3, 1, 2]));
     orders.forget(JOB, object(1)?);
     orders.forget(JOB, object(9)?);
-    assert!(rt; stands(&orders, JOB, &[3, 2]));
-    assert!(rt; stands(&orders, NEIGHBOUR, &[1]));
+    holds!(rt; stands(&orders, JOB, &[3, 2]));
+    holds!(rt; stands(&orders, NEIGHBOUR, &[1]));
     orders.forget(NEIGHBOUR, object(1)?);
     orders.forget(NEIGHBOUR, object(1)?);
     orders.touch(NEIGHBOUR, object(1)?);
-    assert!(rt; stands(&orders, NEIGHBOUR, &[]));
-    assert!(rt; enter(&mut orders, NEIGHBOUR, 4, &[])?);
-    assert!(rt; stands(&orders, NEIGHBOUR, &[4]));
-    assert!(rt; stands(&orders, JOB, &[3, 2]));
+    holds!(rt; stands(&orders, NEIGHBOUR, &[]));
+    holds!(rt; enter(&mut orders, NEIGHBOUR, 4, &[])?);
+    holds!(rt; stands(&orders, NEIGHBOUR, &[4]));
+    holds!(rt; stands(&orders, JOB, &[3, 2]));
     Ok(())
 }
 
@@ -222,7 +223,7 @@ fn nothing_goes_where_there_is_room(rt: HostRuntime) -> Result<(), Fail> {
     assert!(rt; matches!(&plan(alloc, 64, &[], 64, DEVICE)?, Plan::Fits));
     let one = [(16, EVICTABLE)];
     assert!(rt; matches!(&plan(alloc, 64, &one, 48, DEVICE)?, Plan::Fits));
-    assert!(rt; evicts(&plan(alloc, 64, &one, 49, DEVICE)?, &[1]));
+    holds!(rt; evicts(&plan(alloc, 64, &one, 49, DEVICE)?, &[1]));
     Ok(())
 }
 
@@ -230,15 +231,15 @@ fn nothing_goes_where_there_is_room(rt: HostRuntime) -> Result<(), Fail> {
 fn the_shortest_beginning_is_evicted(rt: HostRuntime) -> Result<(), Fail> {
     let alloc = rt.alloc();
     let four = [(16, EVICTABLE); 4];
-    assert!(rt; evicts(&plan(alloc, 64, &four, 16, DEVICE)?, &[1]));
-    assert!(rt; evicts(&plan(alloc, 64, &four, 32, DEVICE)?, &[1, 2]));
-    assert!(rt; evicts(&plan(alloc, 64, &four, 48, DEVICE)?, &[1, 2, 3]));
-    assert!(rt; evicts(&plan(alloc, 64, &four, 64, DEVICE)?, &[1, 2, 3, 4]));
+    holds!(rt; evicts(&plan(alloc, 64, &four, 16, DEVICE)?, &[1]));
+    holds!(rt; evicts(&plan(alloc, 64, &four, 32, DEVICE)?, &[1, 2]));
+    holds!(rt; evicts(&plan(alloc, 64, &four, 48, DEVICE)?, &[1, 2, 3]));
+    holds!(rt; evicts(&plan(alloc, 64, &four, 64, DEVICE)?, &[1, 2, 3, 4]));
     let many = [(16, EVICTABLE); 40];
     let first = [1, 2, 3, 4, 5, 6, 7, 8, 9, 10, 11];
-    assert!(rt; evicts(&plan(alloc, 640, &many, 11 * 16, DEVICE)?, &first));
-    assert!(rt; evicts(&plan(alloc, 640, &many, 8 * 16, DEVICE)?, &first[..8]));
-    assert!(rt; evicts(&plan(alloc, 640, &many, 5 * 16, DEVICE)?, &first[..5]));
+    holds!(rt; evicts(&plan(alloc, 640, &many, 11 * 16, DEVICE)?, &first));
+    holds!(rt; evicts(&plan(alloc, 640, &many, 8 * 16, DEVICE)?, &first[..8]));
+    holds!(rt; evicts(&plan(alloc, 640, &many, 5 * 16, DEVICE)?, &first[..5]));
     Ok(())
 }
 
@@ -251,7 +252,7 @@ fn a_held_copy_stays_and_an_old_one_goes_in_vain(rt: HostRuntime) -> Result<(), 
         (16, EVICTABLE),
         (16, EVICTABLE),
     ];
-    assert!(rt; evicts(&plan(alloc, 64, &held, 32, DEVICE)?, &[1, 3, 4]));
+    holds!(rt; evicts(&plan(alloc, 64, &held, 32, DEVICE)?, &[1, 3, 4]));
     assert!(rt; matches!(&plan(alloc, 64, &held, 48, DEVICE)?, Plan::Full));
     Ok(())
 }
@@ -271,10 +272,10 @@ fn works_in_flight_are_waited_for(rt: HostRuntime) -> Result<(), Fail> {
 fn all_that_would_be_spilled_must_fit_the_device(rt: HostRuntime) -> Result<(), Fail> {
     let alloc = rt.alloc();
     let two = [(32, SPILLABLE), (32, SPILLABLE)];
-    assert!(rt; spills(&plan(alloc, 64, &two, 32, DEVICE)?, &[1]));
-    assert!(rt; spills(&plan(alloc, 64, &two, 33, DEVICE)?, &[1, 2]));
+    holds!(rt; spills(&plan(alloc, 64, &two, 32, DEVICE)?, &[1]));
+    holds!(rt; spills(&plan(alloc, 64, &two, 33, DEVICE)?, &[1, 2]));
     let one_left = DeviceRoom { works: 7, ..DEVICE };
-    assert!(rt; spills(&plan(alloc, 64, &two, 33, one_left)?, &[1]));
+    holds!(rt; spills(&plan(alloc, 64, &two, 33, one_left)?, &[1]));
     let small = DeviceRoom {
         quota: 79,
         works: 7,
@@ -296,7 +297,7 @@ fn all_that_would_be_spilled_must_fit_the_device(rt: HostRuntime) -> Result<(), 
     };
     assert!(rt; matches!(&plan(alloc, 64, &two, 33, last)?, Plan::Full));
     let young = [(16, SPILLABLE), (16, EVICTABLE), (32, STAYS)];
-    assert!(rt; spills(&plan(alloc, 64, &young, 32, DEVICE)?, &[1]));
+    holds!(rt; spills(&plan(alloc, 64, &young, 32, DEVICE)?, &[1]));
     Ok(())
 }
 
@@ -316,6 +317,6 @@ fn a_neighbour_s_copies_stay(rt: HostRuntime) -> Result<(), Fail> {
         Err(Refusal::NoMemory) => beside_a_neighbour(rt.alloc())?,
         answer => answer?,
     };
-    assert!(rt; evicts(&plan, &[2]));
+    holds!(rt; evicts(&plan, &[2]));
     Ok(())
 }

@@ -1,4 +1,5 @@
 //! Ids, their texts, and the refusals.
+use assertions::{holds, same};
 use obj_id::numbers::{read_u32, read_u64};
 use obj_id::{Items, JobNo, ObjectId, Refusal, TaskNo};
 use std::alloc::{AllocError, Global};
@@ -41,12 +42,12 @@ fn printed_task(alloc: Global, task: TaskNo) -> Result<String, AllocError> {
 #[test]
 fn an_id_is_28_bytes_with_the_highest_byte_first(rt: HostRuntime) -> Result<(), Fail> {
     let id = ObjectId::from_bytes(&COUNTED)?;
-    assert_eq!(rt; id.job(), JobNo(0x0102_0304));
-    assert_eq!(rt; id.index(), 0x0506_0708);
-    assert_eq!(rt; id.task().0[0], 11);
-    assert_eq!(rt; id.task().0[19], 30);
-    assert_eq!(rt; id.to_bytes(), COUNTED);
-    assert_eq!(rt; ObjectId::new(id.task(), id.job(), id.index()), Ok(id));
+    same!(rt; id.job(), JobNo(0x0102_0304));
+    same!(rt; id.index(), 0x0506_0708);
+    same!(rt; id.task().0[0], 11);
+    same!(rt; id.task().0[19], 30);
+    same!(rt; id.to_bytes(), COUNTED);
+    same!(rt; ObjectId::new(id.task(), id.job(), id.index()), Ok(id));
     Ok(())
 }
 
@@ -56,13 +57,13 @@ fn other_bytes_are_no_id(rt: HostRuntime) {
     no_job[20..24].copy_from_slice(&[0; 4]);
     let mut no_index = COUNTED;
     no_index[24..28].copy_from_slice(&[0; 4]);
-    assert_eq!(rt; ObjectId::from_bytes(&no_job), Err(Refusal::BadId));
-    assert_eq!(rt; ObjectId::from_bytes(&no_index), Err(Refusal::BadId));
-    assert_eq!(rt; ObjectId::from_bytes(&COUNTED[..27]), Err(Refusal::BadId));
-    assert_eq!(rt; ObjectId::from_bytes(&[1; 29]), Err(Refusal::BadId));
-    assert_eq!(rt; ObjectId::from_bytes(&[]), Err(Refusal::BadId));
-    assert_eq!(rt; numbered(1, 0, 1), Err(Refusal::BadId));
-    assert_eq!(rt; numbered(1, 1, 0), Err(Refusal::BadId));
+    same!(rt; ObjectId::from_bytes(&no_job), Err(Refusal::BadId));
+    same!(rt; ObjectId::from_bytes(&no_index), Err(Refusal::BadId));
+    same!(rt; ObjectId::from_bytes(&COUNTED[..27]), Err(Refusal::BadId));
+    same!(rt; ObjectId::from_bytes(&[1; 29]), Err(Refusal::BadId));
+    same!(rt; ObjectId::from_bytes(&[]), Err(Refusal::BadId));
+    same!(rt; numbered(1, 0, 1), Err(Refusal::BadId));
+    same!(rt; numbered(1, 1, 0), Err(Refusal::BadId));
 }
 
 #[test]
@@ -102,7 +103,7 @@ fn each_right_text_is_read_and_printed(rt: HostRuntime) -> Result<(), Fail> {
     for (text, id) in rows {
         assert_eq!(rt; ObjectId::read(text, SPEAKER), Ok(id), "{text}");
         let written = printed(rt.alloc(), id)?;
-        assert_eq!(rt; written.as_str(), text);
+        same!(rt; written.as_str(), text);
     }
     Ok(())
 }
@@ -110,25 +111,23 @@ fn each_right_text_is_read_and_printed(rt: HostRuntime) -> Result<(), Fail> {
 #[test]
 fn the_full_text_is_read_for_every_id(rt: HostRuntime) -> Result<(), Fail> {
     let first = numbered(1, 1, 1)?;
-    assert_eq!(rt; ObjectId::read_full(FIRST), Ok(first));
-    assert_eq!(rt; ObjectId::read(FIRST, SPEAKER), Ok(first));
-    assert_eq!(rt; ObjectId::read(FIRST, JobNo(2)), Ok(first));
-    assert_eq!(rt; ObjectId::read_short(FIRST, SPEAKER), Err(Refusal::BadId));
-    assert_eq!(rt; ObjectId::read_full("t1.1"), Err(Refusal::BadId));
-    assert!(rt; first.has_short_text());
-    assert!(rt; !ObjectId::from_bytes(&COUNTED)?.has_short_text());
+    same!(rt; ObjectId::read_full(FIRST), Ok(first));
+    same!(rt; ObjectId::read(FIRST, SPEAKER), Ok(first));
+    same!(rt; ObjectId::read(FIRST, JobNo(2)), Ok(first));
+    same!(rt; ObjectId::read_short(FIRST, SPEAKER), Err(Refusal::BadId));
+    same!(rt; ObjectId::read_full("t1.1"), Err(Refusal::BadId));
+    holds!(rt; first.has_short_text());
+    holds!(rt; !ObjectId::from_bytes(&COUNTED)?.has_short_text());
     Ok(())
 }
 
 #[test]
 fn a_short_text_goes_by_the_job_that_speaks(rt: HostRuntime) -> Result<(), Fail> {
-    assert_eq!(rt; ObjectId::read_short("t5.6", JobNo(9)), numbered(5, 9, 6));
-    assert_eq!(rt; ObjectId::read_short("9/t5.6", JobNo(8)), numbered(5, 9, 6));
-    assert_eq!(rt;
-        ObjectId::read_short("9/t5.6", JobNo(9)),
-        Err(Refusal::BadId)
-    );
-    assert_eq!(rt; ObjectId::read_short("t5.6", JobNo(0)), Err(Refusal::BadId));
+    same!(rt; ObjectId::read_short("t5.6", JobNo(9)), numbered(5, 9, 6));
+    same!(rt; ObjectId::read_short("9/t5.6", JobNo(8)), numbered(5, 9, 6));
+    same!(rt; ObjectId::read_short("9/t5.6", JobNo(9)),
+        Err(Refusal::BadId));
+    same!(rt; ObjectId::read_short("t5.6", JobNo(0)), Err(Refusal::BadId));
     Ok(())
 }
 
@@ -191,15 +190,13 @@ fn a_task_is_read_and_printed_by_its_number_or_its_digits(rt: HostRuntime) -> Re
     for (text, task) in rows {
         assert_eq!(rt; TaskNo::read(text), Ok(task), "{text}");
         let written = printed_task(rt.alloc(), task)?;
-        assert_eq!(rt; written.as_str(), text);
+        same!(rt; written.as_str(), text);
     }
-    assert_eq!(rt;
-        TaskNo::read("0000000000000000000000000000000000000001"),
-        Ok(TaskNo::numbered(1))
-    );
-    assert_eq!(rt; TaskNo::read_full(COUNTED_TASK_TEXT), Ok(counted));
-    assert!(rt; TaskNo::numbered(1).has_short_text());
-    assert!(rt; !counted.has_short_text());
+    same!(rt; TaskNo::read("0000000000000000000000000000000000000001"),
+        Ok(TaskNo::numbered(1)));
+    same!(rt; TaskNo::read_full(COUNTED_TASK_TEXT), Ok(counted));
+    holds!(rt; TaskNo::numbered(1).has_short_text());
+    holds!(rt; !counted.has_short_text());
     Ok(())
 }
 
@@ -223,9 +220,9 @@ fn wrong_task_texts_are_refused(rt: HostRuntime) {
 
 #[test]
 fn a_number_is_digits_with_no_leading_zero(rt: HostRuntime) {
-    assert_eq!(rt; read_u64("0"), Some(0));
-    assert_eq!(rt; read_u64("18446744073709551615"), Some(u64::MAX));
-    assert_eq!(rt; read_u32("4294967295"), Some(u32::MAX));
+    same!(rt; read_u64("0"), Some(0));
+    same!(rt; read_u64("18446744073709551615"), Some(u64::MAX));
+    same!(rt; read_u32("4294967295"), Some(u32::MAX));
     for text in [
         "",
         "00",
@@ -239,7 +236,7 @@ fn a_number_is_digits_with_no_leading_zero(rt: HostRuntime) {
         assert_eq!(rt; read_u64(text), None, "{text}");
         assert_eq!(rt; read_u32(text), None, "{text}");
     }
-    assert_eq!(rt; read_u32("4294967296"), None);
+    same!(rt; read_u32("4294967296"), None);
 }
 
 #[test]
@@ -272,16 +269,16 @@ fn each_refusal_has_its_number_and_name(rt: HostRuntime) -> Result<(), Fail> {
     ];
     for (number, name) in rows {
         let refusal = Refusal::from_number(number).ok_or("no such number")?;
-        assert_eq!(rt; refusal.number(), number);
-        assert_eq!(rt; refusal.name(), name);
-        assert_eq!(rt; Refusal::from_name(name), Some(refusal));
+        same!(rt; refusal.number(), number);
+        same!(rt; refusal.name(), name);
+        same!(rt; Refusal::from_name(name), Some(refusal));
     }
-    assert_eq!(rt; Refusal::NotAdmitted.number(), 1);
-    assert_eq!(rt; Refusal::Stale.number(), 24);
-    assert_eq!(rt; Refusal::from_number(0), None);
-    assert_eq!(rt; Refusal::from_number(25), None);
-    assert_eq!(rt; Refusal::from_name("badId"), None);
-    assert_eq!(rt; Refusal::from_name(""), None);
+    same!(rt; Refusal::NotAdmitted.number(), 1);
+    same!(rt; Refusal::Stale.number(), 24);
+    same!(rt; Refusal::from_number(0), None);
+    same!(rt; Refusal::from_number(25), None);
+    same!(rt; Refusal::from_name("badId"), None);
+    same!(rt; Refusal::from_name(""), None);
     Ok(())
 }
 
@@ -291,13 +288,13 @@ fn a_list_keeps_what_it_had_where_memory_is_wanting(rt: HostRuntime) -> Result<(
     for had in 0..20 {
         let job = JobNo(had as u32);
         if items.push(job).is_err() {
-            assert_eq!(rt; items.as_slice().len(), had);
+            same!(rt; items.as_slice().len(), had);
             items.push(job)?;
         }
-        assert_eq!(rt; items.as_slice().len(), had + 1);
-        assert_eq!(rt; items.as_slice().last().copied(), Some(job));
+        same!(rt; items.as_slice().len(), had + 1);
+        same!(rt; items.as_slice().last().copied(), Some(job));
     }
     let none: Items<JobNo> = Items::from_vec(Vec::new(rt.alloc()));
-    assert_eq!(rt; none.as_slice().len(), 0);
+    same!(rt; none.as_slice().len(), 0);
     Ok(())
 }

@@ -1,4 +1,5 @@
 //! The marks of a copy.
+use assertions::{holds, same};
 use obj_id::{CopyState, Digest, Kind, Refusal, WorkKind};
 use object_state::ObjectCopy;
 use private_store::{Fault, WorkVerdict};
@@ -16,9 +17,9 @@ fn sealed(kind: Kind) -> Result<ObjectCopy, Refusal> {
 /// A primary whose bytes the fifth work put on the device.
 fn backed(rt: &impl Abort) -> Result<ObjectCopy, Refusal> {
     let mut copy = sealed(Kind::Primary)?;
-    assert!(rt; copy.can_spill());
+    holds!(rt; copy.can_spill());
     copy.begin_spill();
-    assert_eq!(rt; copy.working(), Some(WorkKind::Write));
+    same!(rt; copy.working(), Some(WorkKind::Write));
     copy.end_spill(5, false);
     Ok(copy)
 }
@@ -26,10 +27,10 @@ fn backed(rt: &impl Abort) -> Result<ObjectCopy, Refusal> {
 /// A primary that is being read back.
 fn restoring(rt: &impl Abort) -> Result<ObjectCopy, Refusal> {
     let mut copy = backed(rt)?;
-    assert!(rt; copy.can_go_away());
+    holds!(rt; copy.can_go_away());
     copy.mark_away();
-    assert_eq!(rt; copy.state(), CopyState::Away);
-    assert!(rt; copy.can_restore());
+    same!(rt; copy.state(), CopyState::Away);
+    holds!(rt; copy.can_restore());
     copy.begin_restore();
     Ok(copy)
 }
@@ -37,54 +38,54 @@ fn restoring(rt: &impl Abort) -> Result<ObjectCopy, Refusal> {
 #[test]
 fn a_copy_is_sealed_once(rt: HostRuntime) -> Result<(), Fail> {
     let mut copy = ObjectCopy::created(Kind::Secondary, 100);
-    assert_eq!(rt; copy.state(), CopyState::Created);
-    assert_eq!(rt; copy.kind(), Kind::Secondary);
-    assert_eq!(rt; copy.length(), 100);
-    assert_eq!(rt; copy.digest(), None);
-    assert!(rt; !copy.was_sealed());
-    assert_eq!(rt; copy.seal_check(), None);
+    same!(rt; copy.state(), CopyState::Created);
+    same!(rt; copy.kind(), Kind::Secondary);
+    same!(rt; copy.length(), 100);
+    same!(rt; copy.digest(), None);
+    holds!(rt; !copy.was_sealed());
+    same!(rt; copy.seal_check(), None);
     copy.seal(DIGEST)?;
-    assert_eq!(rt; copy.state(), CopyState::Sealed);
-    assert_eq!(rt; copy.digest(), Some(DIGEST));
-    assert!(rt; copy.was_sealed());
-    assert_eq!(rt; copy.seal(Digest([0; 32])), Err(Refusal::AlreadySealed));
-    assert_eq!(rt; copy.seal_check(), Some(Refusal::AlreadySealed));
-    assert_eq!(rt; copy.digest(), Some(DIGEST));
+    same!(rt; copy.state(), CopyState::Sealed);
+    same!(rt; copy.digest(), Some(DIGEST));
+    holds!(rt; copy.was_sealed());
+    same!(rt; copy.seal(Digest([0; 32])), Err(Refusal::AlreadySealed));
+    same!(rt; copy.seal_check(), Some(Refusal::AlreadySealed));
+    same!(rt; copy.digest(), Some(DIGEST));
     Ok(())
 }
 
 #[test]
 fn a_fetch_is_sized_and_then_sealed_or_has_failed(rt: HostRuntime) {
     let mut copy = ObjectCopy::fetching();
-    assert_eq!(rt; copy.state(), CopyState::Fetching);
-    assert_eq!(rt; copy.kind(), Kind::Secondary);
-    assert_eq!(rt; copy.length(), 0);
-    assert!(rt; !copy.is_sized());
+    same!(rt; copy.state(), CopyState::Fetching);
+    same!(rt; copy.kind(), Kind::Secondary);
+    same!(rt; copy.length(), 0);
+    holds!(rt; !copy.is_sized());
     copy.sized(300, DIGEST);
-    assert_eq!(rt; copy.length(), 300);
+    same!(rt; copy.length(), 300);
     let mut failed = copy;
-    assert!(rt; copy.is_sized());
+    holds!(rt; copy.is_sized());
     copy.fetched();
-    assert_eq!(rt; copy.state(), CopyState::Sealed);
-    assert_eq!(rt; copy.digest(), Some(DIGEST));
+    same!(rt; copy.state(), CopyState::Sealed);
+    same!(rt; copy.digest(), Some(DIGEST));
     failed.fetch_failed();
-    assert_eq!(rt; failed.state(), CopyState::Fetching);
-    assert_eq!(rt; failed.length(), 300);
-    assert_eq!(rt; failed.digest(), None);
+    same!(rt; failed.state(), CopyState::Fetching);
+    same!(rt; failed.length(), 300);
+    same!(rt; failed.digest(), None);
 }
 
 #[test]
 fn a_write_backs_a_copy_unless_it_fails(rt: HostRuntime) -> Result<(), Fail> {
     let mut copy = backed(&rt)?;
-    assert_eq!(rt; copy.backed(), Some(5));
-    assert_eq!(rt; copy.working(), None);
-    assert!(rt; !copy.can_spill());
+    same!(rt; copy.backed(), Some(5));
+    same!(rt; copy.working(), None);
+    holds!(rt; !copy.can_spill());
     copy = sealed(Kind::Primary)?;
-    assert!(rt; copy.can_spill());
+    holds!(rt; copy.can_spill());
     copy.begin_spill();
     copy.end_spill(6, true);
-    assert_eq!(rt; copy.backed(), None);
-    assert_eq!(rt; copy.working(), None);
+    same!(rt; copy.backed(), None);
+    same!(rt; copy.working(), None);
     Ok(())
 }
 
@@ -101,14 +102,14 @@ fn a_restore_seals_again_or_leaves_a_fault(rt: HostRuntime) -> Result<(), Fail> 
     ];
     for (verdict, state, fault) in rows {
         let mut copy = restoring(&rt)?;
-        assert_eq!(rt; copy.state(), CopyState::Restoring);
-        assert_eq!(rt; copy.working(), Some(WorkKind::Read));
+        same!(rt; copy.state(), CopyState::Restoring);
+        same!(rt; copy.working(), Some(WorkKind::Read));
         copy.end_restore(verdict);
-        assert_eq!(rt; copy.state(), state);
-        assert_eq!(rt; copy.working(), None);
-        assert_eq!(rt; copy.backed(), Some(5));
-        assert_eq!(rt; copy.fault(), fault);
-        assert_eq!(rt; copy.take_fault(), fault);
+        same!(rt; copy.state(), state);
+        same!(rt; copy.working(), None);
+        same!(rt; copy.backed(), Some(5));
+        same!(rt; copy.fault(), fault);
+        same!(rt; copy.take_fault(), fault);
         assert_eq!(rt; copy.take_fault(), None, "a fault is told once");
     }
     Ok(())
@@ -119,27 +120,27 @@ fn what_may_go_is_idle(rt: HostRuntime) -> Result<(), Fail> {
     let secondary = sealed(Kind::Secondary)?;
     let primary = sealed(Kind::Primary)?;
     let spilled = backed(&rt)?;
-    assert!(rt; secondary.is_evictable(false, false));
-    assert!(rt; !secondary.is_evictable(true, false));
-    assert!(rt; !primary.is_evictable(false, false));
-    assert!(rt; spilled.is_evictable(false, false));
-    assert!(rt; !spilled.is_evictable(false, true));
-    assert!(rt; primary.is_spillable(false, false));
-    assert!(rt; !primary.is_spillable(false, true));
-    assert!(rt; !secondary.is_spillable(false, false));
-    assert!(rt; !spilled.is_spillable(false, false));
+    holds!(rt; secondary.is_evictable(false, false));
+    holds!(rt; !secondary.is_evictable(true, false));
+    holds!(rt; !primary.is_evictable(false, false));
+    holds!(rt; spilled.is_evictable(false, false));
+    holds!(rt; !spilled.is_evictable(false, true));
+    holds!(rt; primary.is_spillable(false, false));
+    holds!(rt; !primary.is_spillable(false, true));
+    holds!(rt; !secondary.is_spillable(false, false));
+    holds!(rt; !spilled.is_spillable(false, false));
     let mut doomed = primary;
     doomed.doom();
     doomed.doom();
-    assert!(rt; doomed.doomed());
-    assert!(rt; !doomed.is_spillable(false, false));
+    holds!(rt; doomed.doomed());
+    holds!(rt; !doomed.is_spillable(false, false));
     let mut written = primary;
-    assert!(rt; written.can_spill());
+    holds!(rt; written.can_spill());
     written.begin_spill();
-    assert!(rt; written.is_passing(true, false, false));
-    assert!(rt; !written.is_passing(true, true, false));
-    assert!(rt; !written.is_passing(false, false, false));
-    assert!(rt; !written.is_spillable(false, false));
-    assert!(rt; !primary.is_passing(true, false, false));
+    holds!(rt; written.is_passing(true, false, false));
+    holds!(rt; !written.is_passing(true, true, false));
+    holds!(rt; !written.is_passing(false, false, false));
+    holds!(rt; !written.is_spillable(false, false));
+    holds!(rt; !primary.is_passing(true, false, false));
     Ok(())
 }

@@ -3,6 +3,7 @@ ghost use Rattle.std.specs.Prelude.{◌≡◌, IfOk};
 ghost use Rattle.obj_id.specs.declared.works.Extent.{Extent};
 ghost use Rattle.job_region.specs.Region.{IsAt};
 
+use assertions::{holds, same};
 use job_region::Window;
 use obj_id::{Extent, Refusal};
 use std::alloc::Global;
@@ -56,7 +57,7 @@ fn a_window_s_size_is_in_its_range(rt: HostRuntime) -> Result<(), Fail> {
     }
     for quota in [16, 32, 4096] {
         let mut window = window(rt.alloc(), quota)?;
-        assert_eq!(rt; place(&mut window, quota as u32)?, extent(0, quota));
+        same!(rt; place(&mut window, quota as u32)?, extent(0, quota));
     }
     Ok(())
 }
@@ -64,30 +65,30 @@ fn a_window_s_size_is_in_its_range(rt: HostRuntime) -> Result<(), Fail> {
 #[test]
 fn the_least_place_that_is_free_is_taken(rt: HostRuntime) -> Result<(), Fail> {
     let mut window = window(rt.alloc(), 64)?;
-    assert_eq!(rt; window.check(0), Some(Refusal::BadSize));
-    assert_eq!(rt; window.check(65), Some(Refusal::BadSize));
-    assert_eq!(rt; window.check(16_777_217), Some(Refusal::BadSize));
-    assert_eq!(rt; window.check(64), None);
-    assert_eq!(rt; place(&mut window, 0), Err(Refusal::BadSize));
-    assert_eq!(rt; place(&mut window, 65), Err(Refusal::BadSize));
-    assert_eq!(rt; place(&mut window, 16)?, extent(0, 16));
+    same!(rt; window.check(0), Some(Refusal::BadSize));
+    same!(rt; window.check(65), Some(Refusal::BadSize));
+    same!(rt; window.check(16_777_217), Some(Refusal::BadSize));
+    same!(rt; window.check(64), None);
+    same!(rt; place(&mut window, 0), Err(Refusal::BadSize));
+    same!(rt; place(&mut window, 65), Err(Refusal::BadSize));
+    same!(rt; place(&mut window, 16)?, extent(0, 16));
     let middle = place(&mut window, 17)?;
-    assert_eq!(rt; middle, extent(16, 32));
+    same!(rt; middle, extent(16, 32));
     let last = place(&mut window, 1)?;
-    assert_eq!(rt; last, extent(48, 16));
-    assert_eq!(rt; place(&mut window, 1), Err(Refusal::Full));
-    assert_eq!(rt; window.check(1), Some(Refusal::Full));
-    assert_eq!(rt; window.fits_without(&[], 1), None);
-    assert_eq!(rt; window.fits_without(&[middle], 32), Some(16));
-    assert_eq!(rt; window.fits_without(&[middle], 33), None);
-    assert_eq!(rt; window.fits_without(&[last], 16), Some(48));
+    same!(rt; last, extent(48, 16));
+    same!(rt; place(&mut window, 1), Err(Refusal::Full));
+    same!(rt; window.check(1), Some(Refusal::Full));
+    same!(rt; window.fits_without(&[], 1), None);
+    same!(rt; window.fits_without(&[middle], 32), Some(16));
+    same!(rt; window.fits_without(&[middle], 33), None);
+    same!(rt; window.fits_without(&[last], 16), Some(48));
     window.give_back(middle);
-    assert_eq!(rt; window.check(32), None);
-    assert_eq!(rt; place(&mut window, 16)?, extent(16, 16));
-    assert_eq!(rt; place(&mut window, 16)?, extent(32, 16));
-    assert_eq!(rt; place(&mut window, 16), Err(Refusal::Full));
+    same!(rt; window.check(32), None);
+    same!(rt; place(&mut window, 16)?, extent(16, 16));
+    same!(rt; place(&mut window, 16)?, extent(32, 16));
+    same!(rt; place(&mut window, 16), Err(Refusal::Full));
     window.clear();
-    assert_eq!(rt; place(&mut window, 64)?, extent(0, 64));
+    same!(rt; place(&mut window, 64)?, extent(0, 64));
     Ok(())
 }
 
@@ -95,13 +96,13 @@ fn the_least_place_that_is_free_is_taken(rt: HostRuntime) -> Result<(), Fail> {
 fn a_new_extent_shows_zeros(rt: HostRuntime) -> Result<(), Fail> {
     let mut window = window(rt.alloc(), 48)?;
     let first = place(&mut window, 5)?;
-    assert!(rt; shows(&window, &first, &[0; 16]));
-    assert_eq!(rt; write(&mut window, &first, 0, &[1; 16]), Ok(()));
-    assert!(rt; shows(&window, &first, &[1; 16]));
+    holds!(rt; shows(&window, &first, &[0; 16]));
+    same!(rt; write(&mut window, &first, 0, &[1; 16]), Ok(()));
+    holds!(rt; shows(&window, &first, &[1; 16]));
     window.give_back(first);
     let second = place(&mut window, 20)?;
-    assert_eq!(rt; second, extent(0, 32));
-    assert!(rt; shows(&window, &second, &[0; 32]));
+    same!(rt; second, extent(0, 32));
+    holds!(rt; shows(&window, &second, &[0; 32]));
     Ok(())
 }
 
@@ -110,20 +111,16 @@ fn a_write_stays_within_its_extent(rt: HostRuntime) -> Result<(), Fail> {
     let mut window = window(rt.alloc(), 48)?;
     let first = place(&mut window, 16)?;
     let second = place(&mut window, 16)?;
-    assert_eq!(rt;
-        write(&mut window, &second, 9, &[7; 8]),
-        Err(Refusal::OutOfBounds)
-    );
-    assert_eq!(rt;
-        write(&mut window, &second, 17, &[]),
-        Err(Refusal::OutOfBounds)
-    );
-    assert!(rt; shows(&window, &second, &[0; 16]));
-    assert_eq!(rt; write(&mut window, &second, 16, &[]), Ok(()));
-    assert_eq!(rt; write(&mut window, &second, 14, &[7, 8]), Ok(()));
+    same!(rt; write(&mut window, &second, 9, &[7; 8]),
+        Err(Refusal::OutOfBounds));
+    same!(rt; write(&mut window, &second, 17, &[]),
+        Err(Refusal::OutOfBounds));
+    holds!(rt; shows(&window, &second, &[0; 16]));
+    same!(rt; write(&mut window, &second, 16, &[]), Ok(()));
+    same!(rt; write(&mut window, &second, 14, &[7, 8]), Ok(()));
     let written = [0, 0, 0, 0, 0, 0, 0, 0, 0, 0, 0, 0, 0, 0, 7, 8];
-    assert!(rt; shows(&window, &second, &written));
-    assert!(rt; shows(&window, &first, &[0; 16]));
+    holds!(rt; shows(&window, &second, &written));
+    holds!(rt; shows(&window, &first, &[0; 16]));
     Ok(())
 }
 
@@ -131,18 +128,18 @@ fn a_write_stays_within_its_extent(rt: HostRuntime) -> Result<(), Fail> {
 fn a_window_is_resized_round_its_extents(rt: HostRuntime) -> Result<(), Fail> {
     let mut window = window(rt.alloc(), 32)?;
     let first = place(&mut window, 16)?;
-    assert_eq!(rt; resize(&mut window, 24), Err(Refusal::BadSize));
-    assert_eq!(rt; resize(&mut window, 64), Ok(()));
+    same!(rt; resize(&mut window, 24), Err(Refusal::BadSize));
+    same!(rt; resize(&mut window, 64), Ok(()));
     let second = place(&mut window, 40)?;
-    assert_eq!(rt; second, extent(16, 48));
-    assert!(rt; shows(&window, &second, &[0; 48]));
-    assert!(rt; shows(&window, &first, &[0; 16]));
-    assert_eq!(rt; window.resize_check(48), Some(Refusal::Full));
-    assert_eq!(rt; resize(&mut window, 48), Err(Refusal::Full));
+    same!(rt; second, extent(16, 48));
+    holds!(rt; shows(&window, &second, &[0; 48]));
+    holds!(rt; shows(&window, &first, &[0; 16]));
+    same!(rt; window.resize_check(48), Some(Refusal::Full));
+    same!(rt; resize(&mut window, 48), Err(Refusal::Full));
     window.give_back(second);
-    assert_eq!(rt; window.resize_check(16), None);
-    assert_eq!(rt; resize(&mut window, 16), Ok(()));
-    assert_eq!(rt; place(&mut window, 1), Err(Refusal::Full));
+    same!(rt; window.resize_check(16), None);
+    same!(rt; resize(&mut window, 16), Ok(()));
+    same!(rt; place(&mut window, 1), Err(Refusal::Full));
     Ok(())
 }
 

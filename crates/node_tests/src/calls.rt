@@ -2,8 +2,9 @@
 ghost use Rattle.std.specs.Prelude.{◌≡◌, true};
 ghost use Rattle.node_core.specs.Built.{is_built};
 
+use assertions::{holds, same};
 use bytes::Bytes;
-use node_core::Node;
+use node_core::{Node, Outcome};
 use obj_id::{Command, JobKey, JobNo, Kind, ObjectId, Quota, Refusal, Reply, TaskNo, Usage};
 use private_store::Event;
 use std::alloc::{AllocError, Global};
@@ -17,16 +18,50 @@ const NEIGHBOURS_KEY: JobKey = JobKey([8; 32]);
 /// A length that no Read may carry.
 const LONG: u32 = 65_552;
 
-/// Gives the node an event that it doesn't refuse, and once more where memory was wanting.
+/// What jobs 1 and 2 use.
+fn usages(node: &Node) -> [Result<Usage, Refusal>; 2] {
+    [node.usage(JobNo(1)), node.usage(JobNo(2))]
+}
+
+/// What the event gives, which is taken once more if memory ran out: then nothing has changed.
+pub(crate) fn taken(rt: &impl Abort, node: &mut Node, event: &Event) -> Result<Outcome, Refusal>
+    requires { is_built event.now ≡ true }
+{
+    let before = usages(node);
+    match node.apply(event) {
+        Ok(outcome) => Ok(outcome),
+        Err(_) => {
+            same!(rt; usages(node), before);
+            node.apply(event)
+        }
+    }
+}
+
+/// Gives the node an event that it doesn't refuse.
 fn carry_out(rt: &impl Abort, node: &mut Node, event: &Event) -> Result<(), Refusal>
     requires { is_built event.now ≡ true }
 {
-    let outcome = match node.apply(event) {
-        Ok(outcome) => outcome,
-        Err(_) => node.apply(event)?,
-    };
+    let outcome = taken(rt, node, event)?;
     assert!(rt; !matches!(outcome.reply, Reply::Refused(_)));
     Ok(())
+}
+
+// What a node's calls promise is long. The tests call them by these, which promise nothing.
+
+fn enter(node: &mut Node, job: u32, key: &JobKey) -> Result<u32, Refusal> {
+    node.enter(JobNo(job), key)
+}
+
+fn usage(node: &Node, job: u32) -> Result<Usage, Refusal> {
+    node.usage(JobNo(job))
+}
+
+fn lent(node: &Node, job: u32, session: u32, id: ObjectId) -> Result<&[u8], Refusal> {
+    node.read_borrowed(JobNo(job), session, &id)
+}
+
+fn end_job(rt: &impl Abort, node: &mut Node, job: u32) -> Result<(), Refusal> {
+    carry_out(rt, node, &Event::JobEnd(JobNo(job)))
 }
 
 fn admit(rt: &impl Abort, node: &mut Node, job: u32, key: JobKey) -> Result<(), Refusal> {
@@ -55,6 +90,25 @@ fn create(rt: &impl Abort, node: &mut Node, id: ObjectId, len: u32) -> Result<()
     carry_out(rt, node, &Event::Call(id.job(), 1, command))
 }
 
+fn write(
+    rt: &impl Abort,
+    node: &mut Node,
+    id: ObjectId,
+    offset: u32,
+    bytes: Bytes,
+) -> Result<(), Refusal> {
+    let command = Command::Write(id, offset, bytes);
+    carry_out(rt, node, &Event::Call(id.job(), 1, command))
+}
+
+fn seal(rt: &impl Abort, node: &mut Node, id: ObjectId) -> Result<(), Refusal> {
+    carry_out(rt, node, &Event::Call(id.job(), 1, Command::Seal(id)))
+}
+
+fn get(rt: &impl Abort, node: &mut Node, id: ObjectId) -> Result<(), Refusal> {
+    carry_out(rt, node, &Event::Call(id.job(), 1, Command::Get(id)))
+}
+
 fn payload(alloc: Global, bytes: &[u8]) -> Result<Bytes, AllocError> {
     match Bytes::copy_from_slice(alloc, bytes) {
         Ok(bytes) => Ok(bytes),
@@ -65,19 +119,18 @@ fn payload(alloc: Global, bytes: &[u8]) -> Result<Bytes, AllocError> {
 #[test]
 fn sessions_enter_by_their_jobs_key(rt: HostRuntime) -> Result<(), Fail> {
     let mut node = node_of_two(&rt, rt.alloc())?;
-    let job = JobNo(1);
     let mut nearly = KEY;
     nearly.0[31] = 6;
-    assert_eq!(rt; node.enter(job, &KEY), Ok(1));
-    assert_eq!(rt; node.enter(job, &NEIGHBOURS_KEY), Err(Refusal::NotAdmitted));
-    assert_eq!(rt; node.enter(job, &nearly), Err(Refusal::NotAdmitted));
-    assert_eq!(rt; node.enter(JobNo(9), &KEY), Err(Refusal::NotAdmitted));
-    assert_eq!(rt; node.enter(job, &KEY), Ok(2));
-    assert_eq!(rt; node.enter(JobNo(2), &NEIGHBOURS_KEY), Ok(1));
-    assert_eq!(rt; node.enter(job, &KEY), Ok(3));
-    carry_out(&rt, &mut node, &Event::JobEnd(job))?;
-    assert_eq!(rt; node.enter(job, &KEY), Err(Refusal::NotAdmitted));
-    assert_eq!(rt; node.enter(JobNo(2), &NEIGHBOURS_KEY), Ok(2));
+    same!(rt; enter(&mut node, 1, &KEY), Ok(1));
+    same!(rt; enter(&mut node, 1, &NEIGHBOURS_KEY), Err(Refusal::NotAdmitted));
+    same!(rt; enter(&mut node, 1, &nearly), Err(Refusal::NotAdmitted));
+    same!(rt; enter(&mut node, 9, &KEY), Err(Refusal::NotAdmitted));
+    same!(rt; enter(&mut node, 1, &KEY), Ok(2));
+    same!(rt; enter(&mut node, 2, &NEIGHBOURS_KEY), Ok(1));
+    same!(rt; enter(&mut node, 1, &KEY), Ok(3));
+    end_job(&rt, &mut node, 1)?;
+    same!(rt; enter(&mut node, 1, &KEY), Err(Refusal::NotAdmitted));
+    same!(rt; enter(&mut node, 2, &NEIGHBOURS_KEY), Ok(2));
     Ok(())
 }
 
@@ -98,32 +151,30 @@ fn usage_is_told_without_a_session(rt: HostRuntime) -> Result<(), Fail> {
         copies: 1,
         ..unused
     };
-    assert_eq!(rt; node.usage(JobNo(1)), Ok(used));
-    assert_eq!(rt; node.usage(JobNo(2)), Ok(unused));
-    assert_eq!(rt; node.usage(JobNo(9)), Err(Refusal::NotAdmitted));
-    carry_out(&rt, &mut node, &Event::JobEnd(JobNo(1)))?;
-    assert_eq!(rt; node.usage(JobNo(1)), Err(Refusal::NotAdmitted));
+    same!(rt; usage(&node, 1), Ok(used));
+    same!(rt; usage(&node, 2), Ok(unused));
+    same!(rt; usage(&node, 9), Err(Refusal::NotAdmitted));
+    end_job(&rt, &mut node, 1)?;
+    same!(rt; usage(&node, 1), Err(Refusal::NotAdmitted));
     Ok(())
 }
 
 #[test]
 fn a_held_object_is_lent_whole(rt: HostRuntime) -> Result<(), Fail> {
-    let alloc = rt.alloc();
-    let mut node = node_of_two(&rt, alloc)?;
-    let job = JobNo(1);
+    let mut node = node_of_two(&rt, rt.alloc())?;
     let id = object(1, 1)?;
     create(&rt, &mut node, id, LONG)?;
-    let write = Command::Write(id, LONG - 4, payload(alloc, b"abcd")?);
-    carry_out(&rt, &mut node, &Event::Call(job, 1, write))?;
-    assert_eq!(rt; node.read_borrowed(job, 1, &id), Err(Refusal::NotSealed));
-    carry_out(&rt, &mut node, &Event::Call(job, 1, Command::Seal(id)))?;
-    assert_eq!(rt; node.read_borrowed(job, 1, &id), Err(Refusal::NotHeld));
-    carry_out(&rt, &mut node, &Event::Call(job, 1, Command::Get(id)))?;
-    let bytes = node.read_borrowed(job, 1, &id)?;
-    assert_eq!(rt; bytes.len(), LONG as usize);
-    assert!(rt; bytes.starts_with(&[0; 4]));
-    assert!(rt; bytes.ends_with(b"abcd"));
-    assert_eq!(rt; node.read_borrowed(job, 2, &id), Err(Refusal::NotHeld));
+    let end = payload(rt.alloc(), b"abcd")?;
+    write(&rt, &mut node, id, LONG - 4, end)?;
+    same!(rt; lent(&node, 1, 1, id), Err(Refusal::NotSealed));
+    seal(&rt, &mut node, id)?;
+    same!(rt; lent(&node, 1, 1, id), Err(Refusal::NotHeld));
+    get(&rt, &mut node, id)?;
+    let bytes = lent(&node, 1, 1, id)?;
+    same!(rt; bytes.len(), LONG as usize);
+    holds!(rt; bytes.starts_with(&[0; 4]));
+    holds!(rt; bytes.ends_with(b"abcd"));
+    same!(rt; lent(&node, 1, 2, id), Err(Refusal::NotHeld));
     Ok(())
 }
 
@@ -132,18 +183,13 @@ fn what_a_session_may_not_see_is_not_lent(rt: HostRuntime) -> Result<(), Fail> {
     let mut node = node_of_two(&rt, rt.alloc())?;
     let id = object(1, 1)?;
     create(&rt, &mut node, id, 16)?;
-    carry_out(&rt, &mut node, &Event::Call(JobNo(1), 1, Command::Seal(id)))?;
-    carry_out(&rt, &mut node, &Event::Call(JobNo(1), 1, Command::Get(id)))?;
-    let rows = [
-        (1, object(1, 2)?, Refusal::Absent),
-        (2, id, Refusal::NotGranted),
-        (1, object(2, 1)?, Refusal::NotGranted),
-        (1, object(9, 1)?, Refusal::NotGranted),
-        (9, object(9, 1)?, Refusal::NotAdmitted),
-        (9, id, Refusal::NotAdmitted),
-    ];
-    for (job, id, refusal) in rows {
-        assert_eq!(rt; node.read_borrowed(JobNo(job), 1, &id), Err(refusal));
-    }
+    seal(&rt, &mut node, id)?;
+    get(&rt, &mut node, id)?;
+    same!(rt; lent(&node, 1, 1, object(1, 2)?), Err(Refusal::Absent));
+    same!(rt; lent(&node, 2, 1, id), Err(Refusal::NotGranted));
+    same!(rt; lent(&node, 1, 1, object(2, 1)?), Err(Refusal::NotGranted));
+    same!(rt; lent(&node, 1, 1, object(9, 1)?), Err(Refusal::NotGranted));
+    same!(rt; lent(&node, 9, 1, object(9, 1)?), Err(Refusal::NotAdmitted));
+    same!(rt; lent(&node, 9, 1, id), Err(Refusal::NotAdmitted));
     Ok(())
 }

@@ -2,9 +2,11 @@
 ghost use Rattle.std.specs.Prelude.{◌≡◌, true, IfOk};
 ghost use Rattle.node_core.specs.Built.{is_built};
 
+use crate::calls::taken;
 use crate::steps::step_of;
-use node_core::{Node, Outcome};
-use obj_id::{Command, Refusal};
+use assertions::same;
+use node_core::Node;
+use obj_id::Command;
 use private_store::{Event, Judged, Step};
 use std::alloc::{AllocError, Global};
 use std::process::Abort;
@@ -31,16 +33,6 @@ fn event_of(rt: &impl Abort, alloc: Global, line: &str) -> Result<Event, AllocEr
     match step_of(rt, alloc, line)? {
         Step::At(_, event) => Ok(event),
         Step::Deliver { .. } => panic!(rt; "not an event"),
-    }
-}
-
-/// What the event gives, which is taken once more where memory was wanting.
-fn taken(node: &mut Node, event: &Event) -> Result<Outcome, Refusal>
-    requires { is_built event.now ≡ true }
-{
-    match node.apply(event) {
-        Ok(outcome) => Ok(outcome),
-        Err(_) => node.apply(event),
     }
 }
 
@@ -85,11 +77,11 @@ fn check(rt: &impl Abort, alloc: Global, events: &[Expected]) -> Result<(), Fail
     for due in events {
         let event = event_of(rt, alloc, due.line)?;
         let foreseen = node.foresee(&event);
-        let outcome = taken(&mut node, &event)?;
-        assert_eq!(rt; foreseen.most_messages, due.most);
-        assert_eq!(rt; outcome.messages.as_slice().len(), due.sent);
-        assert_eq!(rt; word_of(&foreseen.judged), due.judged);
-        assert_eq!(rt; bytes_of(&foreseen.judged), due.bytes);
+        let outcome = taken(rt, &mut node, &event)?;
+        same!(rt; foreseen.most_messages, due.most);
+        same!(rt; outcome.messages.as_slice().len(), due.sent);
+        same!(rt; word_of(&foreseen.judged), due.judged);
+        same!(rt; bytes_of(&foreseen.judged), due.bytes);
     }
     Ok(())
 }

@@ -3,7 +3,8 @@ ghost use Rattle.std.specs.Prelude.{◌≡◌, true, length, IfOk};
 ghost use Rattle.std.specs.List.{list_all};
 ghost use Rattle.world_core.specs.Worlds.{is_built_step as is_built_step_lem};
 
-use obj_id::{JobNo, Refusal, Reply};
+use assertions::same;
+use obj_id::{Command, JobNo, Refusal, Reply, Usage};
 use private_store::{Event, Step, StepAnswer};
 use schedule_text::{Line, Prefix, answer_line, read_line};
 use std::alloc::{AllocError, Global};
@@ -41,14 +42,28 @@ fn printed(alloc: Global, step: &Step, answer: &StepAnswer) -> Result<String, Al
     }
 }
 
-/// What the world answers to the line's step, which it is given once more where memory was wanting.
+/// What the job uses at the node; nothing if it isn't live.
+fn usage(world: &mut World, job: u32) -> Option<Usage>
+    requires { length world.old.nodes ≡ 1 }
+    ensures { length world.new.nodes ≡ 1 }
+{
+    let step = Step::At(0, Event::Call(JobNo(job), 1, Command::Usage));
+    match world.step(&step) {
+        StepAnswer::Told(Reply::Usage(usage)) => Some(usage),
+        _ => None,
+    }
+}
+
+/// What the world answers to the line's step, which it is given once more if memory ran out: then nothing has changed.
 fn told(rt: &impl Abort, alloc: Global, world: &mut World, line: &str) -> Result<String, AllocError>
     requires { length world.old.nodes ≡ 1 }
     ensures { length world.new.nodes ≡ 1 }
 {
     let step = step_of(rt, alloc, line)?;
+    let before = [usage(world, 1), usage(world, 2)];
     let mut answer = world.step(&step);
     if wants_memory(&answer) {
+        same!(rt; [usage(world, 1), usage(world, 2)], before);
         answer = world.step(&step);
     }
     printed(alloc, &step, &answer)
@@ -67,7 +82,7 @@ fn new_world(alloc: Global) -> Result<World, Refusal>
 fn check(rt: &impl Abort, alloc: Global, lines: &[(&str, &str)]) -> Result<(), Fail> {
     let mut world = new_world(alloc)?;
     for (line, answer) in lines {
-        assert_eq!(rt; told(rt, alloc, &mut world, line)?.as_str(), *answer);
+        same!(rt; told(rt, alloc, &mut world, line)?.as_str(), *answer);
     }
     Ok(())
 }
@@ -136,7 +151,7 @@ fn schedule_of(rt: &impl Abort, alloc: Global, lines: &[&str]) -> Result<Vec<Ste
     Ok(steps)
 }
 
-/// What the job was told, line by line; nothing where memory was wanting in the run.
+/// What the job was told, line by line; nothing if memory ran out in the run.
 fn told_to(alloc: Global, job: JobNo, trace: &Trace) -> Result<Option<String>, AllocError> {
     let mut all = String::new(alloc);
     for entry in trace.entries() {
@@ -155,8 +170,7 @@ fn told_to(alloc: Global, job: JobNo, trace: &Trace) -> Result<Option<String>, A
     Ok(Some(all))
 }
 
-/// What a job is told in a run beside a neighbour, and in one without it; nothing where memory was
-/// wanting.
+/// What a job is told in a run beside a neighbour, and in one without it; nothing if memory ran out.
 fn beside_and_alone(
     rt: &impl Abort,
     alloc: Global,
@@ -201,12 +215,12 @@ fn a_job_is_told_the_same_without_its_neighbour(rt: HostRuntime) -> Result<(), F
         Some(told) => told,
         None => match beside_and_alone(&rt, alloc, &beside, &alone)? {
             Some(told) => told,
-            None => panic!(rt; "memory was wanting twice"),
+            None => panic!(rt; "out of memory twice"),
         },
     };
     let due =
         "n0 j1 s1 placed 0 32\nn0 j1 s1 ok\nn0 j1 s1 placed 0 32\nn0 j1 s1 list t1.2:created:primary:32\n";
-    assert_eq!(rt; told.0.as_str(), due);
-    assert_eq!(rt; told.1.as_str(), due);
+    same!(rt; told.0.as_str(), due);
+    same!(rt; told.1.as_str(), due);
     Ok(())
 }

@@ -1,7 +1,40 @@
-//! Two texts, line by line.
-ghost use Rattle.std.specs.Prelude.{◌≡◌, ◌↔◌, None};
+//! Two texts, line by line, and how many of them differ.
+ghost use Rattle.std.specs.Prelude.{◌≡◌, ◌+◌, ◌<◌, ◌↔◌, None, IsSome};
 
 use std::str;
+
+/// The schedules that were run, and those of them that were answered otherwise than expected.
+#[derive(Clone, Copy)]
+pub struct Tally {
+    pub schedules: usize,
+    pub differing: usize,
+}
+
+impl Tally {
+    pub fn new() -> Tally
+        ensures schedules { result.schedules ≡ 0 }
+        ensures differing { result.differing ≡ 0 }
+    {
+        Tally {
+            schedules: 0,
+            differing: 0,
+        }
+    }
+
+    /// Counts a schedule, by the first line at which it differs.
+    pub fn add(&mut self, difference: Option<u64>)
+        requires schedules { self.old.schedules < 18446744073709551615 }
+        requires differing { self.old.differing < 18446744073709551615 }
+        ensures schedules { self.new.schedules ≡ self.old.schedules + 1 }
+        ensures same { difference ≡ None → self.new.differing ≡ self.old.differing }
+        ensures differs { IsSome difference → self.new.differing ≡ self.old.differing + 1 }
+    {
+        self.schedules += 1;
+        if difference.is_some() {
+            self.differing += 1;
+        }
+    }
+}
 
 /// The number, counted from 1, of the first line at which the texts differ.
 pub fn first_difference(expected: &[u8], printed: &[u8]) -> Option<u64>

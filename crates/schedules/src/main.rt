@@ -9,7 +9,9 @@ mod compare;
 mod files;
 mod transcript;
 
-use compare::{first_difference, line_at};
+ghost use Rattle.std.specs.Prelude.{◌≡◌, length, IfOk};
+
+use compare::{Tally, first_difference, line_at};
 use files::{Case, schedules_in};
 use std::alloc::Global;
 use std::process::ExitCode;
@@ -18,29 +20,40 @@ use transcript::told;
 
 fn main(rt: HostRuntime) -> io::Result<ExitCode> {
     let folders: Vec<String> = env::args(&rt)?.skip(1).collect(rt.alloc())?;
-    let mut count: u64 = 0;
-    let mut differing: u64 = 0;
+    let mut names = Vec::new(rt.alloc());
     for folder in folders.iter() {
-        for name in schedules_in(&rt, folder.as_str())?.iter() {
-            count = count.saturating_add(1);
-            if differs(&rt, name.as_str())? {
-                differing = differing.saturating_add(1);
-            }
+        for name in schedules_in(&rt, folder.as_str())? {
+            names.push(name)?;
         }
     }
-    println!(rt; "{count} schedules, {differing} differ")?;
+    let Tally {
+        schedules,
+        differing,
+    } = run_all(&rt, names.as_slice())?;
+    println!(rt; "{schedules} schedules, {differing} differ")?;
     Ok(ExitCode::SUCCESS)
 }
 
+/// Runs each of these schedules.
+fn run_all(rt: &HostRuntime, names: &[String]) -> io::Result<Tally>
+    ensures { IfOk result (λ tally. tally.schedules ≡ length names.now) }
+{
+    let mut tally = Tally::new();
+    for name in names {
+        tally.add(difference_of(rt, name.as_str())?);
+    }
+    Ok(tally)
+}
+
 /// Runs one schedule, and prints the first line that isn't as expected, if there is one.
-fn differs(rt: &HostRuntime, name: &str) -> io::Result<bool> {
+fn difference_of(rt: &HostRuntime, name: &str) -> io::Result<Option<u64>> {
     let case = Case::read(rt, name)?;
     let printed = told(rt.alloc(), case.words.as_slice(), case.schedule.as_slice())?;
     let Some(line) = first_difference(case.expected.as_slice(), printed.as_slice()) else {
-        return Ok(false);
+        return Ok(None);
     };
     let expected = line_at(case.expected.as_slice(), line);
     let printed = line_at(printed.as_slice(), line);
     println!(rt; "{name}: line {line}: `{printed}` in place of `{expected}`")?;
-    Ok(true)
+    Ok(Some(line))
 }

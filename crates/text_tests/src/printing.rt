@@ -1,4 +1,5 @@
 //! Answers as they are printed.
+use assertions::same;
 use bytes::Bytes;
 use obj_id::{
     CopyState, DeviceKey, GrantedItem, Items, JobKey, JobNo, Kind, Message, ObjectId, OwnItem,
@@ -7,6 +8,7 @@ use obj_id::{
 use private_store::{Event, Step, StepAnswer};
 use schedule_text::{Prefix, answer_line};
 use std::alloc::{AllocError, Global};
+use std::process::Abort;
 use std::test::Fail;
 
 const SESSION: Prefix = Prefix::Session(0, JobNo(1), 3);
@@ -23,8 +25,28 @@ fn line(alloc: Global, prefix: Prefix, answer: &StepAnswer) -> Result<String, Al
     }
 }
 
-fn told(alloc: Global, prefix: Prefix, reply: Reply<Bytes>) -> Result<String, AllocError> {
-    line(alloc, prefix, &StepAnswer::Told(reply))
+/// Checks what is printed of the answer.
+fn is_line(
+    rt: &impl Abort,
+    alloc: Global,
+    prefix: Prefix,
+    answer: StepAnswer,
+    text: &str,
+) -> Result<(), AllocError> {
+    let line = line(alloc, prefix, &answer)?;
+    same!(rt; line.as_str(), text);
+    Ok(())
+}
+
+/// Checks what is printed of the reply.
+fn prints(
+    rt: &impl Abort,
+    alloc: Global,
+    prefix: Prefix,
+    reply: Reply<Bytes>,
+    text: &str,
+) -> Result<(), AllocError> {
+    is_line(rt, alloc, prefix, StepAnswer::Told(reply), text)
 }
 
 fn numbered(task: u64, job: u32, index: u32) -> Result<ObjectId, Refusal> {
@@ -89,67 +111,74 @@ fn own_and_granted(
 #[test]
 fn the_operator_is_answered(rt: HostRuntime) -> Result<(), Fail> {
     let alloc = rt.alloc();
-    assert_eq!(rt; told(alloc, OPERATOR, Reply::Ok)?.as_str(), "n1 op ok\n");
-    let refused = told(alloc, OPERATOR, Reply::Refused(Refusal::NoRoom))?;
-    assert_eq!(rt; refused.as_str(), "n1 op refused 21 NoRoom\n");
-    let refused = told(alloc, OPERATOR, Reply::Refused(Refusal::NoMemory))?;
-    assert_eq!(rt; refused.as_str(), "n1 op refused 19 NoMemory\n");
+    let rows = [
+        (Reply::Ok, "n1 op ok\n"),
+        (Reply::Refused(Refusal::NoRoom), "n1 op refused 21 NoRoom\n"),
+        (
+            Reply::Refused(Refusal::NoMemory),
+            "n1 op refused 19 NoMemory\n",
+        ),
+    ];
+    for (reply, text) in rows {
+        prints(&rt, alloc, OPERATOR, reply, text)?;
+    }
     Ok(())
 }
 
 #[test]
 fn a_session_is_answered(rt: HostRuntime) -> Result<(), Fail> {
     let alloc = rt.alloc();
-    assert_eq!(rt; told(alloc, SESSION, Reply::Ok)?.as_str(), "n0 j1 s3 ok\n");
-    let placed = told(alloc, SESSION, Reply::Placed(0, 32))?;
-    assert_eq!(rt; placed.as_str(), "n0 j1 s3 placed 0 32\n");
-    assert_eq!(rt;
-        told(alloc, SESSION, Reply::Got(20))?.as_str(),
-        "n0 j1 s3 got 20\n"
-    );
-    let hello = told(alloc, SESSION, Reply::Bytes(Bytes::from_static(b"Hello")))?;
-    assert_eq!(rt; hello.as_str(), "n0 j1 s3 bytes 48656c6c6f\n");
-    let high = told(
+    prints(&rt, alloc, SESSION, Reply::Ok, "n0 j1 s3 ok\n")?;
+    prints(
+        &rt,
         alloc,
         SESSION,
-        Reply::Bytes(Bytes::from_static(&[0, 255, 10])),
+        Reply::Placed(0, 32),
+        "n0 j1 s3 placed 0 32\n",
     )?;
-    assert_eq!(rt; high.as_str(), "n0 j1 s3 bytes 00ff0a\n");
-    let none = told(alloc, SESSION, Reply::Bytes(Bytes::new()))?;
-    assert_eq!(rt; none.as_str(), "n0 j1 s3 bytes -\n");
-    let refused = told(alloc, SESSION, Reply::Refused(Refusal::Pending))?;
-    assert_eq!(rt; refused.as_str(), "n0 j1 s3 refused 10 Pending\n");
+    prints(&rt, alloc, SESSION, Reply::Got(20), "n0 j1 s3 got 20\n")?;
+    let refused = Reply::Refused(Refusal::Pending);
+    prints(
+        &rt,
+        alloc,
+        SESSION,
+        refused,
+        "n0 j1 s3 refused 10 Pending\n",
+    )?;
+    Ok(())
+}
+
+#[test]
+fn bytes_are_printed_as_digits(rt: HostRuntime) -> Result<(), Fail> {
+    let alloc = rt.alloc();
+    let hello = Reply::Bytes(Bytes::from_static(b"Hello"));
+    prints(&rt, alloc, SESSION, hello, "n0 j1 s3 bytes 48656c6c6f\n")?;
+    let high = Reply::Bytes(Bytes::from_static(&[0, 255, 10]));
+    prints(&rt, alloc, SESSION, high, "n0 j1 s3 bytes 00ff0a\n")?;
+    let none = Reply::Bytes(Bytes::new());
+    prints(&rt, alloc, SESSION, none, "n0 j1 s3 bytes -\n")?;
     Ok(())
 }
 
 #[test]
 fn usage_is_six_numbers(rt: HostRuntime) -> Result<(), Fail> {
-    let usage = Usage {
+    let usage = Reply::Usage(Usage {
         window: 64,
         window_used: 32,
         device: 1_099_511_627_776,
         device_used: 16,
         copies: 2,
         works: 1,
-    };
-    let line = told(rt.alloc(), SESSION, Reply::Usage(usage))?;
-    assert_eq!(rt;
-        line.as_str(),
-        "n0 j1 s3 usage 64 32 1099511627776 16 2 1\n"
-    );
-    Ok(())
+    });
+    let text = "n0 j1 s3 usage 64 32 1099511627776 16 2 1\n";
+    Ok(prints(&rt, rt.alloc(), SESSION, usage, text)?)
 }
 
 #[test]
 fn an_empty_list_is_one_word(rt: HostRuntime) -> Result<(), Fail> {
     let alloc = rt.alloc();
-    let line = told(
-        alloc,
-        SESSION,
-        Reply::List(Items::new(alloc), Items::new(alloc)),
-    )?;
-    assert_eq!(rt; line.as_str(), "n0 j1 s3 list\n");
-    Ok(())
+    let list = Reply::List(Items::new(alloc), Items::new(alloc));
+    Ok(prints(&rt, alloc, SESSION, list, "n0 j1 s3 list\n")?)
 }
 
 #[test]
@@ -161,12 +190,9 @@ fn own_items_come_before_granted_ones(rt: HostRuntime) -> Result<(), Fail> {
         Ok(list) => list,
         Err(_) => own_and_granted(alloc, id, granted)?,
     };
-    let line = told(alloc, SESSION, list)?;
-    assert_eq!(rt;
-        line.as_str(),
-        "n0 j1 s3 list t1.1:fetching:secondary:20 t1.1:created:primary:7 2/t1.1:granted:4:1 2/t1.1:granted:5:3\n"
-    );
-    Ok(())
+    let text =
+        "n0 j1 s3 list t1.1:fetching:secondary:20 t1.1:created:primary:7 2/t1.1:granted:4:1 2/t1.1:granted:5:3\n";
+    Ok(prints(&rt, alloc, SESSION, list, text)?)
 }
 
 #[test]
@@ -174,12 +200,10 @@ fn a_task_without_a_number_is_printed_in_full(rt: HostRuntime) -> Result<(), Fai
     let alloc = rt.alloc();
     let id = ObjectId::new(TaskNo([7; 20]), JobNo(1), 258)?;
     let items = one(alloc, id, CopyState::Sealed, Kind::Primary)?;
-    let line = told(alloc, SESSION, Reply::List(items, Items::new(alloc)))?;
-    assert_eq!(rt;
-        line.as_str(),
-        "n0 j1 s3 list 07070707070707070707070707070707070707070000000100000102:sealed:primary:20\n"
-    );
-    Ok(())
+    let list = Reply::List(items, Items::new(alloc));
+    let text =
+        "n0 j1 s3 list 07070707070707070707070707070707070707070000000100000102:sealed:primary:20\n";
+    Ok(prints(&rt, alloc, SESSION, list, text)?)
 }
 
 #[test]
@@ -207,8 +231,8 @@ fn states_have_words(rt: HostRuntime) -> Result<(), Fail> {
     ];
     for (state, text) in states {
         let items = one(alloc, id, state, Kind::Secondary)?;
-        let line = told(alloc, SESSION, Reply::List(items, Items::new(alloc)))?;
-        assert_eq!(rt; line.as_str(), text);
+        let list = Reply::List(items, Items::new(alloc));
+        prints(&rt, alloc, SESSION, list, text)?;
     }
     Ok(())
 }
@@ -229,17 +253,24 @@ fn work(number: u64, kind: WorkKind) -> Reply<Bytes> {
 #[test]
 fn a_device_worker_is_answered(rt: HostRuntime) -> Result<(), Fail> {
     let alloc = rt.alloc();
-    assert_eq!(rt;
-        told(alloc, DEVICE, Reply::NoWork)?.as_str(),
-        "n0 dev none\n"
-    );
-    let write = told(alloc, DEVICE, work(1, WorkKind::Write))?;
-    assert_eq!(rt; write.as_str(), "n0 dev work 1 1 write 32\n");
-    let read = told(alloc, DEVICE, work(3, WorkKind::Read))?;
-    assert_eq!(rt; read.as_str(), "n0 dev work 1 3 read 32\n");
-    assert_eq!(rt; told(alloc, DEVICE, Reply::Ok)?.as_str(), "n0 dev ok\n");
-    let stale = told(alloc, DEVICE, Reply::Refused(Refusal::Stale))?;
-    assert_eq!(rt; stale.as_str(), "n0 dev refused 24 Stale\n");
+    prints(&rt, alloc, DEVICE, Reply::NoWork, "n0 dev none\n")?;
+    prints(
+        &rt,
+        alloc,
+        DEVICE,
+        work(1, WorkKind::Write),
+        "n0 dev work 1 1 write 32\n",
+    )?;
+    prints(
+        &rt,
+        alloc,
+        DEVICE,
+        work(3, WorkKind::Read),
+        "n0 dev work 1 3 read 32\n",
+    )?;
+    prints(&rt, alloc, DEVICE, Reply::Ok, "n0 dev ok\n")?;
+    let stale = Reply::Refused(Refusal::Stale);
+    prints(&rt, alloc, DEVICE, stale, "n0 dev refused 24 Stale\n")?;
     Ok(())
 }
 
@@ -247,14 +278,30 @@ fn a_device_worker_is_answered(rt: HostRuntime) -> Result<(), Fail> {
 fn a_delivery_is_answered(rt: HostRuntime) -> Result<(), Fail> {
     let alloc = rt.alloc();
     let not_here = Message::ToPeer(PeerMessage::NotHere(numbered(1, 1, 1)?, 1));
-    let handed = line(alloc, Prefix::Network, &StepAnswer::HandedOver(not_here))?;
-    assert_eq!(rt; handed.as_str(), "net ok\n");
-    let none = line(alloc, Prefix::Network, &StepAnswer::NoMessage)?;
-    assert_eq!(rt; none.as_str(), "net none\n");
-    let stale = told(alloc, Prefix::Network, Reply::Refused(Refusal::Stale))?;
-    assert_eq!(rt; stale.as_str(), "net refused 24 Stale\n");
-    let memory = told(alloc, Prefix::Network, Reply::Refused(Refusal::NoMemory))?;
-    assert_eq!(rt; memory.as_str(), "net refused 19 NoMemory\n");
+    is_line(
+        &rt,
+        alloc,
+        Prefix::Network,
+        StepAnswer::HandedOver(not_here),
+        "net ok\n",
+    )?;
+    is_line(
+        &rt,
+        alloc,
+        Prefix::Network,
+        StepAnswer::NoMessage,
+        "net none\n",
+    )?;
+    let stale = Reply::Refused(Refusal::Stale);
+    prints(&rt, alloc, Prefix::Network, stale, "net refused 24 Stale\n")?;
+    let memory = Reply::Refused(Refusal::NoMemory);
+    prints(
+        &rt,
+        alloc,
+        Prefix::Network,
+        memory,
+        "net refused 19 NoMemory\n",
+    )?;
     Ok(())
 }
 
@@ -265,13 +312,10 @@ fn a_step_says_who_is_answered(rt: HostRuntime) {
         device: 0,
     };
     let admit = Step::At(1, Event::Admit(JobNo(1), quota, JobKey([0; 32])));
-    assert_eq!(rt; Prefix::of(&admit), OPERATOR);
-    assert_eq!(rt;
-        Prefix::of(&Step::At(1, Event::Requota(JobNo(1), quota))),
-        OPERATOR
-    );
-    assert_eq!(rt; Prefix::of(&Step::At(1, Event::JobEnd(JobNo(1)))), OPERATOR);
-    assert_eq!(rt; Prefix::of(&Step::At(0, Event::Take)), DEVICE);
+    same!(rt; Prefix::of(&admit), OPERATOR);
+    same!(rt; Prefix::of(&Step::At(1, Event::Requota(JobNo(1), quota))), OPERATOR);
+    same!(rt; Prefix::of(&Step::At(1, Event::JobEnd(JobNo(1)))), OPERATOR);
+    same!(rt; Prefix::of(&Step::At(0, Event::Take)), DEVICE);
     let deliver = Step::Deliver {
         job: JobNo(1),
         from: Place::Directory,
@@ -279,5 +323,5 @@ fn a_step_says_who_is_answered(rt: HostRuntime) {
         number: 1,
         damaged: false,
     };
-    assert_eq!(rt; Prefix::of(&deliver), Prefix::Network);
+    same!(rt; Prefix::of(&deliver), Prefix::Network);
 }

@@ -1,0 +1,5 @@
+use Rattle.std.proofs.Common.{◌≡◌, ◌≤◌}
+use Rattle.schedules.proofs.run_all.Given as goal
+
+abbrev pub invariant-loop-name : goal.invariant-loop-name
+invariant-loop-name l = record { all : l.tally.schedules ≡ l.name-index; fewer : l.tally.differing ≤ l.tally.schedules }
