@@ -1,5 +1,6 @@
 //! Sessions over memory.
 use crate::desk::Desk;
+use assertions::{holds, same};
 use hex::FromHexError;
 use session_engine::{Ended, FaultyStream, SessionFault, serve};
 use std::alloc::{AllocError, Global};
@@ -183,12 +184,12 @@ fn served(
 /// Who came in left last, and nobody else called; what was written is a beginning of the whole answer,
 /// and is handed over where the session ended.
 fn look_at(rt: &impl Abort, session: &Session, whole: &[u8]) {
-    assert!(rt; whole.starts_with(session.outbox.written.as_slice()));
+    holds!(rt; whole.starts_with(session.outbox.written.as_slice()));
     if session.outcome.is_ok() {
-        assert_eq!(rt; session.outbox.handed_over, session.outbox.written.len());
+        same!(rt; session.outbox.handed_over, session.outbox.written.len());
     }
-    assert_eq!(rt; session.desk.strays, 0);
-    assert_eq!(rt; session.desk.is_left, session.desk.entries == 1);
+    same!(rt; session.desk.strays, 0);
+    same!(rt; session.desk.is_left, session.desk.entries == 1);
 }
 
 /// Rows of a session's input, its whole answer, and its end.
@@ -343,7 +344,7 @@ fn each_read_fails_in_turn(rt: HostRuntime) -> Result<(), Fail> {
         ..PLAIN
     };
     let session = served(&rt, alloc, &input, way, &whole)?;
-    assert_eq!(rt; session.outcome, Ok(Ended::Clean));
+    same!(rt; session.outcome, Ok(Ended::Clean));
     Ok(())
 }
 
@@ -368,7 +369,7 @@ fn each_write_fails_in_turn(rt: HostRuntime) -> Result<(), Fail> {
         ..PLAIN
     };
     let session = served(&rt, alloc, &input, way, &whole)?;
-    assert_eq!(rt; session.outcome, Ok(Ended::Clean));
+    same!(rt; session.outcome, Ok(Ended::Clean));
     Ok(())
 }
 
@@ -379,8 +380,8 @@ fn a_session_leaves_once_more_than_its_client(rt: HostRuntime) -> Result<(), Fai
         let input = bytes_of(alloc, input)?;
         let whole = bytes_of(alloc, whole)?;
         let session = served(&rt, alloc, &input, PLAIN, &whole)?;
-        assert_eq!(rt; session.outbox.written, whole);
-        assert_eq!(rt; session.desk.leaves, leaves);
+        same!(rt; session.outbox.written, whole);
+        same!(rt; session.desk.leaves, leaves);
     }
     Ok(())
 }
@@ -398,7 +399,7 @@ fn faults_are_told_in_words(rt: HostRuntime) -> Result<(), Fail> {
             Ok(told) => told,
             Err(_) => format!(in alloc; "{fault}")?,
         };
-        assert_eq!(rt; told.as_str(), text);
+        same!(rt; told.as_str(), text);
     }
     Ok(())
 }
