@@ -100,6 +100,13 @@ impl Store {
         self.orders.enter(JOB, id)
     }
 
+    /// The copy of this index becomes a neighbour's, in the same window.
+    fn hand_over(&mut self, index: u32) -> Result<(), Refusal> {
+        let id = object(index)?;
+        self.orders.forget(JOB, id);
+        self.orders.enter(NEIGHBOUR, id)
+    }
+
     fn plan(&self, alloc: Global, len: u32, device: DeviceRoom) -> Result<Plan, Refusal> {
         self.orders
             .plan(alloc, JOB, len, device, &self.window, &self.copies)
@@ -135,9 +142,9 @@ fn spills(plan: &Plan, indexes: &[u32]) -> bool {
 
 /// Whether the job's ids, from the least recently used on, have these indexes.
 fn stands(orders: &UseOrder, job: JobNo, indexes: &[u32]) -> bool {
-    let mut left = indexes.iter();
-    for id in orders.order(job) {
-        if left.next().copied() != Some(id.index()) {
+    let mut left = orders.order(job);
+    for index in indexes {
+        if left.next().map(|id| id.index()) != Some(*index) {
             return false;
         }
     }
@@ -306,8 +313,7 @@ fn beside_a_neighbour(alloc: Global) -> Result<Plan, Refusal> {
     let mut store = Store::new(alloc, 32)?;
     store.add(1, 16, EVICTABLE)?;
     store.add(2, 16, EVICTABLE)?;
-    store.orders.forget(JOB, object(1)?);
-    store.orders.enter(NEIGHBOUR, object(1)?)?;
+    store.hand_over(1)?;
     store.plan(alloc, 16, DEVICE)
 }
 

@@ -7,6 +7,7 @@ use assertions::{holds, same};
 use job_region::Window;
 use obj_id::{Extent, Refusal};
 use std::alloc::Global;
+use std::process::Abort;
 use std::test::Fail;
 
 /// A window of so many bytes, asked for once more if memory ran out.
@@ -17,14 +18,16 @@ fn window(alloc: Global, quota: u64) -> Result<Window, Refusal> {
     }
 }
 
-/// An extent for so many bytes, asked for once more if memory ran out.
-fn place(window: &mut Window, len: u32) -> Result<Extent, Refusal>
+/// An extent for so many bytes, asked for once more if memory ran out: then nothing has changed.
+fn place(rt: &impl Abort, window: &mut Window, len: u32) -> Result<Extent, Refusal>
     ensures there { IfOk result (λ e. IsAt e window.new.placed) }
     ensures stays { (e : Extent) → IsAt e window.old.placed → IsAt e window.new.placed }
 {
+    let gap = window.fits_without(&[], len);
     if let Ok(extent) = window.place(len) {
         return Ok(extent);
     }
+    same!(rt; window.fits_without(&[], len), gap);
     let extent = window.place(len)?;
     Ok(extent)
 }
@@ -57,50 +60,69 @@ fn a_window_s_size_is_in_its_range(rt: HostRuntime) -> Result<(), Fail> {
     }
     for quota in [16, 32, 4096] {
         let mut window = window(rt.alloc(), quota)?;
-        same!(rt; place(&mut window, quota as u32)?, extent(0, quota));
+        same!(rt; place(&rt, &mut window, quota as u32)?, extent(0, quota));
     }
+    Ok(())
+}
+
+/// The same, for a test that looks at no bytes: it promises nothing.
+fn placed(rt: &impl Abort, window: &mut Window, len: u32) -> Result<Extent, Refusal> {
+    place(rt, window, len)
+}
+
+#[test]
+fn sizes_that_no_object_has_find_no_place(rt: HostRuntime) -> Result<(), Fail> {
+    let mut window = window(rt.alloc(), 64)?;
+    same!(rt; window.check(0), Some(Refusal::BadSize));
+    same!(rt; window.check(65), Some(Refusal::BadSize));
+    same!(rt; window.check(16_777_217), Some(Refusal::BadSize));
+    same!(rt; window.check(64), None);
+    same!(rt; placed(&rt, &mut window, 0), Err(Refusal::BadSize));
+    same!(rt; placed(&rt, &mut window, 65), Err(Refusal::BadSize));
     Ok(())
 }
 
 #[test]
 fn the_least_place_that_is_free_is_taken(rt: HostRuntime) -> Result<(), Fail> {
     let mut window = window(rt.alloc(), 64)?;
-    same!(rt; window.check(0), Some(Refusal::BadSize));
-    same!(rt; window.check(65), Some(Refusal::BadSize));
-    same!(rt; window.check(16_777_217), Some(Refusal::BadSize));
-    same!(rt; window.check(64), None);
-    same!(rt; place(&mut window, 0), Err(Refusal::BadSize));
-    same!(rt; place(&mut window, 65), Err(Refusal::BadSize));
-    same!(rt; place(&mut window, 16)?, extent(0, 16));
-    let middle = place(&mut window, 17)?;
+    same!(rt; placed(&rt, &mut window, 16), Ok(extent(0, 16)));
+    let middle = place(&rt, &mut window, 17)?;
     same!(rt; middle, extent(16, 32));
-    let last = place(&mut window, 1)?;
-    same!(rt; last, extent(48, 16));
-    same!(rt; place(&mut window, 1), Err(Refusal::Full));
+    same!(rt; place(&rt, &mut window, 1), Ok(extent(48, 16)));
+    same!(rt; place(&rt, &mut window, 1), Err(Refusal::Full));
     same!(rt; window.check(1), Some(Refusal::Full));
+    window.give_back(middle);
+    same!(rt; window.check(32), None);
+    same!(rt; placed(&rt, &mut window, 16), Ok(extent(16, 16)));
+    same!(rt; placed(&rt, &mut window, 16), Ok(extent(32, 16)));
+    same!(rt; placed(&rt, &mut window, 16), Err(Refusal::Full));
+    window.clear();
+    same!(rt; placed(&rt, &mut window, 64), Ok(extent(0, 64)));
+    Ok(())
+}
+
+#[test]
+fn what_fits_without_an_extent_is_told(rt: HostRuntime) -> Result<(), Fail> {
+    let mut window = window(rt.alloc(), 64)?;
+    placed(&rt, &mut window, 16)?;
+    let middle = placed(&rt, &mut window, 17)?;
+    let last = placed(&rt, &mut window, 1)?;
     same!(rt; window.fits_without(&[], 1), None);
     same!(rt; window.fits_without(&[middle], 32), Some(16));
     same!(rt; window.fits_without(&[middle], 33), None);
     same!(rt; window.fits_without(&[last], 16), Some(48));
-    window.give_back(middle);
-    same!(rt; window.check(32), None);
-    same!(rt; place(&mut window, 16)?, extent(16, 16));
-    same!(rt; place(&mut window, 16)?, extent(32, 16));
-    same!(rt; place(&mut window, 16), Err(Refusal::Full));
-    window.clear();
-    same!(rt; place(&mut window, 64)?, extent(0, 64));
     Ok(())
 }
 
 #[test]
 fn a_new_extent_shows_zeros(rt: HostRuntime) -> Result<(), Fail> {
     let mut window = window(rt.alloc(), 48)?;
-    let first = place(&mut window, 5)?;
+    let first = place(&rt, &mut window, 5)?;
     holds!(rt; shows(&window, &first, &[0; 16]));
     same!(rt; write(&mut window, &first, 0, &[1; 16]), Ok(()));
     holds!(rt; shows(&window, &first, &[1; 16]));
     window.give_back(first);
-    let second = place(&mut window, 20)?;
+    let second = place(&rt, &mut window, 20)?;
     same!(rt; second, extent(0, 32));
     holds!(rt; shows(&window, &second, &[0; 32]));
     Ok(())
@@ -109,8 +131,8 @@ fn a_new_extent_shows_zeros(rt: HostRuntime) -> Result<(), Fail> {
 #[test]
 fn a_write_stays_within_its_extent(rt: HostRuntime) -> Result<(), Fail> {
     let mut window = window(rt.alloc(), 48)?;
-    let first = place(&mut window, 16)?;
-    let second = place(&mut window, 16)?;
+    let first = place(&rt, &mut window, 16)?;
+    let second = place(&rt, &mut window, 16)?;
     same!(rt; write(&mut window, &second, 9, &[7; 8]),
         Err(Refusal::OutOfBounds));
     same!(rt; write(&mut window, &second, 17, &[]),
@@ -127,28 +149,30 @@ fn a_write_stays_within_its_extent(rt: HostRuntime) -> Result<(), Fail> {
 #[test]
 fn a_window_is_resized_round_its_extents(rt: HostRuntime) -> Result<(), Fail> {
     let mut window = window(rt.alloc(), 32)?;
-    let first = place(&mut window, 16)?;
-    same!(rt; resize(&mut window, 24), Err(Refusal::BadSize));
-    same!(rt; resize(&mut window, 64), Ok(()));
-    let second = place(&mut window, 40)?;
+    let first = place(&rt, &mut window, 16)?;
+    same!(rt; resize(&rt, &mut window, 24), Err(Refusal::BadSize));
+    same!(rt; resize(&rt, &mut window, 64), Ok(()));
+    let second = place(&rt, &mut window, 40)?;
     same!(rt; second, extent(16, 48));
     holds!(rt; shows(&window, &second, &[0; 48]));
     holds!(rt; shows(&window, &first, &[0; 16]));
     same!(rt; window.resize_check(48), Some(Refusal::Full));
-    same!(rt; resize(&mut window, 48), Err(Refusal::Full));
+    same!(rt; resize(&rt, &mut window, 48), Err(Refusal::Full));
     window.give_back(second);
     same!(rt; window.resize_check(16), None);
-    same!(rt; resize(&mut window, 16), Ok(()));
-    same!(rt; place(&mut window, 1), Err(Refusal::Full));
+    same!(rt; resize(&rt, &mut window, 16), Ok(()));
+    same!(rt; place(&rt, &mut window, 1), Err(Refusal::Full));
     Ok(())
 }
 
-/// Gives the window so many bytes, once more if memory ran out.
-fn resize(window: &mut Window, quota: u64) -> Result<(), Refusal>
+/// Gives the window so many bytes, once more if memory ran out: then nothing has changed.
+fn resize(rt: &impl Abort, window: &mut Window, quota: u64) -> Result<(), Refusal>
     ensures { window.new.placed ≡ window.old.placed }
 {
+    let before = window.quota();
     if window.resize(quota).is_ok() {
         return Ok(());
     }
+    same!(rt; window.quota(), before);
     window.resize(quota)
 }

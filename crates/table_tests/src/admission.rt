@@ -1,6 +1,8 @@
 //! The live jobs of a node.
+use assertions::{holds, same};
 use job_admission::Admission;
 use obj_id::{Extent, JobKey, JobNo, Quota, Refusal};
+use std::process::Abort;
 use std::test::Fail;
 
 const MEMORY: u64 = 4096;
@@ -11,10 +13,15 @@ fn quota(window: u64) -> Quota {
     Quota { window, device: 0 }
 }
 
-/// Admits, once more if memory ran out.
-fn admitted(node: &mut Admission, job: u32, window: u64) -> Result<(), Refusal> {
+/// Admits, once more if memory ran out: then nothing has changed.
+fn admitted(rt: &impl Abort, node: &mut Admission, job: u32, window: u64) -> Result<(), Refusal> {
+    let live = node.live_jobs();
     match node.admit(JobNo(job), quota(window), KEY) {
-        Err(Refusal::NoMemory) => node.admit(JobNo(job), quota(window), KEY),
+        Err(Refusal::NoMemory) => {
+            same!(rt; node.live_jobs(), live);
+            holds!(rt; !node.is_live(JobNo(job)));
+            node.admit(JobNo(job), quota(window), KEY)
+        }
         answer => answer,
     }
 }
@@ -26,34 +33,34 @@ fn extent(offset: u64, length: u64) -> Option<Extent> {
 #[test]
 fn windows_go_to_the_least_place_that_is_free(rt: HostRuntime) -> Result<(), Fail> {
     let mut node = Admission::new(rt.alloc(), MEMORY);
-    admitted(&mut node, 1, 1024)?;
-    admitted(&mut node, 2, 512)?;
-    admitted(&mut node, 3, 1024)?;
-    assert_eq!(rt; node.window(JobNo(1)), extent(0, 1024));
-    assert_eq!(rt; node.window(JobNo(2)), extent(1024, 512));
-    assert_eq!(rt; node.window(JobNo(3)), extent(1536, 1024));
+    admitted(&rt, &mut node, 1, 1024)?;
+    admitted(&rt, &mut node, 2, 512)?;
+    admitted(&rt, &mut node, 3, 1024)?;
+    same!(rt; node.window(JobNo(1)), extent(0, 1024));
+    same!(rt; node.window(JobNo(2)), extent(1024, 512));
+    same!(rt; node.window(JobNo(3)), extent(1536, 1024));
     node.finish_job(JobNo(2))?;
-    admitted(&mut node, 4, 1024)?;
-    admitted(&mut node, 5, 496)?;
-    admitted(&mut node, 6, 16)?;
-    assert_eq!(rt; node.window(JobNo(4)), extent(2560, 1024));
-    assert_eq!(rt; node.window(JobNo(5)), extent(1024, 496));
-    assert_eq!(rt; node.window(JobNo(6)), extent(1520, 16));
-    assert_eq!(rt; admitted(&mut node, 7, 528), Err(Refusal::NoRoom));
-    assert_eq!(rt; admitted(&mut node, 7, 512), Ok(()));
-    assert_eq!(rt; node.live_jobs(), 6);
-    assert_eq!(rt; node.quota(JobNo(5)), Some(quota(496)));
-    assert_eq!(rt; node.quota(JobNo(2)), None);
-    assert_eq!(rt; node.window(JobNo(2)), None);
-    assert!(rt; node.is_live(JobNo(7)));
-    assert!(rt; !node.is_live(JobNo(2)));
+    admitted(&rt, &mut node, 4, 1024)?;
+    admitted(&rt, &mut node, 5, 496)?;
+    admitted(&rt, &mut node, 6, 16)?;
+    same!(rt; node.window(JobNo(4)), extent(2560, 1024));
+    same!(rt; node.window(JobNo(5)), extent(1024, 496));
+    same!(rt; node.window(JobNo(6)), extent(1520, 16));
+    same!(rt; admitted(&rt, &mut node, 7, 528), Err(Refusal::NoRoom));
+    same!(rt; admitted(&rt, &mut node, 7, 512), Ok(()));
+    same!(rt; node.live_jobs(), 6);
+    same!(rt; node.quota(JobNo(5)), Some(quota(496)));
+    same!(rt; node.quota(JobNo(2)), None);
+    same!(rt; node.window(JobNo(2)), None);
+    holds!(rt; node.is_live(JobNo(7)));
+    holds!(rt; !node.is_live(JobNo(2)));
     Ok(())
 }
 
 #[test]
 fn admissions_are_refused_in_their_order(rt: HostRuntime) -> Result<(), Fail> {
     let mut node = Admission::new(rt.alloc(), MEMORY);
-    admitted(&mut node, 5, 4096)?;
+    admitted(&rt, &mut node, 5, 4096)?;
     let device = 1_099_511_627_777;
     let rows = [
         (0, 0, device, Refusal::BadId),
@@ -79,13 +86,11 @@ fn admissions_are_refused_in_their_order(rt: HostRuntime) -> Result<(), Fail> {
         );
     }
     node.finish_job(JobNo(5))?;
-    assert_eq!(rt;
-        node.admit_check(JobNo(5), quota(16)),
-        Some(Refusal::Exists)
-    );
-    assert_eq!(rt; node.admit_check(JobNo(6), quota(16)), None);
-    assert_eq!(rt; admitted(&mut node, 6, 16), Ok(()));
-    assert_eq!(rt; admitted(&mut node, u32::MAX, 16), Ok(()));
+    same!(rt; node.admit_check(JobNo(5), quota(16)),
+        Some(Refusal::Exists));
+    same!(rt; node.admit_check(JobNo(6), quota(16)), None);
+    same!(rt; admitted(&rt, &mut node, 6, 16), Ok(()));
+    same!(rt; admitted(&rt, &mut node, u32::MAX, 16), Ok(()));
     Ok(())
 }
 
@@ -93,22 +98,22 @@ fn admissions_are_refused_in_their_order(rt: HostRuntime) -> Result<(), Fail> {
 fn the_65th_live_job_has_no_room(rt: HostRuntime) -> Result<(), Fail> {
     let mut node = Admission::new(rt.alloc(), 17_179_869_184);
     for job in 1..=64 {
-        assert_eq!(rt; node.live_jobs(), job as usize - 1);
-        admitted(&mut node, job, 268_435_456)?;
+        same!(rt; node.live_jobs(), job as usize - 1);
+        admitted(&rt, &mut node, job, 268_435_456)?;
     }
-    assert_eq!(rt; admitted(&mut node, 65, 16), Err(Refusal::NoRoom));
-    assert_eq!(rt; node.window(JobNo(64)), extent(16_911_433_728, 268_435_456));
+    same!(rt; admitted(&rt, &mut node, 65, 16), Err(Refusal::NoRoom));
+    same!(rt; node.window(JobNo(64)), extent(16_911_433_728, 268_435_456));
     node.finish_job(JobNo(1))?;
-    assert_eq!(rt; admitted(&mut node, 65, 16), Ok(()));
-    assert_eq!(rt; node.finish_job(JobNo(1)), Err(Refusal::NotAdmitted));
+    same!(rt; admitted(&rt, &mut node, 65, 16), Ok(()));
+    same!(rt; node.finish_job(JobNo(1)), Err(Refusal::NotAdmitted));
     Ok(())
 }
 
 #[test]
 fn a_quota_changes_where_the_window_lies(rt: HostRuntime) -> Result<(), Fail> {
     let mut node = Admission::new(rt.alloc(), MEMORY);
-    admitted(&mut node, 1, 1024)?;
-    admitted(&mut node, 2, 1024)?;
+    admitted(&rt, &mut node, 1, 1024)?;
+    admitted(&rt, &mut node, 2, 1024)?;
     let rows = [
         (3, 24, Some(Refusal::NotAdmitted)),
         (1, 24, Some(Refusal::BadSize)),
@@ -131,26 +136,26 @@ fn a_quota_changes_where_the_window_lies(rt: HostRuntime) -> Result<(), Fail> {
             "{job}, {window}"
         );
     }
-    assert_eq!(rt; node.window(JobNo(1)), extent(0, 16));
-    assert_eq!(rt; node.window(JobNo(2)), extent(1024, 3072));
-    admitted(&mut node, 3, 1008)?;
-    assert_eq!(rt; node.window(JobNo(3)), extent(16, 1008));
+    same!(rt; node.window(JobNo(1)), extent(0, 16));
+    same!(rt; node.window(JobNo(2)), extent(1024, 3072));
+    admitted(&rt, &mut node, 3, 1008)?;
+    same!(rt; node.window(JobNo(3)), extent(16, 1008));
     Ok(())
 }
 
 #[test]
 fn a_key_fits_where_each_byte_is_the_same(rt: HostRuntime) -> Result<(), Fail> {
     let mut node = Admission::new(rt.alloc(), MEMORY);
-    admitted(&mut node, 1, 16)?;
-    assert!(rt; node.key_fits(JobNo(1), &KEY));
-    assert!(rt; !node.key_fits(JobNo(2), &KEY));
+    admitted(&rt, &mut node, 1, 16)?;
+    holds!(rt; node.key_fits(JobNo(1), &KEY));
+    holds!(rt; !node.key_fits(JobNo(2), &KEY));
     for at in [0, 1, 15, 31] {
         let mut key = KEY;
         key.0[at] = 6;
         assert!(rt; !node.key_fits(JobNo(1), &key), "{at}");
     }
     node.finish_job(JobNo(1))?;
-    assert!(rt; !node.key_fits(JobNo(1), &KEY));
+    holds!(rt; !node.key_fits(JobNo(1), &KEY));
     Ok(())
 }
 
@@ -159,12 +164,12 @@ fn want_of_memory_admits_nobody(rt: HostRuntime) -> Result<(), Fail> {
     let mut node = Admission::new(rt.alloc(), MEMORY);
     for job in 1..=20 {
         if node.admit(JobNo(job), quota(16), KEY).is_err() {
-            assert_eq!(rt; node.live_jobs(), job as usize - 1);
-            assert!(rt; !node.is_live(JobNo(job)));
+            same!(rt; node.live_jobs(), job as usize - 1);
+            holds!(rt; !node.is_live(JobNo(job)));
             node.admit(JobNo(job), quota(16), KEY)?;
         }
-        assert_eq!(rt; node.live_jobs(), job as usize);
+        same!(rt; node.live_jobs(), job as usize);
     }
-    assert_eq!(rt; node.window(JobNo(20)), extent(304, 16));
+    same!(rt; node.window(JobNo(20)), extent(304, 16));
     Ok(())
 }

@@ -1,6 +1,8 @@
 //! The directory of owners.
+use assertions::holds;
 use obj_id::{Digest, DirectoryMessage, JobNo, Location, ObjectId, Refusal, TaskNo};
 use owner_directory::{Directory, DirectoryReply};
+use std::process::Abort;
 use std::test::Fail;
 
 const JOB: JobNo = JobNo(1);
@@ -17,14 +19,34 @@ fn copy_at(node: u32, length: u32) -> Location {
     }
 }
 
-/// Adds an entry, once more if memory ran out.
-fn add(directory: &mut Directory, job: JobNo, id: ObjectId, copy: Location) -> Result<(), Refusal> {
-    match directory.apply(job, DirectoryMessage::AddLocation(id, copy)) {
-        Ok(_) => Ok(()),
-        Err(_) => match directory.apply(job, DirectoryMessage::AddLocation(id, copy)) {
-            Ok(_) => Ok(()),
-            Err(refusal) => Err(refusal),
-        },
+/// Adds an entry, once more if memory ran out: then it isn't there.
+fn add(
+    rt: &impl Abort,
+    directory: &mut Directory,
+    job: JobNo,
+    id: ObjectId,
+    copy: Location,
+) -> Result<(), Refusal> {
+    if directory
+        .apply(job, DirectoryMessage::AddLocation(id, copy))
+        .is_err()
+    {
+        holds!(rt; !is_told(directory, job, id, copy)?);
+        directory.apply(job, DirectoryMessage::AddLocation(id, copy))?;
+    }
+    Ok(())
+}
+
+/// Whether this copy is among those that are told of the object.
+fn is_told(
+    directory: &mut Directory,
+    job: JobNo,
+    id: ObjectId,
+    copy: Location,
+) -> Result<bool, Refusal> {
+    match located(directory, job, id)? {
+        DirectoryReply::Located { entries, .. } => Ok(entries.as_slice().contains(&copy)),
+        _ => Ok(false),
     }
 }
 
@@ -64,14 +86,14 @@ fn tells(
 fn entries_are_told_by_rising_node(rt: HostRuntime) -> Result<(), Fail> {
     let mut directory = Directory::new(rt.alloc());
     let (a, b) = (object(1)?, object(2)?);
-    assert!(rt; tells(&mut directory, JOB, a, &[])?);
+    holds!(rt; tells(&mut directory, JOB, a, &[])?);
     for (node, length) in [(5, 50), (2, 20), (7, 70), (0, 1), (5, 51)] {
-        add(&mut directory, JOB, a, copy_at(node, length))?;
+        add(&rt, &mut directory, JOB, a, copy_at(node, length))?;
     }
-    add(&mut directory, JOB, b, copy_at(2, 9))?;
+    add(&rt, &mut directory, JOB, b, copy_at(2, 9))?;
     let all = [(0, 1), (2, 20), (5, 51), (7, 70)];
-    assert!(rt; tells(&mut directory, JOB, a, &all)?);
-    assert!(rt; tells(&mut directory, JOB, b, &[(2, 9)])?);
+    holds!(rt; tells(&mut directory, JOB, a, &all)?);
+    holds!(rt; tells(&mut directory, JOB, b, &[(2, 9)])?);
     Ok(())
 }
 
@@ -81,20 +103,20 @@ fn entries_go_by_node_by_object_and_by_job(rt: HostRuntime) -> Result<(), Fail> 
     let (a, b) = (object(1)?, object(2)?);
     for job in [JOB, JobNo(2)] {
         for node in [0, 1, 2] {
-            add(&mut directory, job, a, copy_at(node, 8))?;
+            add(&rt, &mut directory, job, a, copy_at(node, 8))?;
         }
-        add(&mut directory, job, b, copy_at(1, 8))?;
+        add(&rt, &mut directory, job, b, copy_at(1, 8))?;
     }
     directory.apply(JOB, DirectoryMessage::RemoveLocation(a, 0))?;
-    assert!(rt; tells(&mut directory, JOB, a, &[(1, 8), (2, 8)])?);
+    holds!(rt; tells(&mut directory, JOB, a, &[(1, 8), (2, 8)])?);
     directory.apply(JOB, DirectoryMessage::EndJob(1))?;
-    assert!(rt; tells(&mut directory, JOB, a, &[(2, 8)])?);
-    assert!(rt; tells(&mut directory, JOB, b, &[])?);
+    holds!(rt; tells(&mut directory, JOB, a, &[(2, 8)])?);
+    holds!(rt; tells(&mut directory, JOB, b, &[])?);
     directory.apply(JOB, DirectoryMessage::Free(a))?;
-    assert!(rt; tells(&mut directory, JOB, a, &[])?);
+    holds!(rt; tells(&mut directory, JOB, a, &[])?);
     let others = [(0, 8), (1, 8), (2, 8)];
-    assert!(rt; tells(&mut directory, JobNo(2), a, &others)?);
-    assert!(rt; tells(&mut directory, JobNo(2), b, &[(1, 8)])?);
+    holds!(rt; tells(&mut directory, JobNo(2), a, &others)?);
+    holds!(rt; tells(&mut directory, JobNo(2), b, &[(1, 8)])?);
     directory.apply(JobNo(9), DirectoryMessage::EndJob(1))?;
     directory.apply(JobNo(9), DirectoryMessage::Free(a))?;
     directory.apply(JobNo(9), DirectoryMessage::RemoveLocation(a, 1))?;
@@ -110,11 +132,11 @@ fn want_of_memory_leaves_the_entries(rt: HostRuntime) -> Result<(), Fail> {
             let message = DirectoryMessage::AddLocation(id, copy_at(node, index));
             if directory.apply(JOB, message).is_err() {
                 let left = [(4, index)];
-                assert!(rt; tells(&mut directory, JOB, id, &left[..(4 - node) as usize])?);
-                add(&mut directory, JOB, id, copy_at(node, index))?;
+                holds!(rt; tells(&mut directory, JOB, id, &left[..(4 - node) as usize])?);
+                add(&rt, &mut directory, JOB, id, copy_at(node, index))?;
             }
         }
-        assert!(rt; tells(&mut directory, JOB, id, &[(3, index), (4, index)])?);
+        holds!(rt; tells(&mut directory, JOB, id, &[(3, index), (4, index)])?);
     }
     Ok(())
 }

@@ -1,4 +1,5 @@
 //! A fetch of two chunks, in all disorder.
+use assertions::same;
 use bytes::Bytes;
 use fetch_core::{FetchIn, Stage, chunks_asked};
 use obj_id::{Digest, JobNo, Location, ObjectId, PeerMessage, Refusal, TaskNo};
@@ -75,11 +76,11 @@ fn is_chunk(message: &PeerMessage, index: u32, bytes: &[u8]) -> Result<bool, Ref
 #[test]
 fn the_first_entry_of_another_node_is_the_source(rt: HostRuntime) {
     let mut fetch = FetchIn::new(rt.alloc(), NUMBER);
-    assert_eq!(rt; fetch.stage(), Stage::Locating);
-    assert_eq!(rt; fetch.number(), NUMBER);
-    assert_eq!(rt; (fetch.length(), fetch.digest()), (0, None));
+    same!(rt; fetch.stage(), Stage::Locating);
+    same!(rt; fetch.number(), NUMBER);
+    same!(rt; (fetch.length(), fetch.digest()), (0, None));
     fetch.located(HERE, NUMBER - 1, &[located_at(SOURCE, b"one")]);
-    assert_eq!(rt; fetch.stage(), Stage::Locating);
+    same!(rt; fetch.stage(), Stage::Locating);
     fetch.located(
         HERE,
         NUMBER,
@@ -89,37 +90,37 @@ fn the_first_entry_of_another_node_is_the_source(rt: HostRuntime) {
             located_at(4, b"two"),
         ],
     );
-    assert_eq!(rt; fetch.stage(), Stage::Sized(SOURCE));
-    assert_eq!(rt; fetch.length(), 3);
-    assert_eq!(rt; fetch.digest(), Some(Digest(Sha256::digest(b"one"))));
-    assert_eq!(rt; fetch.missing(), [].as_slice());
+    same!(rt; fetch.stage(), Stage::Sized(SOURCE));
+    same!(rt; fetch.length(), 3);
+    same!(rt; fetch.digest(), Some(Digest(Sha256::digest(b"one"))));
+    same!(rt; fetch.missing(), [].as_slice());
     fetch.located(HERE, NUMBER, &[]);
-    assert_eq!(rt; fetch.stage(), Stage::Sized(SOURCE));
+    same!(rt; fetch.stage(), Stage::Sized(SOURCE));
 }
 
 #[test]
 fn without_another_node_there_is_no_copy(rt: HostRuntime) {
     let mut fetch = FetchIn::new(rt.alloc(), NUMBER);
     fetch.located(HERE, NUMBER, &[located_at(HERE, b"mine")]);
-    assert_eq!(rt; fetch.stage(), Stage::Failed(FetchFault::Absent));
+    same!(rt; fetch.stage(), Stage::Failed(FetchFault::Absent));
 }
 
 #[test]
 fn the_last_chunk_first_one_lost_one_twice(rt: HostRuntime) -> Result<(), Fail> {
     let bytes = object();
     let mut fetch = pulling(rt.alloc(), &bytes)?;
-    assert_eq!(rt; fetch.missing(), [0, 1].as_slice());
-    assert_eq!(rt; fetch.take_chunk(NUMBER, SOURCE, 1, 9), false);
-    assert_eq!(rt; fetch.take_chunk(NUMBER, HERE, 1, 10), false);
-    assert_eq!(rt; fetch.take_chunk(NUMBER + 1, SOURCE, 1, 10), false);
-    assert_eq!(rt; fetch.take_chunk(NUMBER, SOURCE, 2, 0), false);
-    assert_eq!(rt; fetch.take_chunk(NUMBER, SOURCE, 1, 10), true);
-    assert_eq!(rt; fetch.take_chunk(NUMBER, SOURCE, 1, 10), false);
-    assert_eq!(rt; fetch.missing(), [0].as_slice());
-    assert_eq!(rt; fetch.stage(), Stage::Pulling(SOURCE));
-    assert_eq!(rt; fetch.take_chunk(NUMBER, SOURCE, 0, CHUNK), true);
-    assert_eq!(rt; fetch.missing(), [].as_slice());
-    assert_eq!(rt; fetch.complete(&bytes), true);
+    same!(rt; fetch.missing(), [0, 1].as_slice());
+    same!(rt; fetch.take_chunk(NUMBER, SOURCE, 1, 9), false);
+    same!(rt; fetch.take_chunk(NUMBER, HERE, 1, 10), false);
+    same!(rt; fetch.take_chunk(NUMBER + 1, SOURCE, 1, 10), false);
+    same!(rt; fetch.take_chunk(NUMBER, SOURCE, 2, 0), false);
+    same!(rt; fetch.take_chunk(NUMBER, SOURCE, 1, 10), true);
+    same!(rt; fetch.take_chunk(NUMBER, SOURCE, 1, 10), false);
+    same!(rt; fetch.missing(), [0].as_slice());
+    same!(rt; fetch.stage(), Stage::Pulling(SOURCE));
+    same!(rt; fetch.take_chunk(NUMBER, SOURCE, 0, CHUNK), true);
+    same!(rt; fetch.missing(), [].as_slice());
+    same!(rt; fetch.complete(&bytes), true);
     Ok(())
 }
 
@@ -127,12 +128,12 @@ fn the_last_chunk_first_one_lost_one_twice(rt: HostRuntime) -> Result<(), Fail> 
 fn a_damaged_chunk_is_found_at_the_end(rt: HostRuntime) -> Result<(), Fail> {
     let mut bytes = object();
     let mut fetch = pulling(rt.alloc(), &bytes)?;
-    assert_eq!(rt; fetch.take_chunk(NUMBER, SOURCE, 0, CHUNK), true);
-    assert_eq!(rt; fetch.take_chunk(NUMBER, SOURCE, 1, 10), true);
+    same!(rt; fetch.take_chunk(NUMBER, SOURCE, 0, CHUNK), true);
+    same!(rt; fetch.take_chunk(NUMBER, SOURCE, 1, 10), true);
     bytes[CHUNK] = 255;
-    assert_eq!(rt; fetch.complete(&bytes), false);
-    assert_eq!(rt; fetch.stage(), Stage::Failed(FetchFault::Damaged));
-    assert_eq!(rt; fetch.digest(), None);
+    same!(rt; fetch.complete(&bytes), false);
+    same!(rt; fetch.stage(), Stage::Failed(FetchFault::Damaged));
+    same!(rt; fetch.digest(), None);
     Ok(())
 }
 
@@ -140,11 +141,11 @@ fn a_damaged_chunk_is_found_at_the_end(rt: HostRuntime) -> Result<(), Fail> {
 fn only_the_source_says_that_there_is_nothing(rt: HostRuntime) -> Result<(), Fail> {
     let bytes = object();
     let mut fetch = pulling(rt.alloc(), &bytes)?;
-    assert_eq!(rt; fetch.not_here(NUMBER, HERE), false);
-    assert_eq!(rt; fetch.not_here(NUMBER + 1, SOURCE), false);
-    assert_eq!(rt; fetch.stage(), Stage::Pulling(SOURCE));
-    assert_eq!(rt; fetch.not_here(NUMBER, SOURCE), true);
-    assert_eq!(rt; fetch.stage(), Stage::Failed(FetchFault::Absent));
+    same!(rt; fetch.not_here(NUMBER, HERE), false);
+    same!(rt; fetch.not_here(NUMBER + 1, SOURCE), false);
+    same!(rt; fetch.stage(), Stage::Pulling(SOURCE));
+    same!(rt; fetch.not_here(NUMBER, SOURCE), true);
+    same!(rt; fetch.stage(), Stage::Failed(FetchFault::Absent));
     Ok(())
 }
 
@@ -153,7 +154,7 @@ fn each_asked_chunk_is_sent_in_the_order_asked(rt: HostRuntime) -> Result<(), Fa
     let bytes = object();
     let sent = served(rt.alloc(), &bytes, &[1, 2, 0, 1, u32::MAX])?;
     let wanted = [(1, 10), (0, CHUNK), (1, 10)];
-    assert_eq!(rt; sent.len(), wanted.len());
+    same!(rt; sent.len(), wanted.len());
     for (message, (index, length)) in sent.iter().zip(wanted) {
         let start = index as usize * CHUNK;
         assert_eq!(rt;

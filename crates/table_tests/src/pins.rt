@@ -1,4 +1,5 @@
 //! Pins, borrowers and holds of a copy.
+use assertions::{holds, same};
 use obj_id::{Kind, Refusal, TaskNo};
 use pins_holds::Pins;
 use std::process::Abort;
@@ -9,7 +10,7 @@ fn hold(rt: &impl Abort, pins: &mut Pins, session: u32) -> Result<(), Refusal> {
     let before = pins.holds_of(session);
     match pins.hold(session) {
         Err(Refusal::NoMemory) => {
-            assert_eq!(rt; pins.holds_of(session), before);
+            same!(rt; pins.holds_of(session), before);
             pins.hold(session)
         }
         told => told,
@@ -20,7 +21,7 @@ fn hold(rt: &impl Abort, pins: &mut Pins, session: u32) -> Result<(), Refusal> {
 fn borrow(rt: &impl Abort, pins: &mut Pins, task: TaskNo) -> Result<(), Refusal> {
     match pins.borrow(task) {
         Err(Refusal::NoMemory) => {
-            assert!(rt; !pins.borrows(task));
+            holds!(rt; !pins.borrows(task));
             pins.borrow(task)
         }
         told => told,
@@ -30,18 +31,18 @@ fn borrow(rt: &impl Abort, pins: &mut Pins, task: TaskNo) -> Result<(), Refusal>
 #[test]
 fn a_primary_is_pinned_until_its_owner_unpins_it(rt: HostRuntime) -> Result<(), Fail> {
     let mut pins = Pins::new(rt.alloc(), Kind::Primary);
-    assert_eq!(rt; pins.kind(), Kind::Primary);
-    assert!(rt; pins.is_pinned());
-    assert!(rt; pins.in_scope());
-    assert_eq!(rt; pins.unpin(false), Err(Refusal::NotOwner));
-    assert_eq!(rt; pins.unpin_check(true), None);
+    same!(rt; pins.kind(), Kind::Primary);
+    holds!(rt; pins.is_pinned());
+    holds!(rt; pins.in_scope());
+    same!(rt; pins.unpin(false), Err(Refusal::NotOwner));
+    same!(rt; pins.unpin_check(true), None);
     pins.unpin(true)?;
-    assert!(rt; !pins.is_pinned());
-    assert!(rt; !pins.in_scope());
-    assert_eq!(rt; pins.unpin(true), Err(Refusal::NotHeld));
-    assert_eq!(rt; pins.unpin(false), Err(Refusal::NotOwner));
+    holds!(rt; !pins.is_pinned());
+    holds!(rt; !pins.in_scope());
+    same!(rt; pins.unpin(true), Err(Refusal::NotHeld));
+    same!(rt; pins.unpin(false), Err(Refusal::NotOwner));
     pins.pin();
-    assert!(rt; pins.in_scope());
+    holds!(rt; pins.in_scope());
     Ok(())
 }
 
@@ -49,11 +50,11 @@ fn a_primary_is_pinned_until_its_owner_unpins_it(rt: HostRuntime) -> Result<(), 
 fn a_secondary_has_no_owner(rt: HostRuntime) {
     let mut pins = Pins::new(rt.alloc(), Kind::Secondary);
     let task = TaskNo::numbered(1);
-    assert!(rt; !pins.is_pinned());
-    assert!(rt; !pins.in_scope());
-    assert_eq!(rt; pins.unpin(true), Err(Refusal::NotOwner));
-    assert_eq!(rt; pins.borrow(task), Err(Refusal::NotOwner));
-    assert_eq!(rt; pins.give_up(task), Err(Refusal::NotOwner));
+    holds!(rt; !pins.is_pinned());
+    holds!(rt; !pins.in_scope());
+    same!(rt; pins.unpin(true), Err(Refusal::NotOwner));
+    same!(rt; pins.borrow(task), Err(Refusal::NotOwner));
+    same!(rt; pins.give_up(task), Err(Refusal::NotOwner));
 }
 
 #[test]
@@ -62,20 +63,20 @@ fn a_task_borrows_once(rt: HostRuntime) -> Result<(), Fail> {
     let one = TaskNo::numbered(1);
     let two = TaskNo::numbered(2);
     pins.unpin(true)?;
-    assert_eq!(rt; pins.borrow_check(one), None);
+    same!(rt; pins.borrow_check(one), None);
     borrow(&rt, &mut pins, one)?;
     borrow(&rt, &mut pins, two)?;
-    assert!(rt; pins.in_scope());
-    assert_eq!(rt; borrow(&rt, &mut pins, one), Err(Refusal::Exists));
-    assert_eq!(rt; pins.give_up_check(one), None);
+    holds!(rt; pins.in_scope());
+    same!(rt; borrow(&rt, &mut pins, one), Err(Refusal::Exists));
+    same!(rt; pins.give_up_check(one), None);
     pins.give_up(one)?;
-    assert!(rt; !pins.borrows(one));
-    assert!(rt; pins.borrows(two));
-    assert_eq!(rt; pins.give_up(one), Err(Refusal::Absent));
+    holds!(rt; !pins.borrows(one));
+    holds!(rt; pins.borrows(two));
+    same!(rt; pins.give_up(one), Err(Refusal::Absent));
     pins.forget(one);
-    assert!(rt; pins.in_scope());
+    holds!(rt; pins.in_scope());
     pins.forget(two);
-    assert!(rt; !pins.in_scope());
+    holds!(rt; !pins.in_scope());
     Ok(())
 }
 
@@ -86,41 +87,39 @@ fn the_65th_borrower_is_refused(rt: HostRuntime) -> Result<(), Fail> {
         borrow(&rt, &mut pins, TaskNo::numbered(number))?;
     }
     let late = TaskNo::numbered(64);
-    assert_eq!(rt; borrow(&rt, &mut pins, late), Err(Refusal::TooMany));
-    assert_eq!(rt;
-        borrow(&rt, &mut pins, TaskNo::numbered(63)),
-        Err(Refusal::Exists)
-    );
+    same!(rt; borrow(&rt, &mut pins, late), Err(Refusal::TooMany));
+    same!(rt; borrow(&rt, &mut pins, TaskNo::numbered(63)),
+        Err(Refusal::Exists));
     pins.give_up(TaskNo::numbered(30))?;
     borrow(&rt, &mut pins, late)?;
-    assert!(rt; pins.borrows(late));
+    holds!(rt; pins.borrows(late));
     Ok(())
 }
 
 #[test]
 fn holds_are_counted_by_session(rt: HostRuntime) -> Result<(), Fail> {
     let mut pins = Pins::new(rt.alloc(), Kind::Secondary);
-    assert!(rt; !pins.is_held());
+    holds!(rt; !pins.is_held());
     for session in [9, 4, 9, 4294967295, 9] {
         hold(&rt, &mut pins, session)?;
     }
-    assert!(rt; pins.is_held());
-    assert_eq!(rt; pins.holds_of(9), 3);
-    assert_eq!(rt; pins.holds_of(4), 1);
-    assert_eq!(rt; pins.holds_of(5), 0);
-    assert_eq!(rt; pins.release(5), Err(Refusal::NotHeld));
-    assert_eq!(rt; pins.release_check(4), None);
+    holds!(rt; pins.is_held());
+    same!(rt; pins.holds_of(9), 3);
+    same!(rt; pins.holds_of(4), 1);
+    same!(rt; pins.holds_of(5), 0);
+    same!(rt; pins.release(5), Err(Refusal::NotHeld));
+    same!(rt; pins.release_check(4), None);
     pins.release(4)?;
-    assert_eq!(rt; pins.release(4), Err(Refusal::NotHeld));
+    same!(rt; pins.release(4), Err(Refusal::NotHeld));
     pins.release(9)?;
-    assert_eq!(rt; pins.holds_of(9), 2);
-    assert_eq!(rt; pins.holds_of(4294967295), 1);
+    same!(rt; pins.holds_of(9), 2);
+    same!(rt; pins.holds_of(4294967295), 1);
     pins.leave(9);
     pins.leave(5);
-    assert_eq!(rt; pins.holds_of(9), 0);
-    assert!(rt; pins.is_held());
+    same!(rt; pins.holds_of(9), 0);
+    holds!(rt; pins.is_held());
     pins.leave(4294967295);
-    assert!(rt; !pins.is_held());
+    holds!(rt; !pins.is_held());
     Ok(())
 }
 
@@ -130,13 +129,13 @@ fn the_65th_hold_of_all_sessions_is_refused(rt: HostRuntime) -> Result<(), Fail>
     for place in 0..64 {
         hold(&rt, &mut pins, place % 40)?;
     }
-    assert_eq!(rt; pins.hold_check(), Some(Refusal::TooMany));
-    assert_eq!(rt; hold(&rt, &mut pins, 1), Err(Refusal::TooMany));
-    assert_eq!(rt; hold(&rt, &mut pins, 99), Err(Refusal::TooMany));
-    assert_eq!(rt; pins.holds_of(1), 2);
+    same!(rt; pins.hold_check(), Some(Refusal::TooMany));
+    same!(rt; hold(&rt, &mut pins, 1), Err(Refusal::TooMany));
+    same!(rt; hold(&rt, &mut pins, 99), Err(Refusal::TooMany));
+    same!(rt; pins.holds_of(1), 2);
     pins.release(39)?;
-    assert_eq!(rt; pins.hold_check(), None);
+    same!(rt; pins.hold_check(), None);
     hold(&rt, &mut pins, 99)?;
-    assert_eq!(rt; pins.holds_of(99), 1);
+    same!(rt; pins.holds_of(99), 1);
     Ok(())
 }
