@@ -5,6 +5,8 @@ use Rattle.std.proofs.lemmas.Map.Steps.{set_value_same}
 use Rattle.private_store.specs.Jobs.{same_job}
 use Rattle.private_store.specs.declared.schedules.Event.TheVariants as event
 use Rattle.node_table.specs.Outcomes.{given_of}
+use Rattle.node_core.specs.Calls.{takes_no_memory}
+use Rattle.node_core.specs.Hosted.{row_at}
 use Rattle.node_core.specs.OneJob.{StepsOne}
 use Rattle.node_core.proofs.Calling.{if_ok_on, both_err}
 use Rattle.node_core.proofs.Views.{with_rows, with_all, call_steps, refused_steps}
@@ -39,3 +41,8 @@ returns-clause-err c =
     both_err c.carry_out.result c.carry_out.ensures.err c.carry_out.ensures.works (λ same works.
     (λ i. with_all c.self.inside.number c.self.inside.admission c.self.inside.works c.args.job c.args.session c.args.command.now
     ((wrote.0 ∙ ap (set_value (same_job c.args.job) rows) same ∙ set_value_same (same_job c.args.job) rows c.in-Some.row.now found) i) (works i)) ∙ c.self.view_is)
+
+pub returns-clause-frugal : goal.returns-clause-frugal
+returns-clause-frugal c frugal =
+    let found = sym c.get_mut.ensures.value ∙ ap option_copied_mut c.in-Some.is in
+    c.carry_out.ensures.frugal (ap (λ o. takes_no_memory o c.args.command.now) (sym (ap (λ n. row_at n c.args.job) (sym c.self.view_is) ∙ found)) ∙ frugal)
