@@ -1,0 +1,4 @@
+mod Built
+mod Lists
+mod Telling
+mod Numbering
