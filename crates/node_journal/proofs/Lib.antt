@@ -1,3 +1,4 @@
+mod Logging
 mod Built
 mod Lists
 mod Telling

@@ -1,7 +1,8 @@
 //! A node with its journal, under one name.
-ghost use Rattle.std.specs.Prelude.{◌≡◌, ℕ, ◌+◌, ◌++◌, ◌∷◌, ◌==◌, ◌≤◌, [], true, false, if◌then◌else◌, Some, None, IfOk, IfErr, OnOk, OnErr, IsErrOf, IsOk};
+ghost use Rattle.std.specs.Prelude.{◌≡◌, ℕ, ◌+◌, ◌++◌, ◌∷◌, ◌==◌, ◌&&◌, ◌⊎◌, ◌≤◌, [], true, false, if◌then◌else◌, Some, None, IfOk, IfErr, OnOk, OnErr, IsErrOf, IsOk};
+ghost use Rattle.std.specs.List.{list_any};
 ghost use Rattle.obj_id.specs.declared.refusals.Refusal.{Refusal};
-ghost use Rattle.obj_id.specs.declared.refusals.Refusal.TheVariants.{NoMemory};
+ghost use Rattle.obj_id.specs.declared.refusals.Refusal.TheVariants.{NoMemory, NotAdmitted, TooMany};
 ghost use Rattle.private_store.specs.declared.schedules.NodeEvent.TheVariants as node_event;
 ghost use Rattle.private_store.specs.Answers.{wants_memory, is_small_reply};
 ghost use Rattle.job_admission.specs.Admissions.{largest_memory, sessions_entered, enter_check, entered};
@@ -9,11 +10,11 @@ ghost use Rattle.node_core.specs.Built.{is_built};
 ghost use Rattle.node_core.specs.Steps.{job_of_event, Steps};
 ghost use Rattle.node_core.specs.Foreseen.{IsAsForeseen};
 ghost use Rattle.node_core.specs.Outcomes.{given_of};
-ghost use Rattle.job_logs.specs.Logs.{lists_of, list_of};
+ghost use Rattle.node_journal.specs.Logs.{lists_of, list_of};
 ghost use Rattle.node_journal.specs.Journals.{entry_for, Tells, AreNumbered, is_call};
 
 use crate::entries::{Entry, Receipt, job_of, kept_reply_of};
-use job_logs::JobLogs;
+use crate::logs::Logs;
 use node_core::{Foreseen, Node, Outcome};
 use obj_id::{JobKey, JobNo, Refusal};
 use private_store::Event;
@@ -34,7 +35,7 @@ pub struct Kept<L: Ledger> {
     alloc: Global,
     node: Node,
     number: u32,
-    logs: JobLogs<Entry>,
+    logs: Logs,
     // of all jobs' entries
     count: u64,
     seat: Share<L>,
@@ -60,7 +61,7 @@ impl<L: Ledger> Kept<L> {
             alloc,
             node: Node::new(alloc, number, memory),
             number,
-            logs: JobLogs::new(alloc),
+            logs: Logs::new(alloc),
             count: 0,
             seat,
         }
@@ -116,6 +117,7 @@ impl<L: Ledger> Kept<L> {
         ensures session { IfOk result (λ session. session ≡ sessions_entered self.old.node.admissions job + 1) }
         ensures ok { OnOk result (self.new.node ≡ record self.old.node { admissions = entered self.old.node.admissions job }) }
         ensures passed { IsOk result → enter_check self.old.node.admissions job key.now ≡ None }
+        ensures refusals { IfErr result (λ r. (r ≡ NotAdmitted) ⊎ (r ≡ TooMany)) }
         ensures refused { (r : Refusal) → IsErrOf result r → enter_check self.old.node.admissions job key.now ≡ Some r }
         ensures err { OnErr result (self.new.node ≡ self.old.node) }
         ensures journal { (lists_of self.new.logs ≡ lists_of self.old.logs) × (self.new.count ≡ self.old.count) × (self.new.number ≡ self.old.number) }
@@ -145,6 +147,15 @@ impl<L: Ledger> Kept<L> {
         self.count
     }
 
+    /// Whether the journal has an entry of the receipt's job and number, if the receipt is this node's.
+    ///
+    /// Looks at each of the job's entries, at most.
+    pub fn stands(&self, receipt: &Receipt<L>) -> bool
+        ensures { result ≡ (receipt.now.node == self.now.number && list_any (λ entry. entry.number == receipt.now.entry.number) (list_of (lists_of self.now.logs) receipt.now.job.0)) }
+    {
+        receipt.node() == self.number && has_number(self.list(receipt.job()), receipt.number())
+    }
+
     /// The entries of a job number, oldest first.
     pub fn list(&self, job: JobNo) -> &[Entry]
         ensures { result.now ≡ list_of (lists_of self.now.logs) job.0 }
@@ -153,11 +164,18 @@ impl<L: Ledger> Kept<L> {
     }
 }
 
+/// Whether one of the entries has the number.
+fn has_number(entries: &[Entry], number: u64) -> bool
+    ensures { result ≡ list_any (λ entry. entry.number == number) entries.now }
+{
+    entries.iter().any(|entry| entry.number == number)
+}
+
 /// Steps the node, and writes the entry of this number. An error changes neither.
 fn record(
     alloc: Global,
     node: &mut Node,
-    logs: &mut JobLogs<Entry>,
+    logs: &mut Logs,
     number: u64,
     event: &Event,
 ) -> Result<Outcome, Refusal>

@@ -4,6 +4,7 @@
 
 mod entries;
 mod kept;
+mod logs;
 
 pub use entries::{Entry, Receipt};
 pub use kept::Kept;

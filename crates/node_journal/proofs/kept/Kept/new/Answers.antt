@@ -1,5 +1,5 @@
 use Rattle.std.proofs.Common.{◌≡◌, ℕ, [], ap}
-use Rattle.job_logs.specs.Logs.{lists_of, list_of}
+use Rattle.node_journal.specs.Logs.{lists_of, list_of}
 use Rattle.node_journal.proofs.Telling.{told_at_first}
 use Rattle.node_journal.proofs.Numbering.{none_numbered}
 use Rattle.node_journal.proofs.kept.Kept.new.Goals as goal
