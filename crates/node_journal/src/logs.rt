@@ -1,8 +1,5 @@
 //! The entries of all jobs, oldest first: all growth comes before a step, and what the step adds then takes no memory. A
 //! contract sees the list of every job number, and whether one more entry of a job takes no memory.
-//!
-//! The lists aren't generic over what they hold: of a generic type beside a share of a ledger it isn't proved that it may go
-//! from thread to thread.
 ghost use Rattle.std.specs.Prelude.{◌≡◌, ℕ, ◌==◌, ◌++◌, ◌∷◌, ◌<◌, [], true, if◌then◌else◌, OnOk};
 ghost use Rattle.node_journal.specs.Logs.{lists_of, list_of, has_room};
 
