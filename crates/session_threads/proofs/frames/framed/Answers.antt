@@ -1,4 +1,4 @@
-use Rattle.std.proofs.Common.{◌≡◌, ◌*◌, true, IsTrue, length, flat_map, subst, sym, ap, ◌∙◌}
+use Rattle.std.proofs.Common.{◌≡◌, ◌*◌, IsTrue, length, flat_map, subst, sym, ap, ◌∙◌}
 use Rattle.private_store.specs.Answers.{is_small_reply}
 use Rattle.private_store.specs.Frames.{own_bytes, granted_bytes}
 use Rattle.wire_frames.specs.Writing.{has_reply_frame}
