@@ -1,0 +1,138 @@
+-- A built event at a node at which no hand stands is an input of its own job alone.
+use Rattle.std.proofs.Common.{◌≡◌, ℕ, Bool, true, false, cond, ◌==◌, List, [], ◌∷◌, map, Option, Some, None, option_to_list, refl, sym, ap, ◌∙◌}
+use Rattle.std.specs.Prelude.{option_map}
+use Rattle.std.specs.Option.{option_map_or}
+use Rattle.obj_id.specs.declared.commands.Command.TheVariants as command
+use Rattle.obj_id.specs.declared.commands.Reply.{Reply}
+use Rattle.obj_id.specs.declared.commands.Reply.TheVariants as reply
+use Rattle.private_store.specs.declared.inputs.Input.{Input}
+use Rattle.private_store.specs.declared.inputs.Input.TheVariants as input
+use Rattle.private_store.specs.declared.schedules.Event.{Event}
+use Rattle.private_store.specs.declared.schedules.Event.TheVariants as event
+use Rattle.private_store.specs.declared.schedules.NodeEvent.TheVariants.{Own}
+use Rattle.private_store.specs.Answers.{wants_memory, brings_within}
+use Rattle.private_store.specs.Contents.{View, judge}
+use Rattle.private_store.specs.Hands.{hands_ended}
+use Rattle.private_store.specs.NodeInputs.{JobInput, Before, own_here, own_due, notes_of, notes_here, hands_after, only_of, withdrawn_here}
+use Rattle.private_store.specs.Trace.{ends, hands_by}
+use Rattle.node_core.specs.Built.{is_built}
+use Rattle.node_core.specs.OneJob.{input_of}
+use Rattle.node_core.specs.Steps.{job_of_event}
+
+-- ---- the own input
+
+abbrev pub of_job : ℕ → Option Input → Option JobInput
+of_job job o = option_map (λ x. record { job = job; input = x }) o
+
+abbrev pub own_of : Event → Reply (List ℕ) → Option JobInput
+own_of e told = of_job (job_of_event e) (input_of e told)
+
+pub due_is : (before : Before) (e : Event) (told : Reply (List ℕ)) → is_built e ≡ true → own_due before (Own e) told ≡ own_of e told
+due_is before (event.Admit job quota key) reply.Ok built = refl
+due_is before (event.Admit job quota key) _ built = refl
+due_is before (event.JobEnd job) reply.Ok built = refl
+due_is before (event.JobEnd job) _ built = refl
+due_is before (event.Call job session c) told built = refl
+due_is before (event.Requota job quota) told built = absurd cc
+due_is before event.Take told built = absurd cc
+due_is before (event.Finish job number a) told built = absurd cc
+
+pub here_is : (before : Before) (e : Event) (told : Reply (List ℕ)) → is_built e ≡ true → ((job : ℕ) (x : Input) → own_of e told ≡ Some (record { job = job; input = x }) → wants_memory told ≡ false) → own_here before (Own e) told ≡ own_of e told
+here_is before (event.Admit job quota key) reply.Ok built never = refl
+here_is before (event.Admit job quota key) _ built never = refl
+here_is before (event.JobEnd job) reply.Ok built never = refl
+here_is before (event.JobEnd job) _ built never = refl
+here_is before (event.Call job session c) told built never = ap (λ t. cond t None (Some (record { job = job.0; input = input.Call session c }))) (never job.0 (input.Call session c) refl)
+here_is before (event.Requota job quota) told built never = absurd cc
+here_is before event.Take told built never = absurd cc
+here_is before (event.Finish job number a) told built never = absurd cc
+
+-- the own input, if the job is that of the event
+abbrev pub if_own : Bool → Option Input → List Input
+if_own true (Some x) = x ∷ []
+if_own _ _ = []
+
+pub own_inputs : (own job : ℕ) (o : Option Input) → only_of job (option_to_list (of_job own o)) ≡ if_own (own == job) o
+own_inputs own job None = by (own == job)
+  where
+    by : (b : Bool) → [] ≡ if_own b None
+    by true = refl
+    by false = refl
+own_inputs own job (Some x) = by (own == job)
+  where
+    by : (b : Bool) → map (λ (y : JobInput). y.input) (cond b (record { job = own; input = x } ∷ []) []) ≡ if_own b (Some x)
+    by true = refl
+    by false = refl
+
+-- ---- no note, and no hand
+
+record IsQuiet (before : Before) (e : Event) : Type 0 where
+  notes : notes_of before e ≡ []
+  hands : hands_by [] e ≡ []
+
+quiet : (before : Before) (e : Event) → is_built e ≡ true → before.hands ≡ [] → IsQuiet before e
+quiet before (event.Admit job quota key) built none = record { notes = refl; hands = refl }
+quiet before (event.JobEnd job) built none = record {
+  notes = ap (λ hands. option_map_or (λ test. map withdrawn_here (hands_ended test hands)) (ends (event.JobEnd job)) []) none;
+  hands = refl;
+}
+quiet before (event.Call job session (command.Create id kind n)) built none = record { notes = refl; hands = refl }
+quiet before (event.Call job session (command.Write id offset bytes)) built none = record { notes = refl; hands = refl }
+quiet before (event.Call job session (command.Seal id)) built none = record { notes = refl; hands = refl }
+quiet before (event.Call job session (command.Get id)) built none = record { notes = refl; hands = refl }
+quiet before (event.Call job session (command.Read id offset n)) built none = record { notes = refl; hands = refl }
+quiet before (event.Call job session (command.Release id)) built none = record { notes = refl; hands = refl }
+quiet before (event.Call job session command.List) built none = record { notes = refl; hands = refl }
+quiet before (event.Call job session command.Usage) built none = record { notes = refl; hands = refl }
+quiet before (event.Call job session command.Leave) built none = record { notes = refl; hands = refl }
+quiet before (event.Call job session (command.Unpin id task)) built none = absurd cc
+quiet before (event.Call job session (command.Borrow id task)) built none = absurd cc
+quiet before (event.Call job session (command.GiveUp id task)) built none = absurd cc
+quiet before (event.Call job session (command.Delete id)) built none = absurd cc
+quiet before (event.Call job session (command.EndTask task)) built none = absurd cc
+quiet before (event.Call job session (command.Grant id target)) built none = absurd cc
+quiet before (event.Call job session (command.Withdraw id target)) built none = absurd cc
+quiet before (event.Call job session (command.Peek id offset n)) built none = absurd cc
+quiet before (event.Requota job quota) built none = absurd cc
+quiet before event.Take built none = absurd cc
+quiet before (event.Finish job number a) built none = absurd cc
+
+pub no_notes : (before : Before) (e : Event) (told : Reply (List ℕ)) → is_built e ≡ true → before.hands ≡ [] → notes_here before (Own e) told ≡ []
+no_notes before e reply.Ok built none = (quiet before e built none).notes
+no_notes before e _ built none = refl
+
+pub no_hands : (before : Before) (e : Event) (told : Reply (List ℕ)) → is_built e ≡ true → before.hands ≡ [] → hands_after [] (Own e) told ≡ []
+no_hands before e reply.Ok built none = (quiet before e built none).hands
+no_hands before e _ built none = refl
+
+-- ---- nothing of another job
+
+abbrev is_own_kind : Option Input → Bool
+is_own_kind None = true
+is_own_kind (Some (input.Begin quota)) = true
+is_own_kind (Some (input.Call session c)) = true
+is_own_kind (Some input.End) = true
+is_own_kind _ = false
+
+own_kinds : (e : Event) (told : Reply (List ℕ)) → is_own_kind (input_of e told) ≡ true
+own_kinds (event.Admit job quota key) reply.Ok = refl
+own_kinds (event.Admit job quota key) _ = refl
+own_kinds (event.JobEnd job) reply.Ok = refl
+own_kinds (event.JobEnd job) _ = refl
+own_kinds (event.Call job session c) told = refl
+own_kinds (event.Requota job quota) told = refl
+own_kinds event.Take told = refl
+own_kinds (event.Finish job number a) told = refl
+
+brings : (node : ℕ) (view : View) (x : Input) → is_own_kind (Some x) ≡ true → brings_within view.shape (judge node view x) ≡ true
+brings node view (input.Begin quota) is = refl
+brings node view (input.Call session c) is = refl
+brings node view input.End is = refl
+brings node view (input.Requota quota) is = absurd cc
+brings node view (input.Answer number a) is = absurd cc
+brings node view (input.Arrive a) is = absurd cc
+brings node view (input.Received id bytes giver depth) is = absurd cc
+brings node view (input.Withdrawn id giver depth) is = absurd cc
+
+pub brings_none : (node : ℕ) (view : View) (e : Event) (told : Reply (List ℕ)) (x : Input) → input_of e told ≡ Some x → brings_within view.shape (judge node view x) ≡ true
+brings_none node view e told x is = brings node view x (ap is_own_kind (sym is) ∙ own_kinds e told)

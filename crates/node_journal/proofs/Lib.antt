@@ -1,0 +1,5 @@
+mod Logging
+mod Built
+mod Lists
+mod Telling
+mod Numbering

@@ -1,0 +1,3 @@
+pub mod Replies
+pub mod Journals
+pub mod Logs

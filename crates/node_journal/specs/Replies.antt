@@ -1,0 +1,14 @@
+-- Replies as a journal keeps them.
+use Rattle.std.specs.Prelude.{ℕ, List, []}
+use Rattle.obj_id.specs.declared.commands.Reply.{Reply}
+use Rattle.obj_id.specs.declared.commands.Reply.TheVariants as reply
+use Rattle.private_store.specs.Answers.{brief_reply}
+
+-- a list without its items: they are contents here
+abbrev pub unlisted : Reply ℕ → Reply ℕ
+unlisted (reply.List own granted) = reply.List [] []
+unlisted told = told
+
+-- the reply without its contents
+abbrev pub kept_reply : Reply (List ℕ) → Reply ℕ
+kept_reply told = unlisted (brief_reply told)

@@ -1,0 +1,117 @@
+//! What a journal keeps, and what a step gives of it.
+ghost use Rattle.std.specs.Prelude.{◌≡◌};
+ghost use Rattle.obj_id.specs.declared.commands.Reply.TheVariants as reply;
+ghost use Rattle.node_core.specs.Steps.{job_of_event};
+ghost use Rattle.node_journal.specs.Replies.{kept_reply};
+
+use bytes::Bytes;
+use obj_id::{Items, JobNo, Reply, Work};
+use private_store::{Event, Judged};
+use std::alloc::Global;
+use std::marker::PhantomData;
+use std::sync::ledger::Ledger;
+
+/// An entry of a job's journal.
+#[derive(Debug, Drop)]
+pub struct Entry {
+    /// From 1, over all jobs of the node.
+    pub number: u64,
+    /// What the event was to its job, without contents: none if the operator was refused.
+    pub input: Option<Judged>,
+    /// The answer without contents: bytes as their number, and a list without its items.
+    pub reply: Reply<u64>,
+}
+
+/// The name of one entry in a journal of the ledger `L`: a step makes it, and it isn't copied.
+#[derive(Drop)]
+pub struct Receipt<L: Ledger> {
+    pub(crate) node: u32,
+    pub(crate) job: JobNo,
+    pub(crate) entry: Entry,
+    pub(crate) name: PhantomData<L>,
+}
+
+impl<L: Ledger> Receipt<L> {
+    /// The number of the node.
+    pub fn node(&self) -> u32
+        ensures { result ≡ self.now.node }
+    {
+        self.node
+    }
+
+    /// The entry's number at the node, from 1.
+    pub fn number(&self) -> u64
+        ensures { result ≡ self.now.entry.number }
+    {
+        self.entry.number
+    }
+
+    /// The job under which the entry is kept: 0 for an event of none.
+    pub fn job(&self) -> JobNo
+        ensures { result ≡ self.now.job }
+    {
+        self.job
+    }
+
+    /// What the event was to its job, without contents: none if the operator was refused.
+    pub fn input(&self) -> &Option<Judged>
+        ensures { result.now ≡ self.now.entry.input }
+    {
+        &self.entry.input
+    }
+
+    /// The answer without contents: bytes as their number, and a list without its items.
+    pub fn reply(&self) -> &Reply<u64>
+        ensures { result.now ≡ self.now.entry.reply }
+    {
+        &self.entry.reply
+    }
+}
+
+/// The reply as a journal keeps it. Takes no memory.
+pub(crate) fn kept_reply_of(alloc: Global, reply: &Reply<Bytes>) -> Reply<u64>
+    ensures { result ≡ kept_reply reply.now }
+{
+    match reply {
+        Reply::Ok => Reply::Ok,
+        Reply::Placed(offset, extent) => Reply::Placed(*offset, *extent),
+        Reply::Got(length) => Reply::Got(*length),
+        Reply::Bytes(bytes) => Reply::Bytes(bytes.len() as u64),
+        Reply::List(_, _) => Reply::List(Items::new(alloc), Items::new(alloc)),
+        Reply::Usage(usage) => Reply::Usage(*usage),
+        Reply::Work(work) => Reply::Work(brief_work(work)),
+        Reply::NoWork => Reply::NoWork,
+        Reply::Refused(refusal) => Reply::Refused(*refusal),
+    }
+}
+
+/// The work with the number of its bytes.
+fn brief_work(work: &Work<Bytes>) -> Work<u64>
+    ensures { kept_reply (reply.Work work.now) ≡ reply.Work result }
+{
+    Work {
+        job: work.job,
+        number: work.number,
+        kind: work.kind,
+        key: work.key,
+        length: work.length,
+        payload: match &work.payload {
+            Some(bytes) => Some(bytes.len() as u64),
+            None => None,
+        },
+    }
+}
+
+/// The job that an event is of: 0 for one of none.
+pub(crate) fn job_of(event: &Event) -> JobNo
+    ensures { result.0 ≡ job_of_event event.now }
+{
+    match event {
+        Event::Admit(job, _, _) => *job,
+        Event::Requota(job, _) => *job,
+        Event::JobEnd(job) => *job,
+        Event::Take => JobNo(0),
+        Event::Finish(job, _, _) => *job,
+        Event::Call(job, _, _) => *job,
+    }
+}

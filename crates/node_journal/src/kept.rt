@@ -1,0 +1,202 @@
+//! A node with its journal, under one name.
+ghost use Rattle.std.specs.Prelude.{◌≡◌, ℕ, ◌+◌, ◌++◌, ◌∷◌, ◌==◌, ◌&&◌, ◌⊎◌, ◌≤◌, [], true, false, if◌then◌else◌, Some, None, IfOk, IfErr, OnOk, OnErr, IsErrOf, IsOk};
+ghost use Rattle.std.specs.List.{list_any};
+ghost use Rattle.obj_id.specs.declared.refusals.Refusal.{Refusal};
+ghost use Rattle.obj_id.specs.declared.refusals.Refusal.TheVariants.{NoMemory, NotAdmitted, TooMany};
+ghost use Rattle.private_store.specs.declared.schedules.NodeEvent.TheVariants as node_event;
+ghost use Rattle.private_store.specs.Answers.{wants_memory, is_small_reply};
+ghost use Rattle.job_admission.specs.Admissions.{largest_memory, sessions_entered, enter_check, entered};
+ghost use Rattle.node_core.specs.Built.{is_built};
+ghost use Rattle.node_core.specs.Steps.{job_of_event, Steps};
+ghost use Rattle.node_core.specs.Foreseen.{IsAsForeseen};
+ghost use Rattle.node_core.specs.Outcomes.{given_of};
+ghost use Rattle.node_journal.specs.Logs.{lists_of, list_of};
+ghost use Rattle.node_journal.specs.Journals.{entry_for, Tells, AreNumbered, is_call};
+
+use crate::entries::{Entry, Receipt, job_of, kept_reply_of};
+use crate::logs::Logs;
+use node_core::{Foreseen, Node, Outcome};
+use obj_id::{JobKey, JobNo, Refusal};
+use private_store::Event;
+use std::alloc::Global;
+use std::marker::PhantomData;
+use std::sync::ledger::{Ledger, Share};
+
+/// The number of the last entry that a journal can have.
+const LAST_ENTRY: u64 = (1 << 60) - 1;
+
+/// A node with its journal, which holds one part of the ledger that its name is: nothing else of that part's name can be
+/// stepped, since nobody else gets the part.
+///
+/// Whenever it can be seen, the node shows of every job number a view of which the job's entries tell: their replay gives
+/// that view without its contents, and each entry has the answer that the replay gives there. The entries' numbers rise.
+#[derive(Drop)]
+pub struct Kept<L: Ledger> {
+    alloc: Global,
+    node: Node,
+    number: u32,
+    logs: Logs,
+    // of all jobs' entries
+    count: u64,
+    seat: Share<L>,
+    pub ghost seated: { seat.parts ≡ 1 },
+    pub ghost blank: { seat.amount ≡ 0 },
+    pub ghost named: { node.number ≡ number },
+    pub ghost handless: { node.hands ≡ [] },
+    pub ghost numbered: { (job : ℕ) → AreNumbered count (list_of (lists_of logs) job) },
+    pub ghost told: { ∥ Tells node (list_of (lists_of logs)) ∥₁ },
+}
+
+impl<L: Ledger> Kept<L> {
+    /// A node of this number, with so many bytes of memory, no job and no entry, on one part of the name.
+    pub fn new(alloc: Global, number: u32, memory: u64, seat: Share<L>) -> Kept<L>
+        requires memory { memory ≤ largest_memory }
+        requires seat { (seat.parts ≡ 1) × (seat.amount ≡ 0) }
+        ensures number { result.number ≡ number }
+        ensures admissions { result.node.admissions ≡ record { memory = memory; greatest = 0; live = [] } }
+        ensures count { result.count ≡ 0 }
+        ensures empty { lists_of result.logs ≡ [] }
+    {
+        Kept {
+            alloc,
+            node: Node::new(alloc, number, memory),
+            number,
+            logs: Logs::new(alloc),
+            count: 0,
+            seat,
+        }
+    }
+
+    /// Steps the node by one event, and adds one entry, which the receipt names.
+    ///
+    /// `NoMemory` alone, if the event or its entry finds no memory, or if 1,152,921,504,606,846,975 entries were made:
+    /// then nothing has changed.
+    pub fn step(&mut self, event: &Event) -> Result<(Outcome, Receipt<L>), Refusal>
+        requires { is_built event.now ≡ true }
+        ensures node { IfOk result (λ r. Steps self.old.node (node_event.Own event.now) (given_of r.0) self.new.node) }
+        ensures journal { IfOk result (λ r. (job : ℕ) → list_of (lists_of self.new.logs) job ≡ (if job_of_event event.now == job then list_of (lists_of self.old.logs) job ++ entry_for (self.old.count + 1) self.old.node event.now r.0.reply ∷ [] else list_of (lists_of self.old.logs) job)) }
+        ensures receipt { IfOk result (λ r. (r.1.node ≡ self.old.number) × (r.1.job.0 ≡ job_of_event event.now) × (r.1.entry ≡ entry_for (self.old.count + 1) self.old.node event.now r.0.reply)) }
+        ensures count { OnOk result (self.new.count ≡ self.old.count + 1) }
+        ensures answered { IfOk result (λ r. is_call event.now ≡ true → wants_memory r.0.reply ≡ false) }
+        ensures small { IfOk result (λ r. is_call event.now ≡ true → is_small_reply r.0.reply ≡ true) }
+        ensures number { self.new.number ≡ self.old.number }
+        ensures memory { (r : Refusal) → IsErrOf result r → r ≡ NoMemory }
+        ensures same { OnErr result ((self.new.node ≡ self.old.node) × (self.new.count ≡ self.old.count)) }
+        ensures unchanged { OnErr result (lists_of self.new.logs ≡ lists_of self.old.logs) }
+    {
+        if self.count >= LAST_ENTRY {
+            return Err(Refusal::NoMemory);
+        }
+        let Kept {
+            alloc,
+            node,
+            number,
+            logs,
+            count,
+            seat: _,
+        } = self;
+        let next = *count + 1;
+        let Foreseen { judged: input, .. } = node.foresee(event);
+        let outcome = record(*alloc, node, logs, next, event)?;
+        *count = next;
+        let receipt = Receipt {
+            node: *number,
+            job: job_of(event),
+            entry: Entry {
+                number: next,
+                input,
+                reply: kept_reply_of(*alloc, &outcome.reply),
+            },
+            name: PhantomData,
+        };
+        Ok((outcome, receipt))
+    }
+
+    /// The number of the job's next session, from 1, as `Node::enter` gives it. It makes no entry. Takes no memory.
+    pub fn enter(&mut self, job: JobNo, key: &JobKey) -> Result<u32, Refusal>
+        ensures session { IfOk result (λ session. session ≡ sessions_entered self.old.node.admissions job + 1) }
+        ensures ok { OnOk result (self.new.node ≡ record self.old.node { admissions = entered self.old.node.admissions job }) }
+        ensures passed { IsOk result → enter_check self.old.node.admissions job key.now ≡ None }
+        ensures refusals { IfErr result (λ r. (r ≡ NotAdmitted) ⊎ (r ≡ TooMany)) }
+        ensures refused { (r : Refusal) → IsErrOf result r → enter_check self.old.node.admissions job key.now ≡ Some r }
+        ensures err { OnErr result (self.new.node ≡ self.old.node) }
+        ensures journal { (lists_of self.new.logs ≡ lists_of self.old.logs) × (self.new.count ≡ self.old.count) × (self.new.number ≡ self.old.number) }
+    {
+        let Kept {
+            alloc: _,
+            node,
+            number: _,
+            logs: _,
+            count: _,
+            seat: _,
+        } = self;
+        node.enter(job, key)
+    }
+
+    /// The number of the node.
+    pub fn number(&self) -> u32
+        ensures { result ≡ self.now.number }
+    {
+        self.number
+    }
+
+    /// How many entries the journal has, of all jobs.
+    pub fn entries(&self) -> u64
+        ensures { result ≡ self.now.count }
+    {
+        self.count
+    }
+
+    /// Whether the journal has an entry of the receipt's job and number, if the receipt is this node's.
+    ///
+    /// Looks at each of the job's entries, at most.
+    pub fn stands(&self, receipt: &Receipt<L>) -> bool
+        ensures { result ≡ (receipt.now.node == self.now.number && list_any (λ entry. entry.number == receipt.now.entry.number) (list_of (lists_of self.now.logs) receipt.now.job.0)) }
+    {
+        receipt.node() == self.number && has_number(self.list(receipt.job()), receipt.number())
+    }
+
+    /// The entries of a job number, oldest first.
+    pub fn list(&self, job: JobNo) -> &[Entry]
+        ensures { result.now ≡ list_of (lists_of self.now.logs) job.0 }
+    {
+        self.logs.list(job)
+    }
+}
+
+/// Whether one of the entries has the number.
+fn has_number(entries: &[Entry], number: u64) -> bool
+    ensures { result ≡ list_any (λ entry. entry.number == number) entries.now }
+{
+    entries.iter().any(|entry| entry.number == number)
+}
+
+/// Steps the node, and writes the entry of this number. An error changes neither.
+fn record(
+    alloc: Global,
+    node: &mut Node,
+    logs: &mut Logs,
+    number: u64,
+    event: &Event,
+) -> Result<Outcome, Refusal>
+    requires { is_built event.now ≡ true }
+    ensures node { IfOk result (λ o. Steps node.old (node_event.Own event.now) (given_of o) node.new) }
+    ensures foreseen { IfOk result (λ o. IsAsForeseen node.old event.now (given_of o)) }
+    ensures logs { IfOk result (λ o. (job : ℕ) → list_of (lists_of logs.new) job ≡ (if job_of_event event.now == job then list_of (lists_of logs.old) job ++ entry_for number node.old event.now o.reply ∷ [] else list_of (lists_of logs.old) job)) }
+    ensures memory { (r : Refusal) → IsErrOf result r → r ≡ NoMemory }
+    ensures err { OnErr result (node.new ≡ node.old) }
+    ensures unchanged { OnErr result (lists_of logs.new ≡ lists_of logs.old) }
+{
+    let job = job_of(event);
+    logs.reserve(job)?;
+    let Foreseen { judged: input, .. } = node.foresee(event);
+    let outcome = node.apply(event)?;
+    let reply = kept_reply_of(alloc, &outcome.reply);
+    let entry = Entry {
+        number,
+        input,
+        reply,
+    };
+    logs.add(job, entry);
+    Ok(outcome)
+}

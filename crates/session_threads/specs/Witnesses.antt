@@ -1,0 +1,46 @@
+-- What a receipt says of an answer, and what a session's gate promises of its answers.
+use Rattle.std.specs.Prelude.{◌≡◌, ℕ, ◌⊎◌, false, List, Option, Some, IsSomeAnd, ⊤}
+use Rattle.obj_id.specs.declared.ids.JobNo.{JobNo}
+use Rattle.obj_id.specs.declared.commands.Command.{Command}
+use Rattle.obj_id.specs.declared.commands.Command.TheVariants as command
+use Rattle.obj_id.specs.declared.commands.Reply.{Reply}
+use Rattle.obj_id.specs.declared.commands.Reply.TheVariants as reply
+use Rattle.obj_id.specs.declared.refusals.Refusal.TheVariants.{Malformed, NoMemory}
+use Rattle.private_store.specs.declared.frames.Awaited.{Awaited}
+use Rattle.private_store.specs.declared.frames.Awaited.TheVariants as awaited
+use Rattle.private_store.specs.declared.inputs.Judged.TheVariants as judged
+use Rattle.private_store.specs.Contents.{brief}
+use Rattle.node_core.specs.Built.{is_built_command}
+use Rattle.node_journal.specs.declared.entries.Entry.{Entry}
+use Rattle.node_journal.specs.Replies.{kept_reply}
+use Rattle.session_engine.specs.Calls.{Asked, to_call, to_wait, Answered, replied}
+
+-- what a receipt tells of its entry: the job under which it is kept, and the entry
+pub record Witness : Type 0 where
+  pub job : JobNo
+  pub entry : Entry
+
+-- the entry is of this job, session and command, and has this answer
+pub record IsCalled (job : JobNo) (session : ℕ) (c : Command (List ℕ)) (told : Reply (List ℕ)) (witness : Witness) : Type 0 where
+  pub of_job : witness.job ≡ job
+  pub input : witness.entry.input ≡ Some (judged.Call session (brief c))
+  pub answer : witness.entry.reply ≡ kept_reply told
+
+-- the command that is tried again
+abbrev pub tried : Awaited → Command (List ℕ)
+tried (awaited.Get id) = command.Get id
+tried (awaited.Create id kind n) = command.Create id kind n
+
+-- a command that isn't built is no frame here
+pub record IsUnbuilt (c : Command (List ℕ)) (told : Reply (List ℕ)) : Type 0 where
+  pub unbuilt : is_built_command c ≡ false
+  pub answer : told ≡ reply.Refused Malformed
+
+-- the last receipt is of this job, session, command and answer, or there was no memory, or the command isn't built
+abbrev pub IsStepped : JobNo → ℕ → Command (List ℕ) → Reply (List ℕ) → Option Witness → Type 0
+IsStepped job session c told last = IsSomeAnd last (IsCalled job session c told) ⊎ ((told ≡ reply.Refused NoMemory) ⊎ IsUnbuilt c told)
+
+abbrev pub IsWitnessed : Asked → Answered → Option Witness → Type 0
+IsWitnessed (to_call job session c) (replied told) last = IsStepped job session c told last
+IsWitnessed (to_wait job session a) (replied told) last = IsStepped job session (tried a) told last
+IsWitnessed _ _ last = ⊤
