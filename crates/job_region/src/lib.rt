@@ -225,14 +225,14 @@ impl Window {
 
     /// Takes back these extents, as far as they are there. Takes a bisection and two changes of the tree for each of
     /// them, and no memory.
-    pub fn give_back_all(&mut self, gone: &[Extent])
-        ensures { self.new ≡ record self.old { placed = without gone.now self.old.placed } }
+    pub fn give_back_all(&mut self, extents: &[Extent])
+        ensures { self.new ≡ record self.old { placed = without extents.now self.old.placed } }
     {
         free_all(
             &mut self.extents,
             &mut self.holes,
             &mut self.rooms,
-            gone,
+            extents,
             self.quota,
         );
     }

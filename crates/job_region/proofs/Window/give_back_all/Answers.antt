@@ -6,11 +6,11 @@ pub invariant_of-self : goal.invariant_of-self
 invariant_of-self c =
     record {
       whole = c.self.invariant.whole;
-      laid = rw c.free_all.ensures.left (kept_laid c.args.gone.now c.self.inside.quota 0 c.self.inside.extents.items c.self.invariant.laid);
+      laid = rw c.free_all.ensures.left (kept_laid c.args.extents.now c.self.inside.quota 0 c.self.inside.extents.items c.self.invariant.laid);
       small = c.self.invariant.small;
       free = c.free_all.ensures.free;
       spare = omega (arith, c.free_all.ensures.spare, c.self.invariant.spare);
     }
 
 pub returns : goal.returns
-returns c = rw (c.free_all.ensures.left, placed_kept c.self.inside.memory.items c.args.gone.now c.self.inside.extents.items, ← c.self.view_is)
+returns c = rw (c.free_all.ensures.left, placed_kept c.self.inside.memory.items c.args.extents.now c.self.inside.extents.items, ← c.self.view_is)
