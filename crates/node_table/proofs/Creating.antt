@@ -49,7 +49,6 @@ use Rattle.job_region.proofs.Places.{lookup-put_in}
 use Rattle.lru_evictor.specs.Orders.{AreThere, last_used, without_id, without_ids}
 use Rattle.lru_evictor.specs.declared.facts.DeviceRoom.{DeviceRoom}
 use Rattle.lru_evictor.proofs.Described.{offset-described}
-use Rattle.spill_work.specs.Line.{works_of}
 use Rattle.node_table.specs.Entries.{without_all}
 use Rattle.node_table.specs.Kept.{Kept, new_kept}
 use Rattle.node_table.specs.Row.{Row, Beside, copies_of, shape_of, place_of, ArePlaced}

@@ -1,7 +1,7 @@
 -- A row without one of its copies.
-use Rattle.std.proofs.Common.{◌≡◌, ◌≢◌, ℕ, Bool, true, false, not, ◌&&◌, ◌||◌, cond, nat_eq, List, [], ◌∷◌, ◌++◌, filter, length, map, take, Contains, Option, Some, None, is_some, is_none, unwrap_or, refl, sym, ap, subst, ◌∙◌, T, arith}
+use Rattle.std.proofs.Common.{◌≡◌, ℕ, Bool, true, false, not, ◌&&◌, ◌||◌, cond, nat_eq, List, [], ◌∷◌, filter, length, map, take, Option, Some, None, is_some, is_none, unwrap_or, refl, sym, ap, subst, ◌∙◌, T, arith}
 use Rattle.std.specs.Prelude.{IsSomeAnd, option_to_list}
-use Rattle.std.specs.List.{list_any, list_all, cons_option}
+use Rattle.std.specs.List.{list_all, cons_option}
 use Rattle.std.specs.FinMap.Entries.{is_sorted, below_all}
 use Rattle.std.specs.Option.{MatchOption, option_and_then}
 use Rattle.std.specs.Map.{lookup}
@@ -24,7 +24,7 @@ use Rattle.private_store.specs.Private.{key_of}
 use Rattle.private_store.proofs.KeptLists.{any-filter}
 use Rattle.private_store.proofs.Rows.{at-drop, at-put}
 use Rattle.private_store.proofs.Tests.{none_some, some_value, true_false, false_true, true_T, and_left, and_right, both, both_left, both_right}
-use Rattle.job_region.specs.Region.{without, extents_of, IsAt}
+use Rattle.job_region.specs.Region.{without}
 use Rattle.lru_evictor.specs.Orders.{AreThere, without_id}
 use Rattle.node_table.specs.Kept.{Kept}
 use Rattle.node_table.specs.Row.{Row, Beside, copies_of, shape_of, place_of, ArePlaced}

@@ -1,5 +1,5 @@
 -- A row takes Get of a copy that is sealed.
-use Rattle.std.proofs.Common.{◌≡◌, ◌≢◌, ℕ, ◌+◌, true, false, cond, ◌==◌, nat_le, [], ◌∷◌, map, Option, Some, None, is_some, option_map, refl, sym, ap, subst, ◌∙◌, Bool, not}
+use Rattle.std.proofs.Common.{◌≡◌, ◌≢◌, ℕ, ◌+◌, true, false, cond, ◌==◌, nat_le, [], ◌∷◌, map, Option, Some, None, is_some, refl, sym, ap, subst, ◌∙◌, Bool, not}
 use Rattle.obj_id.specs.declared.ids.ObjectId.{ObjectId}
 use Rattle.obj_id.specs.declared.refusals.Refusal.{Refusal}
 use Rattle.obj_id.specs.declared.refusals.Refusal.TheVariants.{Absent, Gone, NoMemory, TooMany, Pending, NotSealed}
@@ -24,7 +24,7 @@ use Rattle.private_store.proofs.Rows.{at-put_here}
 use Rattle.std.specs.Prelude.{IfOk, Ok, Err}
 use Rattle.std.specs.declared.result.Result.{Result}
 use Rattle.private_store.specs.Kept.{is_fetching, is_remembered}
-use Rattle.private_store.proofs.Tests.{true_false, false_true, some_value, none_some, both_left, both_right, not_true}
+use Rattle.private_store.proofs.Tests.{true_false, false_true, both_left, both_right, not_true}
 use Rattle.lru_evictor.specs.Orders.{AreThere, last_used, touched}
 use Rattle.lru_evictor.proofs.Reorders.{reordered-used}
 use Rattle.node_table.specs.Entries.{changed}

@@ -1,7 +1,7 @@
 -- A row takes Leave: each of its copies is changed once, by rising id.
 use Rattle.std.proofs.Common.{◌≡◌, ℕ, Bool, true, false, cond, List, [], ◌∷◌, fold, map, take, Option, Some, None, is_some, option_map, unwrap_or, refl, sym, ap, subst, ◌∙◌, T, arith}
 use Rattle.std.specs.Option.{option_map_or, option_and_then}
-use Rattle.std.specs.Prelude.{◌+◌, ◌-◌, ◌^◌, min, sum_by}
+use Rattle.std.specs.Prelude.{◌-◌, ◌^◌, min, sum_by}
 use Rattle.std.specs.List.{list_all}
 use Rattle.std.specs.Ordering.{is_eq, is_lt, ordering_reverse}
 use Rattle.std.specs.declared.cmp.Ordering.TheVariants.{Less}
@@ -39,7 +39,6 @@ use Rattle.node_table.specs.Row.{Row, Beside, copies_of, shape_of, place_of, Are
 use Rattle.node_table.specs.Shown.{seen, IsPlain, IsShown, only, TakesStep}
 use Rattle.node_table.specs.Usages.{total, doomed_one}
 use Rattle.node_table.proofs.ByChecks.{called}
-use Rattle.node_table.proofs.CopyTables.{at-copies}
 use Rattle.node_table.proofs.Places.{same_places}
 use Rattle.node_table.proofs.Releasing.{settled-stays, plain-holds}
 use Rattle.node_table.proofs.Stepping.{Moves, moved, same_bytes, received_stays}

@@ -1,12 +1,11 @@
 -- A row takes Leave copy by copy, where there are doomed ones.
 use Rattle.std.proofs.Common.{◌≡◌, ℕ, Bool, true, false, not, ◌&&◌, cond, List, [], ◌∷◌, ◌++◌, fold, filter, map, flat_map, take, Option, Some, None, is_some, is_none, option_map, unwrap_or, inl, inr, refl, sym, ap, subst, ◌∙◌, T}
-use Rattle.std.specs.Prelude.{option_to_list, filter_map}
+use Rattle.std.specs.Prelude.{option_to_list}
 use Rattle.std.proofs.lemmas.List.{map-append}
-use Rattle.std.specs.List.{list_all, cons_option}
+use Rattle.std.specs.List.{cons_option}
 use Rattle.std.specs.Option.{option_map_or}
 use Rattle.std.specs.FinMap.Entries.{is_sorted, below_all}
 use Rattle.obj_id.specs.declared.ids.ObjectId.{ObjectId}
-use Rattle.obj_id.specs.declared.works.DeviceKey.{DeviceKey}
 use Rattle.obj_id.specs.declared.works.Extent.{Extent}
 use Rattle.obj_id.specs.declared.commands.Command.TheVariants as command
 use Rattle.obj_id.specs.declared.commands.OwnItem.{OwnItem}
@@ -15,24 +14,22 @@ use Rattle.obj_id.specs.Ids.{id_cmp, same_id}
 use Rattle.obj_id.proofs.SameIds.{same_id-itself, same_id-equal, same_id-flip}
 use Rattle.private_store.specs.declared.inputs.Input.{Input}
 use Rattle.private_store.specs.declared.inputs.Input.TheVariants as input
-use Rattle.private_store.specs.Tables.{ById, at, with_entry, without_entry, ids_of, is_among}
+use Rattle.private_store.specs.Tables.{ById, at, with_entry, ids_of, is_among}
 use Rattle.private_store.specs.Shape.{Copy, Shape, Change}
 use Rattle.private_store.specs.Copies.{extent_of, is_held, is_granted, is_working, is_idle}
 use Rattle.private_store.specs.Room.{set_copy, drop_copy}
 use Rattle.private_store.specs.Change.{done, sending, erasing, settled, keys_gone}
-use Rattle.private_store.specs.Commands.{leave, leave_one, at_each, with_holds}
+use Rattle.private_store.specs.Commands.{leave_one, at_each, with_holds}
 use Rattle.private_store.specs.Contents.{Contents, judge, keeps_digest, no_digest}
 use Rattle.private_store.specs.Kept.{has_hand}
 use Rattle.private_store.specs.Private.{key_of}
 use Rattle.private_store.specs.Step.{step, reordered}
 use Rattle.private_store.proofs.Filling.{filled, below_none}
-use Rattle.private_store.proofs.RefusingLemmas.{keys_none, all_found}
 use Rattle.private_store.proofs.Rows.{at-put, at-put_here, at-drop}
-use Rattle.private_store.proofs.Tests.{T_true, true_T, and_left, and_right, none_some, some_value, true_false, false_true}
+use Rattle.private_store.proofs.Tests.{T_true, and_left, and_right, none_some, some_value}
 use Rattle.job_region.specs.Region.{bytes_at as placed_bytes}
 use Rattle.lru_evictor.specs.Orders.{AreThere}
 use Rattle.lru_evictor.proofs.Reorders.{reordered-unused}
-use Rattle.node_table.specs.Entries.{changed}
 use Rattle.node_table.specs.Kept.{Kept, left}
 use Rattle.node_table.specs.Row.{Row, Beside, copies_of, shape_of, place_of, ArePlaced}
 use Rattle.node_table.specs.Dropping.{dropped, is_over, settled_row, keys_settled, unheld_row, left_row, keys_left}
@@ -43,7 +40,7 @@ use Rattle.node_table.proofs.Changes.{changed-found, changed-absent}
 use Rattle.node_table.proofs.Changing.{From, from_changed, there_with}
 use Rattle.node_table.proofs.CopyTables.{at-first, at-rest, at-copies, at-copies_found, at-copies_none, copies-changed, sorted-copies}
 use Rattle.node_table.proofs.Described.{working-on, idle_same}
-use Rattle.node_table.proofs.Dropping.{change_left, moves_left, left_placed}
+use Rattle.node_table.proofs.Dropping.{moves_left, left_placed}
 use Rattle.node_table.proofs.Places.{changed_placed}
 use Rattle.node_table.proofs.Releasing.{plain-holds}
 use Rattle.node_table.proofs.Stepping.{Moves, moved, bytes_now, digests_now, same_bytes, received_stays}

@@ -66,10 +66,10 @@ module _ (order : List ObjectId) (once : IsOrderOfUse order) (store : Shape) (n 
       elim store.spill_failed as (λ f. store.spill_failed ≡ f → IsPlanned (room_by store n (spill ids)) store n (cond f TellFailedSpill (cond (has_numbers store.works_asked (length ids)) (Ask ids) (Refuse TooMany)))) [
         | true ↦ λ failed. spill_by true failed
         | false ↦ λ unfailed.
-          elim (has_numbers store.works_asked (length ids)) as (λ b. has_numbers store.works_asked (length ids) ≡ b → IsPlanned (room_by store n (spill ids)) store n (cond b (Ask ids) (Refuse TooMany))) [
-            | true ↦ λ t. record { room_is = spill_is unfailed true t; spillable = all_among _ ids chosen.pass; once = chosen.once; some = some; few = few; numbers = t }
-            | false ↦ λ t. spill_is unfailed false t
-          ] refl
+            elim (has_numbers store.works_asked (length ids)) as (λ b. has_numbers store.works_asked (length ids) ≡ b → IsPlanned (room_by store n (spill ids)) store n (cond b (Ask ids) (Refuse TooMany))) [
+              | true ↦ λ t. record { room_is = spill_is unfailed true t; spillable = all_among _ ids chosen.pass; once = chosen.once; some = some; few = few; numbers = t }
+              | false ↦ λ t. spill_is unfailed false t
+            ] refl
       ] refl
     where
       spill_by : (f : Bool) → store.spill_failed ≡ f

@@ -1,14 +1,14 @@
 -- One copy as its row keeps it: the store's copy, its digest, and which work is in flight for it.
-use Rattle.std.specs.Prelude.{◌≡◌, ℕ, ◌+◌, ◌-◌, Bool, false, not, ◌&&◌, Option, Some, None, if◌then◌else◌, is_some, is_none, option_map}
+use Rattle.std.specs.Prelude.{◌≡◌, ℕ, ◌+◌, ◌-◌, Bool, false, not, ◌&&◌, Option, Some, None, if◌then◌else◌, is_none, option_map}
 use Rattle.std.specs.Option.{option_map_or}
 use Rattle.obj_id.specs.declared.commands.Kind.{Kind}
-use Rattle.obj_id.specs.declared.commands.CopyState.TheVariants.{Sealed, Restoring, Away}
+use Rattle.obj_id.specs.declared.commands.CopyState.TheVariants.{Sealed}
 use Rattle.obj_id.specs.declared.messages.Digest.{Digest}
 use Rattle.obj_id.specs.declared.works.WorkKind.{WorkKind}
-use Rattle.obj_id.specs.declared.works.WorkKind.TheVariants.{Write, Read}
+use Rattle.obj_id.specs.declared.works.WorkKind.TheVariants.{Write}
 use Rattle.private_store.specs.Shape.{Copy, Fetch}
 use Rattle.obj_id.specs.Kinds.{is_primary}
-use Rattle.private_store.specs.Copies.{is_sealed, is_away}
+use Rattle.private_store.specs.Copies.{is_sealed}
 use Rattle.private_store.specs.Commands.{new_copy, fetched_copy, with_holds, holds_of}
 use Rattle.object_state.specs.Marks.{Marks}
 use Rattle.pins_holds.specs.Pinned.{Pinned}

@@ -169,7 +169,9 @@ impl RowCopy {
             extent: self.extent(),
             bytes: self.rounded_length(),
             evictable: self.marks.is_evictable(held, self.granted),
-            passing: self.marks.is_passing(self.offset.is_some(), held, self.granted),
+            passing: self
+                .marks
+                .is_passing(self.offset.is_some(), held, self.granted),
             spillable: self.marks.is_spillable(held, self.granted),
         }
     }

@@ -57,7 +57,12 @@ impl JobRow {
 
     /// No hold of the session on any of these copies, one after another, and those that are over are removed. Answers
     /// the device keys that are to be erased. The error is out of memory, and then nothing has changed.
-    fn leave_each(&mut self, alloc: Global, session: u32, items: &[OwnItem]) -> Result<Items<DeviceKey>, AllocError>
+    fn leave_each(
+        &mut self,
+        alloc: Global,
+        session: u32,
+        items: &[OwnItem],
+    ) -> Result<Items<DeviceKey>, AllocError>
         ensures keys { IfOk result (λ keys. keys ≡ keys_left session self.old (map (λ item. item.id) items.now)) }
         ensures row { OnOk result (self.new ≡ fold (left_row session) self.old (map (λ item. item.id) items.now)) }
         ensures err { OnErr result (self.new ≡ self.old) }

@@ -62,7 +62,11 @@ impl RowCopy {
 impl JobRow {
     /// List: the own copies by rising id, and these objects, which are those that others granted. Takes a walk
     /// over the job's copies and memory for each. Changes nothing; the error is out of memory.
-    pub fn list(&self, alloc: Global, granted: Items<GrantedItem>) -> Result<Reply<Bytes>, AllocError>
+    pub fn list(
+        &self,
+        alloc: Global,
+        granted: Items<GrantedItem>,
+    ) -> Result<Reply<Bytes>, AllocError>
         ensures { IfOk result (λ told. (node session : ℕ) (beside : Beside) (contents : Contents) → IsShown self.now beside contents
             → granted ≡ granted_items (shape_of self.now beside)
             → TakesStep node self.now beside contents (input.Call session command.List) (only told) self.now beside) }

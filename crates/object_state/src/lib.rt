@@ -184,7 +184,10 @@ impl ObjectCopy {
     pub fn can_spill(&self) -> bool
         ensures { result ≡ can_spill_lem self.now }
     {
-        self.is_sealed() && self.kind.is_primary() && self.backed.is_none() && self.working.is_none()
+        self.is_sealed()
+            && self.kind.is_primary()
+            && self.backed.is_none()
+            && self.working.is_none()
     }
 
     /// Whether its extent can be given up for its bytes on the device.

@@ -1,6 +1,6 @@
 use Rattle.std.proofs.Common.{sym, ◌∙◌}
 use Rattle.private_store.proofs.Tests.{true_false}
-use Rattle.node_table.proofs.Getting.{sealed_held, sealed_refused, held_late}
+use Rattle.node_table.proofs.Getting.{sealed_held, sealed_refused}
 use Rattle.node_table.proofs.row.JobRow.get_sealed.Goals as goal
 
 pub returns-in-Ok-Some-clause-some : goal.returns-in-Ok-Some-clause-some

@@ -1,4 +1,4 @@
-use Rattle.std.proofs.Common.{◌≡◌, Some, Ok, sym, ap, subst, ◌∙◌}
+use Rattle.std.proofs.Common.{Ok, sym, ap, subst, ◌∙◌}
 use Rattle.obj_id.specs.declared.commands.Command.TheVariants as command
 use Rattle.private_store.specs.declared.inputs.Input.TheVariants as input
 use Rattle.obj_id.specs.declared.commands.Reply.TheVariants as reply
@@ -42,4 +42,3 @@ returns-in-Away-clause-ok c =
     each_ok c.told-in-Away.result (λ o said session beside contents mine h.
     subst (λ t. TakesStep c.args.node c.args.self.now beside contents (input.Call session (command.Get c.args.id.now)) t c.args.self.now beside) (sym said)
     (pending_told c.args.node c.args.self.now beside contents session c.args.id.now mine c.requires.alive h v.k v.found v.stays (ap is_created (v.is ∙ c.in-Away.is)) (ap is_sealed (v.is ∙ c.in-Away.is)) (ap is_fetching (v.is ∙ c.in-Away.is)))) c.told-in-Away.ensures.ok
-
