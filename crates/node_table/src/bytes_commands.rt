@@ -36,7 +36,7 @@ impl JobRow {
     }
 
     /// Seal: the copy is immutable from now on, and its node is told to the directory. `Absent`,
-    /// `AlreadySealed`; a refusal changes nothing. The error is want of memory, and then nothing has
+    /// `AlreadySealed`; a refusal changes nothing. The error is out of memory, and then nothing has
     /// changed.
     pub fn seal(
         &mut self,
@@ -66,7 +66,7 @@ impl JobRow {
     }
 
     /// Read: bytes of a copy that the session holds. `BadSize` for more than 65,536 bytes, `Absent`,
-    /// `NotSealed`, `NotHeld`, `OutOfBounds`. Changes nothing; the error is want of memory.
+    /// `NotSealed`, `NotHeld`, `OutOfBounds`. Changes nothing; the error is out of memory.
     pub fn read(
         &self,
         alloc: Global,

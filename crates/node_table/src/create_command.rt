@@ -31,7 +31,7 @@ impl JobRow {
     /// Create: a copy of zeros to be written, of `len` bytes, where the window has room or room is made:
     /// by evicting the job's least recently used copies that may go, and else by asking for the writes of
     /// those that may be spilled, which is answered `Pending`. `BadSize`, `Gone`, `Exists`, `TooMany`,
-    /// `Pending`, `Full`, `Busy`, and once after a spill failed `DeviceFailed`. The error is want of memory, and then nothing has changed. The works that it asks for come
+    /// `Pending`, `Full`, `Busy`, and once after a spill failed `DeviceFailed`. The error is out of memory, and then nothing has changed. The works that it asks for come
     /// last in the line, and those before them stay.
     /// It sends no more messages than the job has copies.
     pub fn create(

@@ -74,7 +74,7 @@ impl JobRow {
 
 impl JobRow {
     /// Get of an object that is on its way and whose source isn't known yet: it is asked for again, and
-    /// the answer is `Pending`. Changes nothing; the error is want of memory.
+    /// the answer is `Pending`. Changes nothing; the error is out of memory.
     fn locate_again(&self, alloc: Global, node: u32, id: &ObjectId) -> Result<Outcome, Refusal>
         requires { is_remembered self.now.ended_tasks id.now.task ≡ false }
         ensures ok { IfOk result (λ o. (session : ℕ) (beside : Beside) (contents : Contents) → (id.now.job.0 == self.now.job) ≡ true → IsShown self.now beside contents
@@ -119,7 +119,7 @@ impl JobRow {
     }
 
     /// Get: a hold on a copy that is here, and else what brings it here. `Gone`, `Absent`, `NotSealed`, `Pending`,
-    /// `TooMany`. The error is want of memory, and then nothing has changed.
+    /// `TooMany`. The error is out of memory, and then nothing has changed.
     pub fn get(
         &mut self,
         alloc: Global,

@@ -236,7 +236,7 @@ impl JobRow {
 
     /// The victims go, and a copy to be written, of `len` bytes, takes the first place that there is then:
     /// it is of zeros, and the most recently used. `None` where there is no place, and then nothing has
-    /// changed, as after an error, which is want of memory.
+    /// changed, as after an error, which is out of memory.
     pub(crate) fn replace_copies(
         &mut self,
         alloc: Global,

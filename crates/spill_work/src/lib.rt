@@ -96,7 +96,7 @@ impl Works {
     }
 
     /// Asks for a work of the job on each of these objects, in their order and under the job's next
-    /// numbers. The error is want of memory, and then nothing has changed; to ask for none takes none.
+    /// numbers. The error is out of memory, and then nothing has changed; to ask for none takes none.
     pub fn ask_all(
         &mut self,
         _alloc: Global,

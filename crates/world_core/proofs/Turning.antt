@@ -63,7 +63,7 @@ after_turn nodes memory history old new step told h inside (at place e given mov
 after_turn nodes memory history old new step told h inside (wants s same) =
     subst (λ w. IsAfter nodes memory w (record { step = s; answer = Told (reply.Refused NoMemory) } ∷ history)) (sym same) (after_wanting nodes memory history s old h)
 
--- an answer that is want of memory is a step that did nothing
+-- an answer that is out of memory is a step that did nothing
 pub turn_wants : (nodes memory : ℕ) (history : List Traced) (old new : Hosting) (step : Step) (told : StepAnswer)
     → IsAfter nodes memory old history → is_built_step nodes step ≡ true → Turns old new step told → is_no_memory told ≡ true → new ≡ old
 turn_wants nodes memory history old new step told h inside (at place e given moves) n = true_false (sym (event_answered nodes memory place e given old new history h (is_less place nodes (both_left (nat_lt place nodes) _ inside)) moves) ∙ n)
