@@ -14,7 +14,8 @@ pub struct Report {
     pub entries: u64,
     /// Receipts that the operator and the sessions were given.
     pub receipts: u64,
-    /// Last receipts of sessions that their node's journal doesn't have.
+    /// Last receipts of sessions that their node's journal doesn't have. Nobody looks for them before listeners do, so it
+    /// is 0 until then.
     pub disagreeing: u64,
     /// Messages that nobody was given.
     pub lost: u64,
