@@ -64,7 +64,7 @@ module _ (row : Row) (beside : Beside) (id : ObjectId) where
   s = shape_of row beside
 
   -- of a copy that isn't doomed
-  in_sight : (f : Copy → Change) (check : Kept → Option Refusal) (d : Change)
+  pub in_sight : (f : Copy → Change) (check : Kept → Option Refusal) (d : Change)
       → ((k : Kept) → at row.copies id ≡ Some k → k.copy.doomed ≡ false → f k.copy ≡ unless_refused s (check k) d)
       → needing s (visible s id) Absent f ≡ unless_refused s (elim (at row.copies id) [ None ↦ Some Absent | Some k ↦ cond k.copy.doomed (Some Absent) (check k) ]) d
   in_sight f check d h =

@@ -32,9 +32,12 @@ use Rattle.private_store.proofs.Checks.{checked-false, checked-nil}
 use Rattle.private_store.proofs.Tests.{true_false, none_some}
 use Rattle.node_table.specs.Kept.{Kept}
 use Rattle.node_table.specs.Row.{Row, Beside, shape_of}
-use Rattle.node_table.specs.Checks.{create_check, seal_check, read_check, fetch_check, hold_check_of, get_check_of, copy_check, get_check}
+use Rattle.node_table.specs.Checks.{create_check, seal_check, unpin_check, row_borrow_check, give_up_check, delete_check, read_check, fetch_check, hold_check_of, get_check_of, copy_check, get_check}
 use Rattle.node_table.specs.Late.{is_planned, may_grow}
 use Rattle.node_table.specs.Shown.{seen, is_plain, IsShown}
+use Rattle.node_table.proofs.Stepping.{change}
+use Rattle.node_table.proofs.Scoping.{unpin_ok, borrow_ok, give_up_ok, delete_ok}
+use Rattle.obj_id.specs.declared.ids.TaskNo.{TaskNo}
 use Rattle.node_table.proofs.ByChecks.{unless_refused, called, own, read-by, seal-by, seal_done, sending-is}
 use Rattle.node_table.proofs.CopyTables.{at-copies_found}
 use Rattle.node_table.proofs.Passed.{seal_passed}
@@ -124,6 +127,22 @@ module _ (node : ℕ) (row : Row) (beside : Beside) (contents : Contents) (sessi
   by_change c d is late =
       whole_late s (seen row beside contents) (input.Call session c) (step row.order s (judge node (seen row beside contents) (input.Call session c))).reply
       ∙ ap (λ (e : Change). may_grow s e.reply) is ∙ late
+
+  -- a command that is answered Ok
+  ok_late : (c : Command (List ℕ)) → (change node row beside contents h (input.Call session c)).reply ≡ reply.Ok → is_late c
+  ok_late c is = ap (λ r. may_grow s (whole_reply (seen row beside contents) (input.Call session c) r)) is
+
+  pub unpin_late : (id : ObjectId) (task : TaskNo) → (id.job.0 == row.job) ≡ true → unpin_check row.copies id task ≡ None → is_late (command.Unpin id task)
+  unpin_late id task mine passed = ok_late (command.Unpin id task) (unpin_ok node row beside contents session id mine h task passed)
+
+  pub borrow_late : (id : ObjectId) (task : TaskNo) → (id.job.0 == row.job) ≡ true → row_borrow_check row id task ≡ None → is_late (command.Borrow id task)
+  borrow_late id task mine passed = ok_late (command.Borrow id task) (borrow_ok node row beside contents session id mine h task passed)
+
+  pub give_up_late : (id : ObjectId) (task : TaskNo) → (id.job.0 == row.job) ≡ true → give_up_check row.copies id task ≡ None → is_late (command.GiveUp id task)
+  give_up_late id task mine passed = ok_late (command.GiveUp id task) (give_up_ok node row beside contents session id mine h task passed)
+
+  pub delete_late : (id : ObjectId) → (id.job.0 == row.job) ≡ true → delete_check row.copies id ≡ None → is_late (command.Delete id)
+  delete_late id mine passed = ok_late (command.Delete id) (delete_ok node row beside contents session id mine h passed)
 
   pub seal_late : (id : ObjectId) → (id.job.0 == row.job) ≡ true → seal_check row.copies id ≡ None → is_late (command.Seal id)
   seal_late id mine passed =

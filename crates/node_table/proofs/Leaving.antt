@@ -40,7 +40,8 @@ use Rattle.node_table.specs.Shown.{seen, IsPlain, IsShown, only, TakesStep}
 use Rattle.node_table.specs.Usages.{total, doomed_one}
 use Rattle.node_table.proofs.ByChecks.{called}
 use Rattle.node_table.proofs.Places.{same_places}
-use Rattle.node_table.proofs.Releasing.{settled-stays, plain-holds}
+use Rattle.node_table.proofs.Releasing.{plain-holds}
+use Rattle.node_table.proofs.Settling.{settled-stays}
 use Rattle.node_table.proofs.Stepping.{Moves, moved, same_bytes, received_stays}
 
 -- ---- a table whose entries are changed one after another

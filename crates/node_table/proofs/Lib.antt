@@ -8,11 +8,13 @@ pub mod ByChecks
 pub mod Passed
 pub mod Writing
 pub mod Changing
+pub mod Scoping
 pub mod Sealing
 pub mod Orders
 pub mod Getting
 pub mod Holding
 pub mod Fetching
+pub mod Settling
 pub mod Releasing
 pub mod Leaving
 pub mod LeavingEach

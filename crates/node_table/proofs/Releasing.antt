@@ -35,13 +35,9 @@ use Rattle.node_table.proofs.Changing.{there_still, bytes_stay, digests_stay, wo
 use Rattle.node_table.proofs.Changes.{changed-found}
 use Rattle.node_table.proofs.Described.{working-on, idle_same}
 use Rattle.node_table.proofs.Dropping.{change_left, moves_left, key_removed}
-use Rattle.node_table.proofs.Stepping.{Moves, moved, stays, received_stays}
-
--- what isn't doomed stays
-pub settled-stays : (store : Shape) (id : ObjectId) (copy : Copy) → at store.copies id ≡ Some copy → copy.doomed ≡ false → settled store id ≡ store
-settled-stays store id copy found sound =
-    ap (λ o. option_map_or (λ copy. cond (copy.doomed && is_idle store id copy) (drop_copy store id) store) o store) found
-    ∙ ap (λ b. cond (b && is_idle store id copy) (drop_copy store id) store) sound
+use Rattle.node_table.proofs.Settling.{settles}
+use Rattle.node_table.proofs.Stepping.{stays}
+use Rattle.node_table.specs.Scope.{with_copy}
 
 -- other holds leave a copy plain
 pub plain-holds : (copy : Copy) (session n : ℕ) → IsPlain copy → IsPlain (with_holds copy session n)
@@ -75,88 +71,25 @@ module _ (node : ℕ) (row : Row) (beside : Beside) (contents : Contents) (sessi
 
   -- the row with a hold less
   abbrev pub row_released : Row
-  row_released = record row { copies = changed (released session) row.copies id }
+  row_released = with_copy (released session) row id
 
-  module _ (k : Kept) (found : at row.copies id ≡ Some k) (passed : release_check row.copies session id ≡ None) where
-    abbrev now : Copy
-    now = (released session k).copy
-
-    abbrev c : Change
-    c = erasing s (done (set_copy s id now))
-
-    keeps : (z : Kept) → ((released session z).copy.offset ≡ z.copy.offset) × ((released session z).copy.length ≡ z.copy.length)
-    keeps z = (refl, refl)
-
-    m : Moves node row beside contents h x c (only reply.Ok) row_released beside
-    m = record {
-      shape = ap (λ t. record s { copies = t }) (sym (copies-changed (released session) row.copies id k found));
-      order = sym (reordered-unused row.order (copies_of row_released.copies) (there_still node row beside contents h x id k found (released session) keeps row.order h.there));
-      there = there_still node row beside contents h x id k found (released session) keeps row.order h.there;
-      listed = listed_stay node row beside contents h x id k found (released session) keeps row.order h.listed;
-      bytes = bytes_stay node row beside contents h x id k found (released session) keeps c refl;
-      digests = digests_stay node row beside contents h x id k found (released session) keeps c refl refl (λ keep. keep);
-      working = works_stay node row beside contents h x id k found (released session) keeps refl;
-      plain = plain_stay node row beside contents h x id k found (released session) keeps (plain-holds k.copy session (holds_of k.copy session - 1) (h.plain id k found));
-      granted = granted_stay node row beside contents h x id k found (released session) keeps refl;
-      received = received_stays node row beside contents h x refl;
-      reply = refl;
-      erased = sym (ap (map (key_of row.job)) (keys_with (copies_of row.copies) id now));
-    }
-
-    -- what becomes of the copy once it has a hold less
-    abbrev goes : Bool
-    goes = is_over (released session k)
-
-    over_is : goes ≡ now.doomed && is_idle (set_copy s id now) id now
-    over_is = ap (λ b. now.doomed && b) (idle_same (is_held now) k.granted (is_granted s id) (is_working s id) k.working (h.granted id k found) (ap is_some (h.working id k found) ∙ working-on beside.works id))
-
-    settled_is : settled (set_copy s id now) id ≡ cond goes (drop_copy (set_copy s id now) id) (set_copy s id now)
-    settled_is =
-        ap (λ o. option_map_or (λ copy. cond (copy.doomed && is_idle (set_copy s id now) id copy) (drop_copy (set_copy s id now) id) (set_copy s id now)) o (set_copy s id now)) (at-put_here (copies_of row.copies) id now)
-        ∙ ap (λ b. cond b (drop_copy (set_copy s id now) id) (set_copy s id now)) (sym over_is)
-
-    step_is : step row.order s (judge node (seen row beside contents) x) ≡ erasing s (done (cond goes (drop_copy (set_copy s id now) id) (set_copy s id now)))
-    step_is =
-        called row beside session (command.Release id)
-        ∙ ap (erasing s) (own row beside id _ mine ∙ release-by ∙ ap (λ o. unless_refused s o release_done) passed
-        ∙ ap (λ o. option_map_or less o (refused s Absent)) (at-copies_found row.copies id k found)
-        ∙ ap done settled_is)
-
-    found_now : at row_released.copies id ≡ Some (released session k)
-    found_now = ap (λ t. at t id) (changed-found (released session) id row.copies k found) ∙ at-put_here row.copies id (released session k)
-
-    -- the row, and what it gives, as the code leaves them
-    abbrev row_settled : Bool → Row
-    row_settled b = cond b (dropped row_released id) row_released
-
-    abbrev gives : Bool → Given
-    gives b = record { reply = reply.Ok; posts = []; erased = cond b (option_to_list (option_map (key_of row.job) k.copy.backed)) [] }
-
-    one_key : (o : Option ℕ) → option_to_list (option_map (key_of row.job) o) ≡ map (key_of row.job) (option_to_list o)
-    one_key None = refl
-    one_key (Some n) = refl
-
-    settled_so : (placed : ArePlaced row_released.window.placed (place_of row_released.copies)) → (b : Bool) → goes ≡ b → TakesStep node row beside contents x (gives b) (row_settled b) beside
-    settled_so placed false is =
-        moved node row beside contents h x c (step_is ∙ ap (λ b. erasing s (done (cond b (drop_copy (set_copy s id now) id) (set_copy s id now)))) is) (gives false) row_released beside m refl
-    settled_so placed true is =
-        let keys = keys_gone s.copies (drop_copy (set_copy s id now) id).copies in
-        moved node row beside contents h x (change_left node row beside contents h x c (only reply.Ok) row_released m refl placed id keys)
-        (step_is ∙ ap (λ b. erasing s (done (cond b (drop_copy (set_copy s id now) id) (set_copy s id now)))) is) (gives true) (dropped row_released id) beside
-        (moves_left node row beside contents h x c (only reply.Ok) row_released m refl placed id keys (gives true) refl
-        (one_key k.copy.backed ∙ ap (map (key_of row.job)) (sym (key_removed (copies_of row.copies) id k.copy now (T_true _ h.kept.kept.shape.by_id) (at-copies_found row.copies id k found))))) refl
-
-    settled_row-is : settled_row row_released id ≡ row_settled goes
-    settled_row-is = ap (λ o. option_map_or (λ kept. cond (is_over kept) (dropped row_released id) row_released) o row_released) found_now
-
-    keys-are : keys_settled row_released id ≡ (gives goes).erased
-    keys-are = ap (λ o. option_map_or (λ kept. cond (is_over kept) (option_to_list (option_map (key_of row.job) kept.copy.backed)) []) o []) found_now
-
-    released_there : (placed : ArePlaced row_released.window.placed (place_of row_released.copies))
-        → TakesStep node row beside contents x (record { reply = reply.Ok; posts = []; erased = keys_settled row_released id }) (settled_row row_released id) beside
-    released_there placed =
-        subst (λ ks. TakesStep node row beside contents x (record { reply = reply.Ok; posts = []; erased = ks }) (settled_row row_released id) beside) (sym keys-are)
-        (subst (λ r. TakesStep node row beside contents x (gives goes) r beside) (sym settled_row-is) (settled_so placed goes refl))
+  released_there : (k : Kept) → at row.copies id ≡ Some k → release_check row.copies session id ≡ None → ArePlaced row_released.window.placed (place_of row_released.copies)
+      → TakesStep node row beside contents x (record { reply = reply.Ok; posts = []; erased = keys_settled row_released id }) (settled_row row_released id) beside
+  released_there k found passed placed =
+      settles node row beside contents h x (record { bytes = refl; digest = refl; received = refl }) id k found (released session)
+      (record {
+        lies = λ z. (refl, refl);
+        digest = refl;
+        keeps = λ keep. keep;
+        working = refl;
+        granted = refl;
+        backed = refl;
+        plain = plain-holds k.copy session (holds_of k.copy session - 1) (h.plain id k found);
+      }) [] []
+      (called row beside session (command.Release id)
+      ∙ ap (erasing s) (own row beside id _ mine ∙ release-by ∙ ap (λ o. unless_refused s o release_done) passed
+      ∙ ap (λ o. option_map_or less o (refused s Absent)) (at-copies_found row.copies id k found)))
+      (λ o. refl) placed
 
   pub release_done_so : release_check row.copies session id ≡ None → ArePlaced row_released.window.placed (place_of row_released.copies)
       → TakesStep node row beside contents x (record { reply = reply.Ok; posts = []; erased = keys_settled row_released id }) (settled_row row_released id) beside

@@ -1,17 +1,20 @@
 -- Why a command can't be carried out, in the order of its checks; its own job's object is meant.
-use Rattle.std.specs.Prelude.{ℕ, ◌+◌, ◌==◌, nat_lt, nat_le, not, length, if◌then◌else◌, List, Option, Some, None, is_some, Result, Ok, Err}
+use Rattle.std.specs.Prelude.{ℕ, ◌+◌, ◌==◌, nat_lt, nat_le, Bool, not, ◌&&◌, ◌||◌, length, if◌then◌else◌, List, Option, Some, None, is_some, Result, Ok, Err}
 use Rattle.obj_id.specs.declared.ids.ObjectId.{ObjectId}
 use Rattle.obj_id.specs.declared.commands.Command.{Command}
 use Rattle.obj_id.specs.declared.commands.Command.TheVariants as command
 use Rattle.obj_id.specs.declared.commands.CopyState.{CopyState}
 use Rattle.obj_id.specs.declared.refusals.Refusal.{Refusal}
-use Rattle.obj_id.specs.declared.refusals.Refusal.TheVariants.{BadSize, Gone, Exists, Absent, AlreadySealed, NotSealed, NotHeld, OutOfBounds, TooMany}
-use Rattle.private_store.specs.Limits.{most_bytes, most_holds, most_copies, has_numbers}
+use Rattle.obj_id.specs.declared.refusals.Refusal.TheVariants.{BadSize, Gone, Exists, Absent, AlreadySealed, NotSealed, NotHeld, OutOfBounds, TooMany, NotOwner, Granted}
+use Rattle.obj_id.specs.declared.ids.TaskNo.{TaskNo}
+use Rattle.obj_id.specs.Ids.{same_task}
+use Rattle.obj_id.specs.Kinds.{is_primary}
+use Rattle.private_store.specs.Limits.{most_bytes, most_holds, most_copies, most_borrowers, has_numbers}
 use Rattle.private_store.specs.Tables.{ById, at}
 use Rattle.private_store.specs.Extents.{is_size}
 use Rattle.private_store.specs.Shape.{Copy}
 use Rattle.private_store.specs.Copies.{is_created, is_sealed}
-use Rattle.private_store.specs.Commands.{holds_of, all_holds, is_unsealed}
+use Rattle.private_store.specs.Commands.{holds_of, all_holds, has_borrower, is_unsealed}
 use Rattle.private_store.specs.Kept.{is_remembered}
 use Rattle.node_table.specs.Kept.{Kept}
 use Rattle.node_table.specs.Row.{Row}
@@ -88,6 +91,46 @@ copy_check copies begun id = elim (at copies id) [ None ↦ fetch_check copies b
 abbrev pub get_check : Row → ObjectId → Option Refusal
 get_check row id = if is_remembered row.ended_tasks id.task then Some Gone else copy_check row.copies row.fetches_begun id
 
+-- ---- scope
+
+-- of a primary that its owner task is to keep no longer, where that task asks or another
+abbrev pub unpin_check_of : Kept → Bool → Option Refusal
+unpin_check_of kept owner =
+    if not (is_primary kept.copy.kind && owner) then Some NotOwner else
+    (if not kept.copy.pinned then Some NotHeld else None)
+
+abbrev pub unpin_check : ById Kept → ObjectId → TaskNo → Option Refusal
+unpin_check copies id task =
+    elim (at copies id) [ None ↦ Some Absent | Some kept ↦ if kept.copy.doomed then Some Absent else unpin_check_of kept (same_task task id.task) ]
+
+abbrev pub borrow_check_of : Kept → TaskNo → Option Refusal
+borrow_check_of kept task =
+    if not (is_primary kept.copy.kind) then Some NotOwner else
+    (if has_borrower kept.copy task then Some Exists else
+    (if nat_le most_borrowers (length kept.copy.borrowers) then Some TooMany else None))
+
+-- where neither task has ended
+abbrev pub borrow_check : ById Kept → ObjectId → TaskNo → Option Refusal
+borrow_check copies id task =
+    elim (at copies id) [ None ↦ Some Absent | Some kept ↦ if kept.copy.doomed then Some Absent else borrow_check_of kept task ]
+
+abbrev pub row_borrow_check : Row → ObjectId → TaskNo → Option Refusal
+row_borrow_check row id task =
+    if is_remembered row.ended_tasks id.task || is_remembered row.ended_tasks task then Some Gone else borrow_check row.copies id task
+
+abbrev pub give_up_check_of : Kept → TaskNo → Option Refusal
+give_up_check_of kept task =
+    if not (is_primary kept.copy.kind) then Some NotOwner else
+    (if not (has_borrower kept.copy task) then Some Absent else None)
+
+abbrev pub give_up_check : ById Kept → ObjectId → TaskNo → Option Refusal
+give_up_check copies id task =
+    elim (at copies id) [ None ↦ Some Absent | Some kept ↦ if kept.copy.doomed then Some Absent else give_up_check_of kept task ]
+
+abbrev pub delete_check : ById Kept → ObjectId → Option Refusal
+delete_check copies id =
+    elim (at copies id) [ None ↦ Some Absent | Some kept ↦ if kept.copy.doomed then Some Absent else (if kept.granted then Some Granted else None) ]
+
 -- why no copy of n bytes can be made under the id, before room is looked for
 abbrev pub create_check : Row → ObjectId → ℕ → Option Refusal
 create_check row id n =
@@ -102,6 +145,10 @@ early_check row session (command.Create id kind n) = create_check row id n
 early_check row session (command.Seal id) = seal_check row.copies id
 early_check row session (command.Get id) = get_check row id
 early_check row session (command.Read id offset n) = read_check row.copies session id offset n
+early_check row session (command.Unpin id task) = unpin_check row.copies id task
+early_check row session (command.Borrow id task) = row_borrow_check row id task
+early_check row session (command.GiveUp id task) = give_up_check row.copies id task
+early_check row session (command.Delete id) = delete_check row.copies id
 early_check row session _ = None
 
 -- the state of a copy that is asked for, if there is one

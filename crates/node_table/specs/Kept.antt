@@ -1,5 +1,5 @@
 -- One copy as its row keeps it: the store's copy, its digest, and which work is in flight for it.
-use Rattle.std.specs.Prelude.{◌≡◌, ℕ, ◌+◌, ◌-◌, Bool, false, not, ◌&&◌, Option, Some, None, if◌then◌else◌, is_none, option_map}
+use Rattle.std.specs.Prelude.{◌≡◌, ℕ, ◌+◌, ◌-◌, Bool, true, false, not, ◌&&◌, [], ◌∷◌, ◌++◌, Option, Some, None, if◌then◌else◌, is_none, option_map}
 use Rattle.std.specs.Option.{option_map_or}
 use Rattle.obj_id.specs.declared.commands.Kind.{Kind}
 use Rattle.obj_id.specs.declared.commands.CopyState.TheVariants.{Sealed}
@@ -8,8 +8,9 @@ use Rattle.obj_id.specs.declared.works.WorkKind.{WorkKind}
 use Rattle.obj_id.specs.declared.works.WorkKind.TheVariants.{Write}
 use Rattle.private_store.specs.Shape.{Copy, Fetch}
 use Rattle.obj_id.specs.Kinds.{is_primary}
-use Rattle.private_store.specs.Copies.{is_sealed}
-use Rattle.private_store.specs.Commands.{new_copy, fetched_copy, with_holds, holds_of}
+use Rattle.obj_id.specs.declared.ids.TaskNo.{TaskNo}
+use Rattle.private_store.specs.Copies.{is_sealed, in_scope}
+use Rattle.private_store.specs.Commands.{new_copy, fetched_copy, with_holds, holds_of, without_borrower}
 use Rattle.object_state.specs.Marks.{Marks}
 use Rattle.pins_holds.specs.Pinned.{Pinned}
 use Rattle.fetch_core.specs.Fetching.{Fetching}
@@ -90,6 +91,23 @@ sealed digest kept = record kept { copy = record kept.copy { state = Sealed }; d
 
 abbrev pub spilling : Kept → Kept
 spilling kept = record kept { working = Some Write }
+
+-- it is removed as soon as nothing keeps it
+abbrev pub doomed : Kept → Kept
+doomed kept = record kept { copy = record kept.copy { doomed = true } }
+
+-- it is doomed unless it is in scope
+abbrev pub scoped : Kept → Kept
+scoped kept = if in_scope kept.copy then kept else doomed kept
+
+abbrev pub unpinned : Kept → Kept
+unpinned kept = scoped (record kept { copy = record kept.copy { pinned = false } })
+
+abbrev pub borrowed : TaskNo → Kept → Kept
+borrowed task kept = record kept { copy = record kept.copy { borrowers = kept.copy.borrowers ++ task ∷ [] } }
+
+abbrev pub given_up : TaskNo → Kept → Kept
+given_up task kept = scoped (record kept { copy = without_borrower kept.copy task })
 
 -- where it can be
 abbrev pub spilling_if : Kept → Kept

@@ -1,6 +1,7 @@
 pub mod Entries
 pub mod Kept
 pub mod Row
+pub mod Scope
 pub mod Shown
 pub mod Checks
 pub mod Erased

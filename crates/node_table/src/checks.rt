@@ -1,6 +1,7 @@
 //! Why a command can't be carried out.
-ghost use Rattle.std.specs.Prelude.{◌≡◌, Some, option_map};
-ghost use Rattle.node_table.specs.Checks.{write_check_of, write_check as write_check_lem, seal_check_of, seal_check as seal_check_lem, read_check_of, read_check as read_check_lem, lend_check_of, lend_check as lend_check_lem, fetch_check as fetch_check_lem, create_check as create_check_lem, visible_state as visible_state_lem};
+ghost use Rattle.std.specs.Prelude.{◌≡◌, if◌then◌else◌, Some, None, option_map};
+ghost use Rattle.obj_id.specs.declared.refusals.Refusal.TheVariants.{Absent, Granted};
+ghost use Rattle.node_table.specs.Checks.{write_check_of, write_check as write_check_lem, seal_check_of, seal_check as seal_check_lem, read_check_of, read_check as read_check_lem, lend_check_of, lend_check as lend_check_lem, fetch_check as fetch_check_lem, create_check as create_check_lem, unpin_check_of, unpin_check as unpin_check_lem, give_up_check_of, give_up_check as give_up_check_lem, delete_check as delete_check_lem, visible_state as visible_state_lem};
 ghost use Rattle.private_store.specs.Tables.{at};
 ghost use Rattle.private_store.specs.Shape.{Fetch};
 ghost use Rattle.node_table.specs.Kept.{Kept};
@@ -10,7 +11,7 @@ use crate::copies::Copies;
 use crate::copy::RowCopy;
 use crate::row::JobRow;
 use obj_id::limits::{MOST_BYTES, MOST_COPIES};
-use obj_id::{CopyState, ObjectId, Refusal};
+use obj_id::{CopyState, ObjectId, Refusal, TaskNo};
 
 impl RowCopy {
     /// Why `len` bytes can't be written from the offset on: `Absent`, `AlreadySealed`, `OutOfBounds`.
@@ -38,6 +39,39 @@ impl RowCopy {
         }
         if !matches!(self.state(), CopyState::Created) {
             return Some(Refusal::AlreadySealed);
+        }
+        None
+    }
+
+    /// Why its owner task can't unpin it, where that task asks or another: `Absent`, `NotOwner`, `NotHeld`.
+    fn unpin_check(&self, owner: bool) -> Option<Refusal>
+        ensures { result ≡ if self.now.copy.doomed then Some Absent else unpin_check_of self.now owner }
+    {
+        if self.doomed() {
+            return Some(Refusal::Absent);
+        }
+        self.pins().unpin_check(owner)
+    }
+
+    /// Why the task can't give it up: `Absent`, `NotOwner`.
+    fn give_up_check(&self, task: TaskNo) -> Option<Refusal>
+        ensures { result ≡ if self.now.copy.doomed then Some Absent else give_up_check_of self.now task }
+    {
+        if self.doomed() {
+            return Some(Refusal::Absent);
+        }
+        self.pins().give_up_check(task)
+    }
+
+    /// Why it can't be deleted: `Absent`, `Granted`.
+    fn delete_check(&self) -> Option<Refusal>
+        ensures { result ≡ if self.now.copy.doomed then Some Absent else (if self.now.granted then Some Granted else None) }
+    {
+        if self.doomed() {
+            return Some(Refusal::Absent);
+        }
+        if self.is_granted() {
+            return Some(Refusal::Granted);
         }
         None
     }
@@ -91,6 +125,36 @@ impl Copies {
         match self.get(id) {
             None => Some(Refusal::Absent),
             Some(copy) => copy.seal_check(),
+        }
+    }
+
+    /// Why the task can't unpin the copy: `Absent`, `NotOwner`, `NotHeld`, or nothing.
+    pub fn unpin_check(&self, id: &ObjectId, task: TaskNo) -> Option<Refusal>
+        ensures { result ≡ unpin_check_lem self.now id.now task }
+    {
+        match self.get(id) {
+            None => Some(Refusal::Absent),
+            Some(copy) => copy.unpin_check(task == id.task()),
+        }
+    }
+
+    /// Why the task can't give the copy up: `Absent`, also if it doesn't borrow it, `NotOwner`, or nothing.
+    pub fn give_up_check(&self, id: &ObjectId, task: TaskNo) -> Option<Refusal>
+        ensures { result ≡ give_up_check_lem self.now id.now task }
+    {
+        match self.get(id) {
+            None => Some(Refusal::Absent),
+            Some(copy) => copy.give_up_check(task),
+        }
+    }
+
+    /// Why the copy can't be deleted: `Absent`, `Granted`, or nothing.
+    pub fn delete_check(&self, id: &ObjectId) -> Option<Refusal>
+        ensures { result ≡ delete_check_lem self.now id.now }
+    {
+        match self.get(id) {
+            None => Some(Refusal::Absent),
+            Some(copy) => copy.delete_check(),
         }
     }
 

@@ -1,18 +1,21 @@
 //! The copies of a job, by their ids.
-ghost use Rattle.std.specs.Option.{option_copied, option_map_or};
+ghost use Rattle.std.specs.Option.{option_copied, option_map_or, option_and_then};
 ghost use Rattle.private_store.specs.Tables.{at, with_entry, without_entry};
 ghost use Rattle.node_table.specs.Entries.{changed, all_changed, each_changed, without_all};
-ghost use Rattle.node_table.specs.Kept.{released, left, sealed, spilling_if};
-ghost use Rattle.private_store.specs.Copies.{is_created};
+ghost use Rattle.node_table.specs.Kept.{released, left, sealed, spilling_if, unpinned, borrowed, given_up, doomed};
+ghost use Rattle.private_store.specs.Copies.{is_created, in_scope};
+ghost use Rattle.private_store.specs.Commands.{without_borrower};
 ghost use Rattle.obj_id.specs.declared.refusals.Refusal.{Refusal};
-ghost use Rattle.node_table.specs.Checks.{release_check};
+ghost use Rattle.obj_id.specs.declared.refusals.Refusal.TheVariants.{NoMemory};
+ghost use Rattle.node_table.specs.Checks.{release_check, borrow_check};
+ghost use Rattle.node_table.specs.Scope.{farewell as farewell_of};
 ghost use Rattle.node_table.specs.Holding.{IsHeldAt, IsUnreadyAt, IsHoldRefusedAt};
-ghost use Rattle.std.specs.Prelude.{◌≡◌, [], true, Some, None, OnOk, OnErr, IsOk, IsErrOf, IfOk, IfErr, IfSome, IfNone, map, length, is_some};
+ghost use Rattle.std.specs.Prelude.{◌≡◌, ◌≢◌, [], true, false, Some, None, OnOk, OnErr, IsOk, IsErrOf, IfOk, IfErr, IfSome, IfNone, map, length, is_some};
 ghost use Rattle.node_table.specs.Usages.{item_of, total, window_bytes as window_bytes_lem, device_bytes as device_bytes_lem, doomed_one};
 
 use crate::copy::RowCopy;
 use indexmap::IndexMap;
-use obj_id::{Digest, Items, ObjectId, OwnItem, Refusal};
+use obj_id::{Digest, DirectoryMessage, Items, ObjectId, OwnItem, Refusal, TaskNo};
 use std::alloc::{AllocError, Global};
 use std::marker::Model;
 
@@ -184,6 +187,82 @@ impl Copies {
             return;
         };
         copy.seal(digest);
+    }
+
+    /// The owner task keeps the copy no longer: it is doomed unless a task borrows it. Takes no memory.
+    pub fn unpin(&mut self, id: &ObjectId)
+        ensures { self.new ≡ changed unpinned self.old id.now }
+    {
+        let Some(copy) = self.by_id.get_mut(id) else {
+            return;
+        };
+        copy.unpin();
+    }
+
+    /// The task borrows the copy, as the last one. `Absent`, also if it is doomed, `NotOwner`, `Exists`, `TooMany`,
+    /// `NoMemory` last; a refusal changes nothing.
+    pub fn borrow(&mut self, id: &ObjectId, task: TaskNo) -> Result<(), Refusal>
+        ensures ok { OnOk result (self.new ≡ changed (borrowed task) self.old id.now) }
+        ensures passed { IsOk result → borrow_check self.old id.now task ≡ None }
+        ensures refused { (r : Refusal) → r ≢ NoMemory → IsErrOf result r → borrow_check self.old id.now task ≡ Some r }
+        ensures memory { IsErrOf result NoMemory → borrow_check self.old id.now task ≡ None }
+        ensures err { OnErr result (self.new ≡ self.old) }
+    {
+        let Some(copy) = self.by_id.get_mut(id) else {
+            return Err(Refusal::Absent);
+        };
+        if copy.doomed() {
+            return Err(Refusal::Absent);
+        }
+        copy.borrow(task)
+    }
+
+    /// The task borrows the copy no longer: it is doomed unless it is pinned or another task borrows it. Takes no
+    /// memory.
+    pub fn give_up(&mut self, id: &ObjectId, task: TaskNo)
+        ensures { self.new ≡ changed (given_up task) self.old id.now }
+    {
+        let Some(copy) = self.by_id.get_mut(id) else {
+            return;
+        };
+        copy.give_up(task);
+    }
+
+    /// The copy is removed as soon as nothing keeps it. Takes no memory.
+    pub fn doom(&mut self, id: &ObjectId)
+        ensures { self.new ≡ changed doomed self.old id.now }
+    {
+        let Some(copy) = self.by_id.get_mut(id) else {
+            return;
+        };
+        copy.doom();
+    }
+
+    /// Whether the copy would be in scope if its owner task kept it no longer; not if there is none.
+    pub fn in_scope_unpinned(&self, id: &ObjectId) -> bool
+        ensures { result ≡ option_map_or (λ k. in_scope (record k.copy { pinned = false })) (at self.now id.now) false }
+    {
+        let Some(copy) = self.get(id) else {
+            return false;
+        };
+        copy.in_scope_unpinned()
+    }
+
+    /// Whether the copy would be in scope if the task borrowed it no longer; not if there is none.
+    pub fn in_scope_without(&self, id: &ObjectId, task: TaskNo) -> bool
+        ensures { result ≡ option_map_or (λ k. in_scope (without_borrower k.copy task)) (at self.now id.now) false }
+    {
+        let Some(copy) = self.get(id) else {
+            return false;
+        };
+        copy.in_scope_without(task)
+    }
+
+    /// What the directory is told of the copy once it is doomed: nothing, unless it was sealed.
+    pub fn farewell(&self, node: u32, id: &ObjectId) -> Option<DirectoryMessage>
+        ensures { result ≡ option_and_then (farewell_of node id.now) (at self.now id.now) }
+    {
+        self.get(id)?.farewell(node, *id)
     }
 
     /// A write of the copy is in flight, where one can be.

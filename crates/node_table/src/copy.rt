@@ -3,19 +3,20 @@ ghost use Rattle.std.specs.Prelude.{◌≡◌, ◌≢◌, ◌+◌, ◌==◌, nat
 ghost use Rattle.obj_id.specs.declared.refusals.Refusal.{Refusal};
 ghost use Rattle.obj_id.specs.declared.refusals.Refusal.TheVariants.{NoMemory};
 ghost use Rattle.obj_id.specs.Kinds.{is_primary};
-ghost use Rattle.private_store.specs.Copies.{extent_of, is_created, is_held};
-ghost use Rattle.private_store.specs.Commands.{holds_of as holds_of_lem};
+ghost use Rattle.private_store.specs.Copies.{extent_of, is_created, is_held, in_scope};
+ghost use Rattle.private_store.specs.Commands.{holds_of as holds_of_lem, without_borrower};
 ghost use Rattle.private_store.specs.Extents.{rounded as rounded_lem};
 ghost use Rattle.node_table.specs.RoomPlans.{facts_of};
-ghost use Rattle.node_table.specs.Kept.{new_kept, fetched_kept, released, left, sealed, spilling, spilling_if, can_spill};
-ghost use Rattle.node_table.specs.Checks.{release_check_of as release_check};
+ghost use Rattle.node_table.specs.Kept.{new_kept, fetched_kept, released, left, sealed, spilling, spilling_if, can_spill, unpinned, borrowed, given_up, doomed, scoped};
+ghost use Rattle.node_table.specs.Checks.{release_check_of as release_check, borrow_check_of};
+ghost use Rattle.node_table.specs.Scope.{farewell as farewell_of};
 ghost use Rattle.node_table.specs.Holding.{IsHeld, IsUnready, IsHoldRefused};
 ghost use Rattle.node_table.specs.Usages.{is_spilling as is_spilling_lem};
 ghost use Rattle.node_table.specs.Dropping.{is_over as is_over_lem};
 
 use fetch_core::FetchIn;
 use lru_evictor::CopyFacts;
-use obj_id::{CopyState, Digest, Extent, Kind, Refusal, WorkKind};
+use obj_id::{CopyState, Digest, DirectoryMessage, Extent, Kind, ObjectId, Refusal, TaskNo, WorkKind};
 use object_state::ObjectCopy;
 use pins_holds::Pins;
 use private_store::rounded;
@@ -183,11 +184,41 @@ impl RowCopy {
         rounded(self.length())
     }
 
+    /// Whether a hand of it stands that the job gave.
+    pub fn is_granted(&self) -> bool
+        ensures { result ≡ self.now.granted }
+    {
+        self.granted
+    }
+
+    /// What keeps it.
+    pub(crate) fn pins(&self) -> &Pins
+        ensures pinned { result.now.pinned ≡ self.now.copy.pinned }
+        ensures borrowers { result.now.borrowers ≡ self.now.copy.borrowers }
+        ensures kind { result.now.kind ≡ self.now.copy.kind }
+    {
+        &self.pins
+    }
+
     /// Whether a session holds it.
     pub fn is_held(&self) -> bool
         ensures { result ≡ is_held self.now.copy }
     {
         self.pins.is_held()
+    }
+
+    /// Whether it would be in scope if the owner task kept it no longer.
+    pub fn in_scope_unpinned(&self) -> bool
+        ensures { result ≡ in_scope (record self.now.copy { pinned = false }) }
+    {
+        self.pins.in_scope_unpinned()
+    }
+
+    /// Whether it would be in scope if the task borrowed it no longer.
+    pub fn in_scope_without(&self, task: TaskNo) -> bool
+        ensures { result ≡ in_scope (without_borrower self.now.copy task) }
+    {
+        self.pins.in_scope_without(task)
     }
 
     /// How many holds the session has.
@@ -234,6 +265,66 @@ impl RowCopy {
         ensures { self.new ≡ sealed digest self.old }
     {
         let _ = self.marks.seal(digest);
+    }
+
+    /// The owner task keeps it no longer: it is doomed unless a task borrows it.
+    pub fn unpin(&mut self)
+        ensures { self.new ≡ unpinned self.old }
+    {
+        self.pins.remove_pin();
+        self.doom_out_of_scope();
+    }
+
+    /// The task borrows it, as the last one. `NotOwner` for a secondary, `Exists` if the task borrows it already,
+    /// `TooMany` at 64 borrowers, `NoMemory` last; a refusal changes nothing.
+    pub fn borrow(&mut self, task: TaskNo) -> Result<(), Refusal>
+        ensures ok { OnOk result (self.new ≡ borrowed task self.old) }
+        ensures passed { IsOk result → borrow_check_of self.old task ≡ None }
+        ensures refused { (r : Refusal) → r ≢ NoMemory → IsErrOf result r → borrow_check_of self.old task ≡ Some r }
+        ensures memory { IsErrOf result NoMemory → borrow_check_of self.old task ≡ None }
+        ensures err { OnErr result (self.new ≡ self.old) }
+    {
+        self.pins.borrow(task)
+    }
+
+    /// The task borrows it no longer: it is doomed unless it is pinned or another task borrows it.
+    pub fn give_up(&mut self, task: TaskNo)
+        ensures { self.new ≡ given_up task self.old }
+    {
+        self.pins.forget(task);
+        self.doom_out_of_scope();
+    }
+
+    /// It is removed as soon as nothing keeps it.
+    pub fn doom(&mut self)
+        ensures { self.new ≡ doomed self.old }
+    {
+        self.marks.doom();
+    }
+
+    /// It is doomed unless it is in scope.
+    fn doom_out_of_scope(&mut self)
+        ensures { self.new ≡ scoped self.old }
+    {
+        if !self.pins.in_scope() {
+            self.doom();
+        }
+    }
+
+    /// What the directory is told of it once it is doomed: nothing, unless it was sealed.
+    pub fn farewell(&self, node: u32, id: ObjectId) -> Option<DirectoryMessage>
+        ensures { result ≡ farewell_of node id self.now }
+    {
+        match self.state() {
+            CopyState::Created | CopyState::Fetching => None,
+            CopyState::Sealed | CopyState::Restoring | CopyState::Away => {
+                if self.kind().is_primary() {
+                    Some(DirectoryMessage::Free(id))
+                } else {
+                    Some(DirectoryMessage::RemoveLocation(id, node))
+                }
+            }
+        }
     }
 
     /// A write of it is in flight.

@@ -13,6 +13,7 @@ mod listing;
 mod outcome;
 mod room;
 mod row;
+mod scope_commands;
 
 pub use copies::Copies;
 pub use copy::RowCopy;

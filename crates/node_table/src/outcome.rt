@@ -3,9 +3,10 @@ ghost use Rattle.std.specs.Prelude.{◌≡◌, ◌∷◌, [], IfOk, option_to_li
 ghost use Rattle.node_table.specs.Shown.{only as only_lem};
 ghost use Rattle.node_table.specs.Erased.{keys_of};
 ghost use Rattle.node_table.specs.Outcomes.{given_of};
+ghost use Rattle.node_table.specs.Scope.{posted};
 
 use bytes::Bytes;
-use obj_id::{DeviceKey, Items, Message, Place, Reply};
+use obj_id::{DeviceKey, DirectoryMessage, Items, Message, Place, Reply};
 use std::alloc::{AllocError, Global};
 
 /// What an event gave: the answer, the messages that are to be sent, in their order and each with its
@@ -46,6 +47,21 @@ impl Outcome {
             reply,
             messages: Items::new(alloc),
             erase: Erase::NoKey,
+        }
+    }
+
+    /// This message to the directory, or none, in a list with room for no more.
+    pub fn to_directory(
+        alloc: Global,
+        message: Option<DirectoryMessage>,
+    ) -> Result<Items<(Place, Message)>, AllocError>
+        ensures { IfOk result (λ messages. messages ≡ posted message) }
+    {
+        match message {
+            None => Ok(Items::new(alloc)),
+            Some(message) => {
+                Outcome::one_message(alloc, Place::Directory, Message::ToDirectory(message))
+            }
         }
     }
 

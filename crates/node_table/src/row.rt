@@ -1,5 +1,5 @@
 //! The row of one job.
-ghost use Rattle.std.specs.Prelude.{◌≡◌, ◌||◌, ℕ, ◌+◌, ◌≤◌, nat_eq, take, drop, length, true, false, Some, None, IfOk, IfErr, IfSome, IfNone, OnOk, OnErr, IsOk, IsErrOf, option_to_list};
+ghost use Rattle.std.specs.Prelude.{◌≡◌, ◌≢◌, ◌||◌, ℕ, ◌+◌, ◌≤◌, nat_eq, take, drop, length, true, false, Some, None, IfOk, IfErr, IfSome, IfNone, OnOk, OnErr, IsOk, IsErrOf, option_to_list};
 ghost use Rattle.std.specs.Map.{set_value};
 ghost use Rattle.obj_id.specs.declared.works.Extent.{Extent};
 ghost use Rattle.obj_id.specs.declared.refusals.Refusal.{Refusal};
@@ -14,8 +14,9 @@ ghost use Rattle.private_store.specs.Copies.{is_created};
 ghost use Rattle.private_store.specs.Kept.{is_remembered};
 ghost use Rattle.lru_evictor.specs.Orders.{order_of, touched, last_used};
 ghost use Rattle.node_table.specs.Entries.{changed, all_changed, each_changed};
-ghost use Rattle.node_table.specs.Kept.{Kept, sealed, held, released, left, spilling_if, fetched_kept};
-ghost use Rattle.node_table.specs.Checks.{release_check};
+ghost use Rattle.node_table.specs.Kept.{Kept, sealed, held, released, left, spilling_if, fetched_kept, unpinned, borrowed, given_up, doomed};
+ghost use Rattle.node_table.specs.Checks.{release_check, borrow_check};
+ghost use Rattle.node_table.specs.Scope.{with_copy};
 ghost use Rattle.node_table.specs.Row.{Row, new_row, place_of, ArePlaced};
 ghost use Rattle.node_table.specs.Dropping.{dropped, settled_row, keys_settled, unheld_row};
 ghost use Rattle.node_table.specs.Holding.{IsUnreadyAt, IsHoldRefusedAt, IsRowHeld};
@@ -327,6 +328,41 @@ impl JobRow {
             job: self.job,
             number: backed?,
         })
+    }
+
+    /// The owner task keeps the copy no longer: it is doomed unless a task borrows it. Takes no memory.
+    pub(crate) fn unpin_copy(&mut self, id: &ObjectId)
+        ensures { self.new ≡ with_copy unpinned self.old id.now }
+    {
+        self.copies.unpin(id);
+    }
+
+    /// The task borrows the copy, as the last one. `Absent`, also if it is doomed, `NotOwner`, `Exists`, `TooMany`,
+    /// `NoMemory` last; a refusal changes nothing.
+    pub(crate) fn borrow_copy(&mut self, id: &ObjectId, task: TaskNo) -> Result<(), Refusal>
+        ensures ok { OnOk result (self.new ≡ with_copy (borrowed task) self.old id.now) }
+        ensures passed { IsOk result → borrow_check self.old.copies id.now task ≡ None }
+        ensures refused { (r : Refusal) → r ≢ NoMemory → IsErrOf result r → borrow_check self.old.copies id.now task ≡ Some r }
+        ensures memory { IsErrOf result NoMemory → borrow_check self.old.copies id.now task ≡ None }
+        ensures err { OnErr result (self.new ≡ self.old) }
+    {
+        self.copies.borrow(id, task)?;
+        Ok(())
+    }
+
+    /// The task borrows the copy no longer: it is doomed unless it is pinned or another task borrows it. Takes no
+    /// memory.
+    pub(crate) fn give_up_copy(&mut self, id: &ObjectId, task: TaskNo)
+        ensures { self.new ≡ with_copy (given_up task) self.old id.now }
+    {
+        self.copies.give_up(id, task);
+    }
+
+    /// The copy is removed as soon as nothing keeps it. Takes no memory.
+    pub(crate) fn doom_copy(&mut self, id: &ObjectId)
+        ensures { self.new ≡ with_copy doomed self.old id.now }
+    {
+        self.copies.doom(id);
     }
 
     /// No hold of the session on the copy. Takes no memory.

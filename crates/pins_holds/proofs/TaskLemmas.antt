@@ -9,7 +9,7 @@ use Rattle.obj_id.specs.declared.ids.TaskNo.{TaskNo}
 use Rattle.obj_id.specs.Ids.{same_task}
 use Rattle.obj_id.proofs.SameIds.{same_task-equal}
 use Rattle.obj_id.specs.declared.commands.Kind.{Kind}
-use Rattle.pins_holds.specs.Pinned.{IsPinned}
+use Rattle.pins_holds.specs.Pinned.{are_borrowing, IsPinned}
 
 -- the `==` of tasks
 abbrev pub task_eq : TaskNo → TaskNo → Bool
@@ -45,6 +45,19 @@ remove_key-filter t (x ∷ ts) h =
 -- a task that isn't there comes last
 pub insert_key-new : (t : TaskNo) (ts : List TaskNo) → list_any (same_task t) ts ≡ false → cond (list_any (task_eq t) ts) ts (ts ++ t ∷ []) ≡ ts ++ t ∷ []
 insert_key-new t ts h = ap (λ b. cond b ts (ts ++ t ∷ [])) (any_task t ts ∙ h)
+
+pub negated : (b : Bool) {x : Bool} → not b ≡ x → b ≡ not x
+negated true e = ap not e
+negated false e = ap not e
+
+-- whether other tasks are among these, by the first
+pub other_first : (t x : TaskNo) (ts : List TaskNo) → task_eq t x ≡ false → are_borrowing (filter (λ y. not (same_task t y)) (x ∷ ts)) ≡ true
+other_first t x ts h =
+    ap (λ b. are_borrowing (cond (not b) (x ∷ filter (λ y. not (same_task t y)) ts) (filter (λ y. not (same_task t y)) ts))) (sym (task_eq-same t x) ∙ h)
+
+pub other_later : (t x : TaskNo) (ts : List TaskNo) → task_eq t x ≡ true → are_borrowing (filter (λ y. not (same_task t y)) (x ∷ ts)) ≡ are_borrowing (filter (λ y. not (same_task t y)) ts)
+other_later t x ts h =
+    ap (λ b. are_borrowing (cond (not b) (x ∷ filter (λ y. not (same_task t y)) ts) (filter (λ y. not (same_task t y)) ts))) (sym (task_eq-same t x) ∙ h)
 
 length-filter-le : (p : TaskNo → Bool) (ts : List TaskNo) → length (filter p ts) ≤ length ts
 length-filter-le p [] = omega arith

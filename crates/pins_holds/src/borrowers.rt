@@ -55,6 +55,18 @@ impl Borrowers {
         self.tasks.contains(&task)
     }
 
+    /// Whether another task than this one is one of them. Takes a walk over them that ends at the second at most.
+    pub fn has_other(&self, task: TaskNo) -> bool
+        ensures { result ≡ are_borrowing (filter (λ t. not (same_task task t)) self.now) }
+    {
+        for other in &self.tasks {
+            if task != *other {
+                return true;
+            }
+        }
+        false
+    }
+
     /// The task comes last. A failure changes nothing.
     pub fn add(&mut self, task: TaskNo) -> Result<(), AllocError>
         requires { list_any (same_task task) self.old ≡ false }

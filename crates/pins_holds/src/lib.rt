@@ -73,6 +73,20 @@ impl Pins {
         self.pinned || !self.borrowers.is_empty()
     }
 
+    /// Whether it would be in scope if the owner task kept it no longer.
+    pub fn in_scope_unpinned(&self) -> bool
+        ensures { result ≡ in_scope_lem (record self.now { pinned = false }) }
+    {
+        !self.borrowers.is_empty()
+    }
+
+    /// Whether it would be in scope if the task borrowed it no longer.
+    pub fn in_scope_without(&self, task: TaskNo) -> bool
+        ensures { result ≡ in_scope_lem (without_borrower self.now task) }
+    {
+        self.pinned || self.borrowers.has_other(task)
+    }
+
     /// Whether a session holds it.
     pub fn is_held(&self) -> bool
         ensures held { result ≡ is_held_lem self.now }
@@ -115,8 +129,15 @@ impl Pins {
         if let Some(refusal) = self.unpin_check(owner) {
             return Err(refusal);
         }
-        self.pinned = false;
+        self.remove_pin();
         Ok(())
+    }
+
+    /// The owner task keeps it no longer, if it did.
+    pub fn remove_pin(&mut self)
+        ensures { self.new ≡ record self.old { pinned = false } }
+    {
+        self.pinned = false;
     }
 
     /// Why it can't be unpinned: `NotOwner`, `NotHeld`, or nothing.

@@ -1,0 +1,148 @@
+-- A row takes a step that changes one copy, where it lies, and removes it if nothing keeps it then.
+use Rattle.std.proofs.Common.{◌≡◌, ℕ, Bool, true, false, cond, ◌&&◌, List, [], flat_map, map, Option, Some, None, is_some, option_map, refl, sym, ap, subst, ◌∙◌}
+use Rattle.std.specs.Prelude.{option_to_list}
+use Rattle.std.specs.Option.{option_map_or}
+use Rattle.obj_id.specs.declared.ids.ObjectId.{ObjectId}
+use Rattle.obj_id.specs.declared.commands.Reply.TheVariants as reply
+use Rattle.private_store.specs.declared.inputs.Input.{Input}
+use Rattle.private_store.specs.Tables.{at}
+use Rattle.private_store.specs.Shape.{Copy, Shape, Change, Sending}
+use Rattle.private_store.specs.Copies.{is_held, is_granted, is_working, is_idle}
+use Rattle.private_store.specs.Room.{set_copy, drop_copy}
+use Rattle.private_store.specs.Change.{done, erasing, settled, keys_gone}
+use Rattle.private_store.specs.Contents.{Contents, View, judge, keeps_digest, bytes_brought, digest_brought, bytes_received}
+use Rattle.private_store.specs.Private.{Post, key_of, posts_of, view_after}
+use Rattle.private_store.proofs.Rows.{at-put_here}
+use Rattle.private_store.proofs.Tests.{T_true}
+use Rattle.lru_evictor.proofs.Reorders.{reordered-unused}
+use Rattle.node_table.specs.Entries.{changed}
+use Rattle.node_table.specs.Kept.{Kept}
+use Rattle.node_table.specs.Row.{Row, Beside, copies_of, shape_of, place_of, ArePlaced}
+use Rattle.node_table.specs.Dropping.{dropped, is_over, settled_row, keys_settled}
+use Rattle.node_table.specs.Scope.{with_copy}
+use Rattle.node_table.specs.Shown.{seen, IsPlain, IsShown, Given, TakesStep}
+use Rattle.node_table.proofs.Changes.{changed-found}
+use Rattle.node_table.proofs.Changing.{there_still, bytes_stay, digests_stay, works_stay, plain_stay, listed_stay, keys_with, granted_stay}
+use Rattle.node_table.proofs.CopyTables.{at-copies_found, copies-changed}
+use Rattle.node_table.proofs.Described.{working-on, idle_same}
+use Rattle.node_table.proofs.Dropping.{change_left, moves_left, key_removed}
+use Rattle.node_table.proofs.Stepping.{Moves, moved, change, received_stays}
+
+-- what isn't doomed stays
+pub settled-stays : (store : Shape) (id : ObjectId) (copy : Copy) → at store.copies id ≡ Some copy → copy.doomed ≡ false → settled store id ≡ store
+settled-stays store id copy found sound =
+    ap (λ o. option_map_or (λ copy. cond (copy.doomed && is_idle store id copy) (drop_copy store id) store) o store) found
+    ∙ ap (λ b. cond (b && is_idle store id copy) (drop_copy store id) store) sound
+
+-- the change of a copy leaves its place, its bytes and what stands on it
+pub record IsMinor (f : Kept → Kept) (k : Kept) : Type 0 where
+  pub lies : (z : Kept) → ((f z).copy.offset ≡ z.copy.offset) × ((f z).copy.length ≡ z.copy.length)
+  pub digest : (f k).digest ≡ k.digest
+  pub keeps : keeps_digest (f k).copy ≡ true → keeps_digest k.copy ≡ true
+  pub working : (f k).working ≡ k.working
+  pub granted : (f k).granted ≡ k.granted
+  pub backed : (f k).copy.backed ≡ k.copy.backed
+  pub plain : IsPlain (f k).copy
+
+-- the input brings nothing where it is answered Ok
+pub record BringsNothing (node : ℕ) (view : View) (x : Input) : Type 0 where
+  pub bytes : bytes_brought view x (judge node view x) reply.Ok ≡ None
+  pub digest : digest_brought node view x reply.Ok ≡ None
+  pub received : bytes_received x ≡ None
+
+one_key : (job : ℕ) (o : Option ℕ) → option_to_list (option_map (key_of job) o) ≡ map (key_of job) (option_to_list o)
+one_key job None = refl
+one_key job (Some n) = refl
+
+module _ (node : ℕ) (row : Row) (beside : Beside) (contents : Contents) (h : IsShown row beside contents) (x : Input) (quiet : BringsNothing node (seen row beside contents) x)
+    (id : ObjectId) (k : Kept) (found : at row.copies id ≡ Some k) (f : Kept → Kept) (minor : IsMinor f k) (sent : List Sending) (posts : List Post) where
+  abbrev s : Shape
+  s = shape_of row beside
+
+  abbrev now : Copy
+  now = (f k).copy
+
+  abbrev row_now : Row
+  row_now = with_copy f row id
+
+  abbrev c : Change
+  c = erasing s (record (done (set_copy s id now)) { sent = sent })
+
+  abbrev told : Given
+  told = record { reply = reply.Ok; posts = posts; erased = [] }
+
+  m : Moves node row beside contents h x c told row_now beside
+  m = record {
+    shape = ap (λ t. record s { copies = t }) (sym (copies-changed f row.copies id k found));
+    order = sym (reordered-unused row.order (copies_of row_now.copies) (there_still node row beside contents h x id k found f minor.lies row.order h.there));
+    there = there_still node row beside contents h x id k found f minor.lies row.order h.there;
+    listed = listed_stay node row beside contents h x id k found f minor.lies row.order h.listed;
+    bytes = bytes_stay node row beside contents h x id k found f minor.lies c quiet.bytes;
+    digests = digests_stay node row beside contents h x id k found f minor.lies c quiet.digest minor.digest minor.keeps;
+    working = works_stay node row beside contents h x id k found f minor.lies minor.working;
+    plain = plain_stay node row beside contents h x id k found f minor.lies minor.plain;
+    granted = granted_stay node row beside contents h x id k found f minor.lies minor.granted;
+    received = received_stays node row beside contents h x quiet.received;
+    reply = refl;
+    erased = sym (ap (map (key_of row.job)) (keys_with (copies_of row.copies) id now));
+  }
+
+  -- what is shown after this change
+  abbrev after : Change → View
+  after d = view_after node (seen row beside contents) x (judge node (seen row beside contents) x) d
+
+  -- whether the copy is removed
+  abbrev goes : Bool
+  goes = is_over (f k)
+
+  over_is : goes ≡ now.doomed && is_idle (set_copy s id now) id now
+  over_is =
+      ap (λ b. now.doomed && b)
+      (idle_same (is_held now) (f k).granted (is_granted s id) (is_working s id) (f k).working
+      (minor.granted ∙ h.granted id k found) (ap is_some (minor.working ∙ h.working id k found) ∙ working-on beside.works id))
+
+  abbrev done_if : Bool → Change
+  done_if b = erasing s (record (done (cond b (drop_copy (set_copy s id now) id) (set_copy s id now))) { sent = sent })
+
+  settled_is : erasing s (record (done (settled (set_copy s id now) id)) { sent = sent }) ≡ done_if goes
+  settled_is =
+      ap (λ o. erasing s (record (done (option_map_or (λ copy. cond (copy.doomed && is_idle (set_copy s id now) id copy) (drop_copy (set_copy s id now) id) (set_copy s id now)) o (set_copy s id now))) { sent = sent })) (at-put_here (copies_of row.copies) id now)
+      ∙ ap done_if (sym over_is)
+
+  -- the row, and what it gives, as the code leaves them
+  abbrev row_settled : Bool → Row
+  row_settled b = cond b (dropped row_now id) row_now
+
+  abbrev gives : Bool → Given
+  gives b = record { reply = reply.Ok; posts = posts; erased = cond b (option_to_list (option_map (key_of row.job) now.backed)) [] }
+
+  found_now : at row_now.copies id ≡ Some (f k)
+  found_now = ap (λ t. at t id) (changed-found f id row.copies k found) ∙ at-put_here row.copies id (f k)
+
+  settled_row-is : settled_row row_now id ≡ row_settled goes
+  settled_row-is = ap (λ o. option_map_or (λ kept. cond (is_over kept) (dropped row_now id) row_now) o row_now) found_now
+
+  keys-are : keys_settled row_now id ≡ (gives goes).erased
+  keys-are = ap (λ o. option_map_or (λ kept. cond (is_over kept) (option_to_list (option_map (key_of row.job) kept.copy.backed)) []) o []) found_now
+
+  module _ (step_is : change node row beside contents h x ≡ erasing s (record (done (settled (set_copy s id now) id)) { sent = sent }))
+      (posted : (o : View) → posts ≡ flat_map (posts_of node o x) sent) where
+    -- a copy that something keeps, or that isn't doomed, stays
+    pub stays_so : goes ≡ false → TakesStep node row beside contents x told row_now beside
+    stays_so is = moved node row beside contents h x c (step_is ∙ settled_is ∙ ap done_if is) told row_now beside m (posted (after c))
+
+    settled_so : ArePlaced row_now.window.placed (place_of row_now.copies) → (b : Bool) → goes ≡ b → TakesStep node row beside contents x (gives b) (row_settled b) beside
+    settled_so placed false is = stays_so is
+    settled_so placed true is =
+        let keys = keys_gone s.copies (drop_copy (set_copy s id now) id).copies in
+        moved node row beside contents h x (change_left node row beside contents h x c told row_now m refl placed id keys)
+        (step_is ∙ settled_is ∙ ap done_if is) (gives true) (dropped row_now id) beside
+        (moves_left node row beside contents h x c told row_now m refl placed id keys (gives true) refl
+        (one_key row.job now.backed ∙ ap (λ o. map (key_of row.job) (option_to_list o)) minor.backed
+        ∙ ap (map (key_of row.job)) (sym (key_removed (copies_of row.copies) id k.copy now (T_true _ h.kept.kept.shape.by_id) (at-copies_found row.copies id k found)))))
+        (posted (after (change_left node row beside contents h x c told row_now m refl placed id keys)))
+
+    pub settles : ArePlaced row_now.window.placed (place_of row_now.copies) → TakesStep node row beside contents x (record { reply = reply.Ok; posts = posts; erased = keys_settled row_now id }) (settled_row row_now id) beside
+    settles placed =
+        subst (λ ks. TakesStep node row beside contents x (record { reply = reply.Ok; posts = posts; erased = ks }) (settled_row row_now id) beside) (sym keys-are)
+        (subst (λ r. TakesStep node row beside contents x (gives goes) r beside) (sym settled_row-is) (settled_so placed goes refl))

@@ -1,0 +1,7 @@
+use Rattle.node_table.specs.Kept.{Kept, given_up}
+use Rattle.node_table.proofs.Places.{now_placed}
+use Rattle.node_table.proofs.Scoping.{given_up-place}
+use Rattle.node_table.proofs.row.JobRow.give_up_copy.Goals as goal
+
+pub invariant_of-self : goal.invariant_of-self
+invariant_of-self c = now_placed c.self.inside.window.placed c.self.inside.copies c.self.invariant (given_up c.args.task) (given_up-place c.args.task) c.args.id.now c.give_up.new.self c.give_up.ensures

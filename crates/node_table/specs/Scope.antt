@@ -1,0 +1,29 @@
+-- A copy that goes out of scope: what the directory is told of it.
+use Rattle.std.specs.Prelude.{ℕ, Bool, if◌then◌else◌, List, [], Option, Some, None}
+use Rattle.std.specs.Option.{option_map_or, option_and_then}
+use Rattle.obj_id.specs.declared.ids.ObjectId.{ObjectId}
+use Rattle.obj_id.specs.declared.messages.DirectoryMessage.{DirectoryMessage}
+use Rattle.obj_id.specs.declared.messages.DirectoryMessage.TheVariants.{RemoveLocation, Free}
+use Rattle.obj_id.specs.Kinds.{is_primary}
+use Rattle.private_store.specs.Copies.{was_sealed}
+use Rattle.private_store.specs.Private.{Post, to_directory}
+use Rattle.private_store.specs.Tables.{ById, at}
+use Rattle.node_table.specs.Entries.{changed}
+use Rattle.node_table.specs.Kept.{Kept}
+use Rattle.node_table.specs.Row.{Row}
+
+-- what the directory is told of a copy once it is doomed: nothing, unless it was sealed
+abbrev pub farewell : ℕ → ObjectId → Kept → Option DirectoryMessage
+farewell node id kept =
+    if was_sealed kept.copy.state then Some (if is_primary kept.copy.kind then Free id else RemoveLocation id node) else None
+
+-- the same of the copy of the id, where it is doomed or isn't
+abbrev pub farewell_at : ℕ → ById Kept → ObjectId → Bool → Option DirectoryMessage
+farewell_at node copies id dooms = if dooms then option_and_then (farewell node id) (at copies id) else None
+
+abbrev pub posted : Option DirectoryMessage → List Post
+posted o = option_map_or to_directory o []
+
+-- the row with one copy changed
+abbrev pub with_copy : (Kept → Kept) → Row → ObjectId → Row
+with_copy f row id = record row { copies = changed f row.copies id }

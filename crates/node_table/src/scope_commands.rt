@@ -1,0 +1,160 @@
+//! The commands that say what keeps an object in scope: Unpin, Borrow, GiveUp and Delete.
+ghost use Rattle.std.specs.Prelude.{◌≡◌, ◌==◌, ◌||◌, ℕ, ◌≤◌, [], length, true, false, None, IfOk, OnErr, IsErrOf};
+ghost use Rattle.obj_id.specs.declared.commands.Command.TheVariants as command;
+ghost use Rattle.obj_id.specs.declared.commands.Reply.TheVariants as reply;
+ghost use Rattle.obj_id.specs.declared.refusals.Refusal.{Refusal};
+ghost use Rattle.obj_id.specs.declared.refusals.Refusal.TheVariants.{NoMemory};
+ghost use Rattle.private_store.specs.declared.inputs.Input.TheVariants as input;
+ghost use Rattle.private_store.specs.Contents.{Contents};
+ghost use Rattle.private_store.specs.Kept.{is_remembered};
+ghost use Rattle.node_table.specs.Checks.{unpin_check as unpin_check_lem, row_borrow_check, give_up_check as give_up_check_lem, delete_check as delete_check_lem};
+ghost use Rattle.node_table.specs.Dropping.{settled_row, keys_settled};
+ghost use Rattle.node_table.specs.Outcomes.{given_of};
+ghost use Rattle.node_table.specs.Row.{Beside, place_of, ArePlaced};
+ghost use Rattle.node_table.specs.Scope.{farewell_at, posted};
+ghost use Rattle.node_table.specs.Shown.{IsShown, TakesStep};
+
+use crate::outcome::{Erase, Outcome};
+use crate::row::JobRow;
+use obj_id::{Items, Message, ObjectId, Place, Refusal, Reply, TaskNo};
+use std::alloc::{AllocError, Global};
+
+impl JobRow {
+    /// Unpin: the owner task keeps its primary no longer, which is doomed unless a task borrows it. `Absent`, `NotOwner`
+    /// if it is a secondary or another task asks, `NotHeld` if it isn't pinned. The error is out of memory, and then
+    /// nothing has changed.
+    pub fn unpin(
+        &mut self,
+        alloc: Global,
+        node: u32,
+        session: u32,
+        id: &ObjectId,
+        task: TaskNo,
+    ) -> Result<Outcome, AllocError>
+        ensures ok { IfOk result (λ o. (beside : Beside) (contents : Contents) → (id.now.job.0 == self.old.job) ≡ true → IsShown self.old beside contents
+            → TakesStep node self.old beside contents (input.Call session (command.Unpin id.now task)) (given_of o) self.new beside) }
+        ensures few { IfOk result (λ o. length o.messages ≤ 1) }
+        ensures late { OnErr result (unpin_check_lem self.old.copies id.now task ≡ None) }
+        ensures err { OnErr result (self.new ≡ self.old) }
+    {
+        if let Some(refusal) = self.copies().unpin_check(id, task) {
+            return Ok(Outcome::only(alloc, Reply::Refused(refusal)));
+        }
+        let stays = self.copies().in_scope_unpinned(id);
+        let messages = self.farewell(alloc, node, id, !stays)?;
+        self.unpin_copy(id);
+        Ok(self.settle_after(id, messages))
+    }
+
+    /// Borrow: the task refers to the object, and keeps its primary. `Gone` if the object's task or this one has ended,
+    /// `Absent`, `NotOwner` if it is a secondary, `Exists` if the task borrows it already, `TooMany` at 64 borrowers.
+    /// The error is out of memory, and then nothing has changed.
+    pub fn borrow(
+        &mut self,
+        alloc: Global,
+        session: u32,
+        id: &ObjectId,
+        task: TaskNo,
+    ) -> Result<Outcome, Refusal>
+        ensures ok { IfOk result (λ o. (node : ℕ) (beside : Beside) (contents : Contents) → (id.now.job.0 == self.old.job) ≡ true → IsShown self.old beside contents
+            → TakesStep node self.old beside contents (input.Call session (command.Borrow id.now task)) (given_of o) self.new beside) }
+        ensures silent { IfOk result (λ o. o.messages ≡ []) }
+        ensures late { OnErr result (row_borrow_check self.old id.now task ≡ None) }
+        ensures memory { (r : Refusal) → IsErrOf result r → r ≡ NoMemory }
+        ensures err { OnErr result (self.new ≡ self.old) }
+    {
+        if self.has_either_ended(id.task(), task) {
+            return Ok(Outcome::only(alloc, Reply::Refused(Refusal::Gone)));
+        }
+        match self.borrow_copy(id, task) {
+            Ok(()) => Ok(Outcome::only(alloc, Reply::Ok)),
+            Err(refusal) if refusal == Refusal::NoMemory => Err(refusal),
+            Err(refusal) => Ok(Outcome::only(alloc, Reply::Refused(refusal))),
+        }
+    }
+
+    /// GiveUp: the task refers to the object no longer, whose primary is doomed unless it is pinned or another task
+    /// borrows it. `Absent`, also if the task doesn't borrow it, `NotOwner` if it is a secondary. The error is out of
+    /// memory, and then nothing has changed.
+    pub fn give_up(
+        &mut self,
+        alloc: Global,
+        node: u32,
+        session: u32,
+        id: &ObjectId,
+        task: TaskNo,
+    ) -> Result<Outcome, AllocError>
+        ensures ok { IfOk result (λ o. (beside : Beside) (contents : Contents) → (id.now.job.0 == self.old.job) ≡ true → IsShown self.old beside contents
+            → TakesStep node self.old beside contents (input.Call session (command.GiveUp id.now task)) (given_of o) self.new beside) }
+        ensures few { IfOk result (λ o. length o.messages ≤ 1) }
+        ensures late { OnErr result (give_up_check_lem self.old.copies id.now task ≡ None) }
+        ensures err { OnErr result (self.new ≡ self.old) }
+    {
+        if let Some(refusal) = self.copies().give_up_check(id, task) {
+            return Ok(Outcome::only(alloc, Reply::Refused(refusal)));
+        }
+        let stays = self.copies().in_scope_without(id, task);
+        let messages = self.farewell(alloc, node, id, !stays)?;
+        self.give_up_copy(id, task);
+        Ok(self.settle_after(id, messages))
+    }
+
+    /// Delete: the copy is doomed, whoever refers to it, and removed once nothing keeps it. `Absent`, `Granted` if a
+    /// hand of it stands that the job gave. The error is out of memory, and then nothing has changed.
+    pub fn delete(
+        &mut self,
+        alloc: Global,
+        node: u32,
+        session: u32,
+        id: &ObjectId,
+    ) -> Result<Outcome, AllocError>
+        ensures ok { IfOk result (λ o. (beside : Beside) (contents : Contents) → (id.now.job.0 == self.old.job) ≡ true → IsShown self.old beside contents
+            → TakesStep node self.old beside contents (input.Call session (command.Delete id.now)) (given_of o) self.new beside) }
+        ensures few { IfOk result (λ o. length o.messages ≤ 1) }
+        ensures late { OnErr result (delete_check_lem self.old.copies id.now ≡ None) }
+        ensures err { OnErr result (self.new ≡ self.old) }
+    {
+        if let Some(refusal) = self.copies().delete_check(id) {
+            return Ok(Outcome::only(alloc, Reply::Refused(refusal)));
+        }
+        let messages = self.farewell(alloc, node, id, true)?;
+        self.doom_copy(id);
+        Ok(self.settle_after(id, messages))
+    }
+
+    /// Whether one of these tasks has ended here.
+    fn has_either_ended(&self, one: TaskNo, other: TaskNo) -> bool
+        ensures { result ≡ is_remembered self.now.ended_tasks one || is_remembered self.now.ended_tasks other }
+    {
+        self.has_ended(one) || self.has_ended(other)
+    }
+
+    /// What the directory is told of the copy if it is doomed now: nothing, unless it was sealed.
+    fn farewell(
+        &self,
+        alloc: Global,
+        node: u32,
+        id: &ObjectId,
+        dooms: bool,
+    ) -> Result<Items<(Place, Message)>, AllocError>
+        ensures { IfOk result (λ messages. messages ≡ posted (farewell_at node self.now.copies id.now dooms)) }
+    {
+        if !dooms {
+            return Ok(Items::new(alloc));
+        }
+        Outcome::to_directory(alloc, self.copies().farewell(node, id))
+    }
+
+    /// The answer Ok with these messages, and the copy is removed if it is over.
+    fn settle_after(&mut self, id: &ObjectId, messages: Items<(Place, Message)>) -> Outcome
+        ensures row { self.new ≡ settled_row self.old id.now }
+        ensures given { given_of result ≡ record { reply = reply.Ok; posts = messages; erased = keys_settled self.old id.now } }
+        ensures placed { ArePlaced self.old.window.placed (place_of self.old.copies) }
+    {
+        Outcome {
+            reply: Reply::Ok,
+            messages,
+            erase: Erase::of(self.settle(id)),
+        }
+    }
+}
