@@ -1,5 +1,5 @@
 -- A built event is an input of its own job alone: so what is told of one job at a time is the step of all of them.
-use Rattle.std.proofs.Common.{◌≡◌, ℕ, Bool, true, false, not, cond, ◌==◌, ◌≤◌, ◌&&◌, ◌||◌, length, List, [], ◌∷◌, ◌++◌, map, filter, Option, Some, None, option_to_list, refl, sym, ap, subst, ◌∙◌, arith}
+use Rattle.std.proofs.Common.{◌≡◌, ℕ, Bool, true, false, not, cond, ◌==◌, ◌≤◌, ◌&&◌, length, List, [], ◌∷◌, ◌++◌, map, filter, Option, Some, None, option_to_list, refl, sym, ap, subst, ◌∙◌, arith}
 use Rattle.std.specs.Prelude.{option_map, nat_lt, nat_le}
 use Rattle.std.specs.List.{list_all}
 use Rattle.std.specs.Option.{option_map_or}
@@ -81,10 +81,10 @@ no_note before (event.Call job session (command.Release id)) built none = refl
 no_note before (event.Call job session command.List) built none = refl
 no_note before (event.Call job session command.Usage) built none = refl
 no_note before (event.Call job session command.Leave) built none = refl
-no_note before (event.Call job session (command.Unpin id task)) built none = absurd cc
-no_note before (event.Call job session (command.Borrow id task)) built none = absurd cc
-no_note before (event.Call job session (command.GiveUp id task)) built none = absurd cc
-no_note before (event.Call job session (command.Delete id)) built none = absurd cc
+no_note before (event.Call job session (command.Unpin id task)) built none = refl
+no_note before (event.Call job session (command.Borrow id task)) built none = refl
+no_note before (event.Call job session (command.GiveUp id task)) built none = refl
+no_note before (event.Call job session (command.Delete id)) built none = refl
 no_note before (event.Call job session (command.EndTask task)) built none = absurd cc
 no_note before (event.Call job session (command.Grant id target)) built none = absurd cc
 no_note before (event.Call job session (command.Withdraw id target)) built none = absurd cc
@@ -109,10 +109,10 @@ no_hand (event.Call job session (command.Release id)) built = refl
 no_hand (event.Call job session command.List) built = refl
 no_hand (event.Call job session command.Usage) built = refl
 no_hand (event.Call job session command.Leave) built = refl
-no_hand (event.Call job session (command.Unpin id task)) built = absurd cc
-no_hand (event.Call job session (command.Borrow id task)) built = absurd cc
-no_hand (event.Call job session (command.GiveUp id task)) built = absurd cc
-no_hand (event.Call job session (command.Delete id)) built = absurd cc
+no_hand (event.Call job session (command.Unpin id task)) built = refl
+no_hand (event.Call job session (command.Borrow id task)) built = refl
+no_hand (event.Call job session (command.GiveUp id task)) built = refl
+no_hand (event.Call job session (command.Delete id)) built = refl
 no_hand (event.Call job session (command.EndTask task)) built = absurd cc
 no_hand (event.Call job session (command.Grant id target)) built = absurd cc
 no_hand (event.Call job session (command.Withdraw id target)) built = absurd cc

@@ -1,5 +1,5 @@
 -- A step that passed every check is due an answer that is none of the early refusals.
-use Rattle.std.proofs.Common.{◌≡◌, ℕ, true, List, sym, ap, subst, ◌∙◌}
+use Rattle.std.proofs.Common.{◌≡◌, ℕ, true, List, sym, ap, subst}
 use Rattle.obj_id.specs.declared.commands.Command.{Command}
 use Rattle.obj_id.specs.declared.commands.Command.TheVariants as command
 use Rattle.private_store.specs.declared.inputs.Input.TheVariants as input
@@ -8,11 +8,10 @@ use Rattle.private_store.specs.declared.schedules.Event.TheVariants as event
 use Rattle.private_store.specs.declared.schedules.NodeEvent.TheVariants.{Own}
 use Rattle.private_store.specs.Contents.{Contents}
 use Rattle.private_store.specs.Private.{view_step}
-use Rattle.spill_work.specs.Line.{WorkLine}
 use Rattle.node_table.specs.Row.{Row, Beside, shape_of}
 use Rattle.node_table.specs.Late.{may_grow}
 use Rattle.node_table.specs.Shown.{seen, IsShown}
-use Rattle.node_table.proofs.Late.{create_late, seal_late, get_late, read_late, list_late, leave_late}
+use Rattle.node_table.proofs.Late.{create_late, seal_late, get_late, read_late, list_late, leave_late, unpin_late, borrow_late, give_up_late, delete_late}
 use Rattle.node_core.specs.Hosted.{Hosted, alone, IsRowView, IsViewBy}
 use Rattle.node_core.specs.Built.{is_built, is_built_command}
 use Rattle.node_core.specs.Late.{is_accepted, IsLate, IsUnrefused, IsEventUnrefused}
@@ -31,10 +30,10 @@ module _ (node : ℕ) (row : Row) (beside : Beside) (contents : Contents) (sessi
   row_late (command.Release id) built u = absurd (let g = u.grows in cc)
   row_late command.Usage built u = absurd (let g = u.grows in cc)
   row_late command.Leave built u = leave_late node row beside contents session h
-  row_late (command.Unpin id task) built u = absurd cc
-  row_late (command.Borrow id task) built u = absurd cc
-  row_late (command.GiveUp id task) built u = absurd cc
-  row_late (command.Delete id) built u = absurd cc
+  row_late (command.Unpin id task) built u = unpin_late node row beside contents session h id task u.own u.passed
+  row_late (command.Borrow id task) built u = borrow_late node row beside contents session h id task u.own u.passed
+  row_late (command.GiveUp id task) built u = give_up_late node row beside contents session h id task u.own u.passed
+  row_late (command.Delete id) built u = delete_late node row beside contents session h id u.own u.passed
   row_late (command.EndTask task) built u = absurd cc
   row_late (command.Grant id target) built u = absurd cc
   row_late (command.Withdraw id target) built u = absurd cc

@@ -1,4 +1,3 @@
-mod SameJob
 mod Others
 mod Lines
 mod Views

@@ -24,14 +24,12 @@ use Rattle.node_core.proofs.Others.{other_view, not_same}
 use Rattle.job_admission.specs.Admissions.{Admissions}
 use Rattle.node_table.specs.Row.{Row, shape_of}
 use Rattle.node_table.specs.Shown.{seen, Given, only}
-use Rattle.node_table.proofs.ByChecks.{called}
 use Rattle.node_core.specs.Hosted.{Hosted, IsRowView, IsBare, IsViewBy, Shows, bare, bare_shape, alone}
 use Rattle.node_core.specs.Calls.{Obeys}
-use Rattle.node_core.specs.Built.{is_built_command}
 use Rattle.node_core.specs.OneJob.{IsStepOf, StepsOne}
 use Rattle.node_table.specs.Asked.{HasAsked}
 use Rattle.node_core.proofs.Lines.{asked_nothing}
-use Rattle.node_core.proofs.SameJob.{built_same}
+use Rattle.private_store.proofs.OwnJob.{step_keeps_job}
 
 pub itself : (job : JobNo) → same_job job job ≡ true
 itself job = grind (arith, nat_tests)
@@ -60,7 +58,6 @@ module _ (number : ℕ) (a : Admissions) (line : WorkLine) (job : JobNo) (sessio
   module _ (old new : List (JobNo × Row)) (row after : Row) (works : WorkLine) (told : Given)
       (found : lookup (same_job job) old ≡ Some row)
       (updated : (q : JobNo) → lookup (same_job q) new ≡ cond (same_job job q) (Some after) (lookup (same_job q) old))
-      (built : is_built_command c ≡ true)
       (line_after : HasAsked line job works)
       (obeys : Obeys number job.0 row line session c told after works)
       (others : (other : JobNo) → same_line_job job other ≡ false → IsSameFor other line works) where
@@ -71,7 +68,7 @@ module _ (number : ℕ) (a : Admissions) (line : WorkLine) (job : JobNo) (sessio
     row_stepped view r =
         let t = obeys view.contents r.own r.shown in
         subst (λ v. IsRowView after works job.0 (view_step number v x).view) (sym (view_is row line job.0 view r)) (record {
-          own = sym (ap (λ s. s.job) t.shape) ∙ ap (λ (d : Change). d.shape.job) (called row (alone line job.0) session (brief c)) ∙ (built_same row.order (shape_of row (alone line job.0)) session c built).job ∙ r.own;
+          own = sym (ap (λ s. s.job) t.shape) ∙ step_keeps_job row.order (shape_of row (alone line job.0)) (judge number (seen row (alone line job.0) view.contents) x) ∙ r.own;
           shape = t.shape;
           order = t.order;
           shown = t.shown;

@@ -49,18 +49,18 @@ pub(crate) fn carry_out(
             return row.create(alloc, node, works, id, *kind, *len);
         }
         Command::Seal(id) => return Ok(row.seal(alloc, node, session, id)?),
-        Command::Get(id) => return row.get(alloc, node, session, id),
+        Command::Get(id) => return row.get(alloc, node, works, session, id),
         Command::Release(id) => return Ok(row.release(alloc, session, id)),
+        Command::Unpin(id, task) => return Ok(row.unpin(alloc, node, session, id, *task)?),
+        Command::Borrow(id, task) => return row.borrow(alloc, session, id, *task),
+        Command::GiveUp(id, task) => return Ok(row.give_up(alloc, node, session, id, *task)?),
+        Command::Delete(id) => return Ok(row.delete(alloc, node, session, id)?),
         Command::Leave => return Ok(row.leave(alloc, session)?),
         Command::Write(id, offset, bytes) => row.write(session, id, *offset, bytes),
         Command::Read(id, offset, len) => row.read(alloc, session, id, *offset, *len)?,
         Command::List => row.list(alloc, Items::new(alloc))?,
         Command::Usage => row.tell_usage(works),
-        Command::Unpin(..)
-        | Command::Borrow(..)
-        | Command::GiveUp(..)
-        | Command::Delete(_)
-        | Command::EndTask(_)
+        Command::EndTask(_)
         | Command::Grant(..)
         | Command::Withdraw(..)
         | Command::Peek(..) => unreachable!(),

@@ -55,6 +55,7 @@ pub mod KeptView
 pub mod WorksHaveCopies
 pub mod NumbersRise
 pub mod EachStep
+pub mod OwnJob
 pub mod ListsKept
 pub mod AnswersAre
 pub mod BriefKept

@@ -31,7 +31,7 @@ returns-clause-ok c =
     if_ok_on c.carry_out.result c.carry_out.ensures.ok c.carry_out.ensures.line (λ o h line.
     subst (λ old. StepsOne old (event.Call c.args.job c.args.session c.args.command.now) (given_of o) (with_all c.self.inside.number c.self.inside.admission c.self.inside.works c.args.job c.args.session c.args.command.now new c.carry_out.new.works)) c.self.view_is
     (call_steps c.self.inside.number c.self.inside.admission c.self.inside.works c.args.job c.args.session c.args.command.now rows new c.in-Some.row.now c.carry_out.new.row c.carry_out.new.works (given_of o)
-    found (wrote.3 (ap is_some found)).0 c.requires line h c.carry_out.ensures.others))
+    found (wrote.3 (ap is_some found)).0 line h c.carry_out.ensures.others))
 
 pub returns-clause-err : goal.returns-clause-err
 returns-clause-err c =

@@ -71,8 +71,14 @@ pub returns-in-Get-clause-ok : goal.returns-in-Get-clause-ok
 returns-in-Get-clause-ok c =
     if_ok c.get.result c.get.ensures.ok (λ o told contents own h.
     let mine = ap (λ n. c.in-Get.id.job.0 == n) own ∙ ap (is_own c.args.job.0) (sym c.in-Get.is) ∙ sym c.is_own.ensures ∙ c.if-not-is_own.false in
-    subst (λ d. TakesStep c.args.node c.args.row.now (alone c.args.works.now c.args.job.0) contents (input.Call c.args.session d) (given_of o) c.get.new.self (alone c.args.works.now c.args.job.0)) (sym c.in-Get.is)
-    (told (alone c.args.works.now c.args.job.0) contents mine h))
+    subst (λ d. TakesStep c.args.node c.args.row.now (alone c.args.works.now c.args.job.0) contents (input.Call c.args.session d) (given_of o) c.get.new.self (alone c.get.new.works c.args.job.0)) (sym c.in-Get.is)
+    (subst (λ n. TakesStep c.args.node c.args.row.now (alone c.args.works.now n) contents (input.Call c.args.session (command.Get c.in-Get.id)) (given_of o) c.get.new.self (alone c.get.new.works n)) own
+    (told [] (λ id. []) contents mine (subst (λ n. IsShown c.args.row.now (alone c.args.works.now n) contents) (sym own) h))))
+
+pub returns-in-Get-clause-line : goal.returns-in-Get-clause-line
+returns-in-Get-clause-line c =
+    let mine = ap (is_own c.args.job.0) (sym c.in-Get.is) ∙ sym c.is_own.ensures ∙ c.if-not-is_own.false in
+    subst (λ j. OnOk c.get.result (HasAsked c.args.works.now j c.get.new.works)) (λ i. record { 0 = eqb-true c.in-Get.id.job.0 c.args.job.0 mine i }) c.get.ensures.line
 
 pub returns-in-Release-clause-ok : goal.returns-in-Release-clause-ok
 returns-in-Release-clause-ok c contents own h =
@@ -84,3 +90,28 @@ pub returns-in-Leave-clause-ok : goal.returns-in-Leave-clause-ok
 returns-in-Leave-clause-ok c contents own h =
     subst (λ d. TakesStep c.args.node c.args.row.now (alone c.args.works.now c.args.job.0) contents (input.Call c.args.session d) (given_of c.in_ok-leave-in-Leave.field-0) c.leave.new.self (alone c.args.works.now c.args.job.0)) (sym c.in-Leave.is)
     (c.in_ok-leave-in-Leave.ensures.ok c.args.node (alone c.args.works.now c.args.job.0) contents h)
+
+pub returns-in-Unpin-clause-ok : goal.returns-in-Unpin-clause-ok
+returns-in-Unpin-clause-ok c contents own h =
+    let mine = ap (λ n. c.in-Unpin.id.job.0 == n) own ∙ ap (is_own c.args.job.0) (sym c.in-Unpin.is) ∙ sym c.is_own.ensures ∙ c.if-not-is_own.false in
+    subst (λ d. TakesStep c.args.node c.args.row.now (alone c.args.works.now c.args.job.0) contents (input.Call c.args.session d) (given_of c.in_ok-unpin-in-Unpin.field-0) c.unpin.new.self (alone c.args.works.now c.args.job.0)) (sym c.in-Unpin.is)
+    (c.in_ok-unpin-in-Unpin.ensures.ok (alone c.args.works.now c.args.job.0) contents mine h)
+
+pub returns-in-GiveUp-clause-ok : goal.returns-in-GiveUp-clause-ok
+returns-in-GiveUp-clause-ok c contents own h =
+    let mine = ap (λ n. c.in-GiveUp.id.job.0 == n) own ∙ ap (is_own c.args.job.0) (sym c.in-GiveUp.is) ∙ sym c.is_own.ensures ∙ c.if-not-is_own.false in
+    subst (λ d. TakesStep c.args.node c.args.row.now (alone c.args.works.now c.args.job.0) contents (input.Call c.args.session d) (given_of c.in_ok-give_up-in-GiveUp.field-0) c.give_up.new.self (alone c.args.works.now c.args.job.0)) (sym c.in-GiveUp.is)
+    (c.in_ok-give_up-in-GiveUp.ensures.ok (alone c.args.works.now c.args.job.0) contents mine h)
+
+pub returns-in-Delete-clause-ok : goal.returns-in-Delete-clause-ok
+returns-in-Delete-clause-ok c contents own h =
+    let mine = ap (λ n. c.in-Delete.id.job.0 == n) own ∙ ap (is_own c.args.job.0) (sym c.in-Delete.is) ∙ sym c.is_own.ensures ∙ c.if-not-is_own.false in
+    subst (λ d. TakesStep c.args.node c.args.row.now (alone c.args.works.now c.args.job.0) contents (input.Call c.args.session d) (given_of c.in_ok-delete-in-Delete.field-0) c.delete.new.self (alone c.args.works.now c.args.job.0)) (sym c.in-Delete.is)
+    (c.in_ok-delete-in-Delete.ensures.ok (alone c.args.works.now c.args.job.0) contents mine h)
+
+pub returns-in-Borrow-clause-ok : goal.returns-in-Borrow-clause-ok
+returns-in-Borrow-clause-ok c =
+    if_ok c.borrow.result c.borrow.ensures.ok (λ o told contents own h.
+    let mine = ap (λ n. c.in-Borrow.id.job.0 == n) own ∙ ap (is_own c.args.job.0) (sym c.in-Borrow.is) ∙ sym c.is_own.ensures ∙ c.if-not-is_own.false in
+    subst (λ d. TakesStep c.args.node c.args.row.now (alone c.args.works.now c.args.job.0) contents (input.Call c.args.session d) (given_of o) c.borrow.new.self (alone c.args.works.now c.args.job.0)) (sym c.in-Borrow.is)
+    (told c.args.node (alone c.args.works.now c.args.job.0) contents mine h))
