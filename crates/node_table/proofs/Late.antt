@@ -42,7 +42,8 @@ use Rattle.node_table.specs.Usages.{item_of}
 use Rattle.node_table.proofs.Telling.{list_done}
 use Rattle.node_table.proofs.Getting.{get_at}
 use Rattle.node_table.proofs.Fetching.{fetch_done, again}
-use Rattle.node_table.proofs.Creating.{room_is}
+use Rattle.node_table.proofs.Creating.{x, quiet, by_room}
+use Rattle.node_table.proofs.Rooms.{room_is}
 use Rattle.node_table.proofs.LeavingEach.{left_shape, leaves-each}
 
 -- ---- of what room is planned
@@ -149,7 +150,7 @@ module _ (node : ℕ) (row : Row) (beside : Beside) (contents : Contents) (sessi
   pub create_late : (id : ObjectId) (kind : Kind) (n : ℕ) → (id.job.0 == row.job) ≡ true → create_check row id n ≡ None → is_late (command.Create id kind n)
   create_late id kind n mine passed =
       by_change (command.Create id kind n) (sending (make_room row.order s n).sent (elim (make_room row.order s n).offset as (λ _. Change) [ Ok offset ↦ created id kind n (make_room row.order s n).shape offset | Err refusal ↦ refused (make_room row.order s n).shape refusal ]))
-      (room_is node row beside contents session id kind n mine h passed (make_room row.order s n) refl)
+      (room_is node row beside contents h (x node row beside contents session id kind n mine h) (quiet node row beside contents session id kind n mine h) n (created id kind n) (by_room node row beside contents session id kind n mine h passed) (make_room row.order s n) refl)
       (ap (λ (c : Change). may_grow s c.reply) (sending-is _ _) ∙ by (make_room row.order s n).offset (room_late s n row.order))
     where
       by : (o : Result ℕ Refusal) → late_offset s o ≡ true → may_grow s (elim o as (λ _. Change) [ Ok offset ↦ created id kind n (make_room row.order s n).shape offset | Err refusal ↦ refused (make_room row.order s n).shape refusal ]).reply ≡ true

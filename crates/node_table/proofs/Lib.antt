@@ -21,9 +21,11 @@ pub mod Totals
 pub mod Described
 pub mod Planning
 pub mod Removing
+pub mod Evicting
 pub mod Counting
 pub mod Replacing
 pub mod Dropping
+pub mod Rooms
 pub mod Creating
 pub mod Asking
 pub mod Lending

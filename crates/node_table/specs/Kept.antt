@@ -1,8 +1,8 @@
 -- One copy as its row keeps it: the store's copy, its digest, and which work is in flight for it.
-use Rattle.std.specs.Prelude.{◌≡◌, ℕ, ◌+◌, ◌-◌, Bool, false, not, ◌&&◌, Option, Some, None, if◌then◌else◌, is_none, option_map}
+use Rattle.std.specs.Prelude.{◌≡◌, ℕ, ◌+◌, ◌-◌, Bool, false, not, ◌&&◌, Option, Some, None, if◌then◌else◌, is_some, is_none, option_map}
 use Rattle.std.specs.Option.{option_map_or}
 use Rattle.obj_id.specs.declared.commands.Kind.{Kind}
-use Rattle.obj_id.specs.declared.commands.CopyState.TheVariants.{Sealed}
+use Rattle.obj_id.specs.declared.commands.CopyState.TheVariants.{Sealed, Away}
 use Rattle.obj_id.specs.declared.messages.Digest.{Digest}
 use Rattle.obj_id.specs.declared.works.WorkKind.{WorkKind}
 use Rattle.obj_id.specs.declared.works.WorkKind.TheVariants.{Write}
@@ -74,6 +74,10 @@ is_ready copy = is_sealed copy.state && not copy.doomed
 abbrev pub can_spill : Kept → Bool
 can_spill kept = is_sealed kept.copy.state && is_primary kept.copy.kind && is_none kept.copy.backed && is_none kept.working
 
+-- sealed, with its bytes on the device
+abbrev pub can_go_away : Kept → Bool
+can_go_away kept = is_sealed kept.copy.state && is_some kept.copy.backed
+
 -- ---- the changes
 
 abbrev pub held : ℕ → Kept → Kept
@@ -94,3 +98,8 @@ spilling kept = record kept { working = Some Write }
 -- where it can be
 abbrev pub spilling_if : Kept → Kept
 spilling_if kept = if can_spill kept then spilling kept else kept
+
+-- it has no place any more, and is away where it can be
+abbrev pub unplaced : Kept → Kept
+unplaced kept =
+    record kept { copy = record kept.copy { state = if can_go_away kept then Away else kept.copy.state; offset = None } }

@@ -1,13 +1,14 @@
 //! The copies of a job, by their ids.
 ghost use Rattle.std.specs.Option.{option_copied, option_map_or};
 ghost use Rattle.private_store.specs.Tables.{at, with_entry, without_entry};
-ghost use Rattle.node_table.specs.Entries.{changed, all_changed, each_changed, without_all};
-ghost use Rattle.node_table.specs.Kept.{released, left, sealed, spilling_if};
+ghost use Rattle.node_table.specs.Entries.{changed, all_changed, each_changed};
+ghost use Rattle.node_table.specs.Kept.{released, left, sealed, spilling_if, unplaced};
+ghost use Rattle.node_table.specs.Evicting.{has_secondary, evicted_one, all_evicted};
 ghost use Rattle.private_store.specs.Copies.{is_created};
 ghost use Rattle.obj_id.specs.declared.refusals.Refusal.{Refusal};
 ghost use Rattle.node_table.specs.Checks.{release_check};
 ghost use Rattle.node_table.specs.Holding.{IsHeldAt, IsUnreadyAt, IsHoldRefusedAt};
-ghost use Rattle.std.specs.Prelude.{◌≡◌, [], true, Some, None, OnOk, OnErr, IsOk, IsErrOf, IfOk, IfErr, IfSome, IfNone, map, length, is_some};
+ghost use Rattle.std.specs.Prelude.{◌≡◌, [], true, false, Some, None, OnOk, OnErr, IsOk, IsErrOf, IfOk, IfErr, IfSome, IfNone, map, length, is_some};
 ghost use Rattle.node_table.specs.Usages.{item_of, total, window_bytes as window_bytes_lem, device_bytes as device_bytes_lem, doomed_one};
 
 use crate::copy::RowCopy;
@@ -119,12 +120,50 @@ impl Copies {
         self.by_id.swap_remove(id);
     }
 
-    /// The copies of these ids go, as far as they are there. Takes no memory.
-    pub fn remove_all(&mut self, ids: &[ObjectId])
-        ensures { self.new ≡ without_all ids.now self.old }
+    /// Whether there is a copy of the id.
+    pub fn has(&self, id: &ObjectId) -> bool
+        ensures { result ≡ is_some (at self.now id.now) }
+    {
+        self.get(id).is_some()
+    }
+
+    /// Whether there is a copy of the id that a transfer made.
+    pub fn has_secondary(&self, id: &ObjectId) -> bool
+        ensures { result ≡ has_secondary self.now id.now }
+    {
+        match self.get(id) {
+            Some(copy) => !copy.kind().is_primary(),
+            None => false,
+        }
+    }
+
+    /// The copy has no place in the window any more, if there is one.
+    fn give_up_place(&mut self, id: &ObjectId)
+        ensures { self.new ≡ changed unplaced self.old id.now }
+    {
+        let Some(copy) = self.by_id.get_mut(id) else {
+            return;
+        };
+        copy.give_up_place();
+    }
+
+    /// The copy is evicted, if there is one: a secondary is removed, and a primary stays without a place.
+    fn evict(&mut self, id: &ObjectId)
+        ensures { self.new ≡ evicted_one self.old id.now }
+    {
+        if self.has_secondary(id) {
+            self.remove(id);
+        } else {
+            self.give_up_place(id);
+        }
+    }
+
+    /// The copies of these ids are evicted, as far as they are there. Takes no memory.
+    pub fn evict_all(&mut self, ids: &[ObjectId])
+        ensures { self.new ≡ all_evicted ids.now self.old }
     {
         for id in ids {
-            self.remove(id);
+            self.evict(id);
         }
     }
 

@@ -7,7 +7,7 @@ ghost use Rattle.private_store.specs.Copies.{extent_of, is_created, is_held};
 ghost use Rattle.private_store.specs.Commands.{holds_of as holds_of_lem};
 ghost use Rattle.private_store.specs.Extents.{rounded as rounded_lem};
 ghost use Rattle.node_table.specs.RoomPlans.{facts_of};
-ghost use Rattle.node_table.specs.Kept.{new_kept, fetched_kept, released, left, sealed, spilling, spilling_if, can_spill};
+ghost use Rattle.node_table.specs.Kept.{new_kept, fetched_kept, released, left, sealed, spilling, spilling_if, can_spill, unplaced};
 ghost use Rattle.node_table.specs.Checks.{release_check_of as release_check};
 ghost use Rattle.node_table.specs.Holding.{IsHeld, IsUnready, IsHoldRefused};
 ghost use Rattle.node_table.specs.Usages.{is_spilling as is_spilling_lem};
@@ -242,6 +242,16 @@ impl RowCopy {
         ensures { self.new ≡ spilling self.old }
     {
         self.marks.begin_spill();
+    }
+
+    /// It has no place in the window any more, and is away if it is sealed and its bytes are on the device.
+    pub fn give_up_place(&mut self)
+        ensures { self.new ≡ unplaced self.old }
+    {
+        if self.marks.can_go_away() {
+            self.marks.mark_away();
+        }
+        self.offset = None;
     }
 
     /// A write of it is in flight, where it is a sealed primary that isn't on the device and has no work.

@@ -14,12 +14,12 @@ ghost use Rattle.private_store.specs.Copies.{is_created};
 ghost use Rattle.private_store.specs.Kept.{is_remembered};
 ghost use Rattle.lru_evictor.specs.Orders.{order_of, touched, last_used};
 ghost use Rattle.node_table.specs.Entries.{changed, all_changed, each_changed};
-ghost use Rattle.node_table.specs.Kept.{Kept, sealed, held, released, left, spilling_if, fetched_kept};
+ghost use Rattle.node_table.specs.Kept.{Kept, sealed, held, released, left, spilling_if, fetched_kept, new_kept};
 ghost use Rattle.node_table.specs.Checks.{release_check};
 ghost use Rattle.node_table.specs.Row.{Row, new_row, place_of, ArePlaced};
 ghost use Rattle.node_table.specs.Dropping.{dropped, settled_row, keys_settled, unheld_row};
 ghost use Rattle.node_table.specs.Holding.{IsUnreadyAt, IsHoldRefusedAt, IsRowHeld};
-ghost use Rattle.node_table.specs.Creating.{placed_without, IsReplaced};
+ghost use Rattle.node_table.specs.Evicting.{placed_without, without_missing, IsReplaced};
 
 use crate::copies::Copies;
 use crate::copy::RowCopy;
@@ -234,7 +234,7 @@ impl JobRow {
         Ok(())
     }
 
-    /// The victims go, and a copy to be written, of `len` bytes, takes the first place that there is then:
+    /// The victims are evicted, and a copy to be written, of `len` bytes, takes the first place that there is then:
     /// it is of zeros, and the most recently used. `None` where there is no place, and then nothing has
     /// changed, as after an error, which is out of memory.
     pub(crate) fn replace_copies(
@@ -250,7 +250,7 @@ impl JobRow {
         requires unlisted { is_among self.old.order id.now ≡ false }
         requires stays { is_among victims.now id.now ≡ false }
         ensures placed { ArePlaced self.old.window.placed (place_of self.old.copies) }
-        ensures some { IfOk result (λ o. IfSome o (λ e. IsReplaced self.old id.now kind len victims.now e self.new)) }
+        ensures some { IfOk result (λ o. IfSome o (λ e. IsReplaced self.old (Some id.now) id.now (new_kept kind len) len victims.now e self.new)) }
         ensures none { IfOk result (λ o. IfNone o (first (extents_of (placed_without self.old victims.now)) self.old.window.quota len ≡ None)) }
         ensures same { IfOk result (λ o. IfNone o (self.new ≡ self.old)) }
         ensures memory { (r : Refusal) → IsErrOf result r → r ≡ NoMemory }
@@ -273,8 +273,8 @@ impl JobRow {
                 Err(Refusal::NoMemory)
             }
             Ok(extent) => {
-                self.copies.remove_all(victims);
-                self.order.forget_all(self.job, victims);
+                self.copies.evict_all(victims);
+                forget_missing(&mut self.order, self.job, &self.copies, victims);
                 Ok(Some(extent))
             }
         }
@@ -360,4 +360,15 @@ fn first_bytes(bytes: &[u8], len: u32) -> &[u8]
     ensures { result.now ≡ take len bytes.now }
 {
     &bytes[..(len as usize).min(bytes.len())]
+}
+
+/// Those of these ids that have no copy leave the job's order of use. Takes no memory.
+fn forget_missing(order: &mut UseOrder, job: JobNo, copies: &Copies, ids: &[ObjectId])
+    ensures { order_of job.0 order.new ≡ without_missing copies.now ids.now (order_of job.0 order.old) }
+{
+    for id in ids {
+        if !copies.has(id) {
+            order.forget(job, *id);
+        }
+    }
 }
