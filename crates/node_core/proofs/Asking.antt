@@ -13,7 +13,6 @@ use Rattle.private_store.specs.Events.{is_live}
 use Rattle.private_store.specs.Commands.{usage_of}
 use Rattle.private_store.specs.Contents.{Contents, View}
 use Rattle.job_admission.specs.Admissions.{Admissions, live_at}
-use Rattle.spill_work.specs.Line.{WorkLine}
 use Rattle.node_table.specs.Checks.{lend_check}
 use Rattle.node_table.specs.Row.{Row, Beside, beside_of, copies_of, shape_of}
 use Rattle.node_table.specs.Shown.{IsShown, IsLent}

@@ -4,7 +4,7 @@ use Rattle.std.proofs.lemmas.Bool.Decides.{nat_tests}
 use Rattle.obj_id.specs.declared.ids.JobNo.{JobNo}
 use Rattle.private_store.specs.Contents.{View}
 use Rattle.private_store.specs.Kept.{IsViewKept}
-use Rattle.spill_work.specs.Line.{WorkLine, works_of, used_by, same_job, IsSameFor}
+use Rattle.spill_work.specs.Line.{WorkLine, same_job, IsSameFor}
 use Rattle.node_table.specs.Row.{Row, shape_of}
 use Rattle.node_table.specs.Shown.{work_on}
 use Rattle.node_core.specs.Hosted.{alone, IsRowView, IsViewBy}

@@ -1,6 +1,6 @@
 -- What is known of an event before it is taken: how many messages it sends at most, and what it will be to
 -- its job, without contents.
-use Rattle.std.specs.Prelude.{◌≡◌, ℕ, ◌≤◌, if◌then◌else◌, List, length, Option, Some, None, is_none, option_map}
+use Rattle.std.specs.Prelude.{◌≡◌, ℕ, ◌+◌, ◌≤◌, if◌then◌else◌, List, length, Option, Some, None, is_none, option_map}
 use Rattle.std.specs.Option.{option_map_or}
 use Rattle.obj_id.specs.declared.commands.Command.{Command}
 use Rattle.obj_id.specs.declared.commands.Command.TheVariants as command
@@ -16,12 +16,12 @@ use Rattle.node_core.specs.Hosted.{Hosted, row_at, Shows}
 use Rattle.node_core.specs.OneJob.{input_of}
 use Rattle.node_core.specs.Steps.{Given, job_of_event, end_check}
 
--- the most messages that a command of a job with this row, or none, sends: Create may evict each copy, and
--- tells the directory of each
+-- the most messages that a command of a job with this row, or none, sends: Create may evict each copy, and tells the
+-- directory of each; Get may do so as well, and asks a node for the object
 abbrev pub most_by_command : Option Row → Command (List ℕ) → ℕ
 most_by_command own (command.Create id kind n) = option_map_or (λ row. length row.copies) own 0
 most_by_command own (command.Seal id) = 1
-most_by_command own (command.Get id) = 1
+most_by_command own (command.Get id) = option_map_or (λ row. length row.copies + 1) own 0
 most_by_command own _ = 0
 
 -- the most messages that the event sends

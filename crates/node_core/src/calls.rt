@@ -49,7 +49,7 @@ pub(crate) fn carry_out(
             return row.create(alloc, node, works, id, *kind, *len);
         }
         Command::Seal(id) => return Ok(row.seal(alloc, node, session, id)?),
-        Command::Get(id) => return row.get(alloc, node, session, id),
+        Command::Get(id) => return row.get(alloc, node, works, session, id),
         Command::Release(id) => return Ok(row.release(alloc, session, id)),
         Command::Leave => return Ok(row.leave(alloc, session)?),
         Command::Write(id, offset, bytes) => row.write(session, id, *offset, bytes),

@@ -45,7 +45,8 @@ impl Node {
         }
     }
 
-    /// The most messages that a command of the job sends: Create may evict each of its copies.
+    /// The most messages that a command of the job sends: Create and Get may evict each of its copies, and Get asks for
+    /// the object as well.
     fn most_by_command(&self, job: JobNo, command: &Command<Bytes>) -> usize
         ensures { result ≡ most_by_command_lem (row_at self.now job) command.now }
     {
@@ -54,7 +55,11 @@ impl Node {
                 Some(row) => row.copy_count(),
                 None => 0,
             },
-            Command::Seal(_) | Command::Get(_) => 1,
+            Command::Get(_) => match self.rows.get(&job) {
+                Some(row) => row.copy_count() + 1,
+                None => 0,
+            },
+            Command::Seal(_) => 1,
             _ => 0,
         }
     }

@@ -1,6 +1,7 @@
 //! Get: a hold on a copy that is here, and else what brings it here.
-ghost use Rattle.std.specs.Prelude.{◌≡◌, ◌==◌, ℕ, ◌≤◌, length, true, false, Some, None, IsOk, IfOk, IfSome, IfNone, OnErr, IsErrOf};
+ghost use Rattle.std.specs.Prelude.{◌≡◌, ◌==◌, ℕ, ◌+◌, ◌≤◌, List, length, true, false, Some, None, IsOk, IfOk, IfSome, IfNone, OnOk, OnErr, IsErrOf};
 ghost use Rattle.std.specs.Option.{option_map_or};
+ghost use Rattle.obj_id.specs.declared.ids.JobNo.{JobNo};
 ghost use Rattle.obj_id.specs.declared.refusals.Refusal.{Refusal};
 ghost use Rattle.obj_id.specs.declared.refusals.Refusal.TheVariants.{NoMemory};
 ghost use Rattle.obj_id.specs.declared.commands.Command.TheVariants as command;
@@ -11,7 +12,10 @@ ghost use Rattle.private_store.specs.Kept.{is_fetching, is_remembered};
 ghost use Rattle.private_store.specs.Contents.{Contents};
 ghost use Rattle.private_store.specs.Private.{to_directory};
 ghost use Rattle.obj_id.specs.declared.messages.DirectoryMessage.TheVariants.{Locate};
-ghost use Rattle.node_table.specs.Row.{Beside};
+ghost use Rattle.private_store.specs.Hands.{Hand};
+ghost use Rattle.spill_work.specs.Line.{same_job, IsSameFor};
+ghost use Rattle.node_table.specs.Asked.{HasAsked};
+ghost use Rattle.node_table.specs.Row.{Beside, beside_of};
 ghost use Rattle.node_table.specs.Checks.{copy_check, get_check, fetch_check as fetch_check_lem};
 ghost use Rattle.node_table.specs.Kept.{Kept, is_ready};
 ghost use Rattle.node_table.specs.Outcomes.{given_of};
@@ -20,7 +24,8 @@ ghost use Rattle.node_table.specs.Shown.{IsShown, TakesStep, only};
 use crate::outcome::{Erase, Outcome};
 use crate::row::JobRow;
 use bytes::Bytes;
-use obj_id::{CopyState, DirectoryMessage, Items, Message, ObjectId, Place, Refusal, Reply};
+use obj_id::{CopyState, DirectoryMessage, Items, JobNo, Message, ObjectId, Place, Refusal, Reply};
+use spill_work::Works;
 use std::alloc::{AllocError, Global};
 
 impl JobRow {
@@ -118,21 +123,27 @@ impl JobRow {
         }
     }
 
-    /// Get: a hold on a copy that is here, and else what brings it here. `Gone`, `Absent`, `NotSealed`, `Pending`,
-    /// `TooMany`. The error is out of memory, and then nothing has changed.
+    /// Get: a hold on a copy that is here, and otherwise what brings it here. `Gone`, `Absent`, `NotSealed`, `Pending`,
+    /// `TooMany`. The error is out of memory, and then nothing has changed. The works that it asks for come last in the
+    /// line, and those before them stay.
+    /// It sends at most one message more than the job has copies.
     pub fn get(
         &mut self,
         alloc: Global,
         node: u32,
+        works: &mut Works,
         session: u32,
         id: &ObjectId,
     ) -> Result<Outcome, Refusal>
-        ensures ok { IfOk result (λ o. (beside : Beside) (contents : Contents) → (id.now.job.0 == self.old.job) ≡ true → IsShown self.old beside contents
-            → TakesStep node self.old beside contents (input.Call session (command.Get id.now)) (given_of o) self.new beside) }
-        ensures few { IfOk result (λ o. length o.messages ≤ 1) }
-        ensures memory { (r : Refusal) → IsErrOf result r → r ≡ NoMemory }
+        ensures ok { IfOk result (λ o. (hands : List Hand) (bytes : ObjectId → List ℕ) (contents : Contents) → (id.now.job.0 == self.old.job) ≡ true → IsShown self.old (beside_of works.old hands bytes self.old.job) contents
+            → TakesStep node self.old (beside_of works.old hands bytes self.old.job) contents (input.Call session (command.Get id.now)) (given_of o) self.new (beside_of works.new hands bytes self.old.job)) }
+        ensures few { IfOk result (λ o. length o.messages ≤ length self.old.copies + 1) }
+        ensures line { OnOk result (HasAsked works.old id.now.job works.new) }
         ensures late { OnErr result (get_check self.old id.now ≡ None) }
+        ensures others { (other : JobNo) → same_job id.now.job other ≡ false → IsSameFor other works.old works.new }
+        ensures memory { (r : Refusal) → IsErrOf result r → r ≡ NoMemory }
         ensures err { OnErr result (self.new ≡ self.old) }
+        ensures works { OnErr result (works.new ≡ works.old) }
     {
         if self.has_ended(id.task()) {
             return told(alloc, Refusal::Gone);

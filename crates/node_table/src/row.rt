@@ -1,5 +1,5 @@
 //! The row of one job.
-ghost use Rattle.std.specs.Prelude.{◌≡◌, ◌||◌, ℕ, ◌+◌, ◌≤◌, nat_eq, take, drop, length, true, false, Some, None, IfOk, IfErr, IfSome, IfNone, OnOk, OnErr, IsOk, IsErrOf, option_to_list};
+ghost use Rattle.std.specs.Prelude.{◌≡◌, ◌||◌, ℕ, ◌+◌, ◌^◌, ◌≤◌, ◌<◌, nat_eq, take, drop, length, true, false, Some, None, IfOk, IfErr, IfSome, IfNone, OnOk, OnErr, IsOk, IsErrOf, option_to_list};
 ghost use Rattle.std.specs.Map.{set_value};
 ghost use Rattle.obj_id.specs.declared.works.Extent.{Extent};
 ghost use Rattle.obj_id.specs.declared.refusals.Refusal.{Refusal};
@@ -105,7 +105,8 @@ impl JobRow {
 
     /// How many copies it has.
     pub fn copy_count(&self) -> usize
-        ensures { result ≡ length self.now.copies }
+        ensures count { result ≡ length self.now.copies }
+        ensures small { result < 2 ^ 63 }
     {
         self.copies.len()
     }

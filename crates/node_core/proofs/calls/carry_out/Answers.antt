@@ -71,8 +71,14 @@ pub returns-in-Get-clause-ok : goal.returns-in-Get-clause-ok
 returns-in-Get-clause-ok c =
     if_ok c.get.result c.get.ensures.ok (λ o told contents own h.
     let mine = ap (λ n. c.in-Get.id.job.0 == n) own ∙ ap (is_own c.args.job.0) (sym c.in-Get.is) ∙ sym c.is_own.ensures ∙ c.if-not-is_own.false in
-    subst (λ d. TakesStep c.args.node c.args.row.now (alone c.args.works.now c.args.job.0) contents (input.Call c.args.session d) (given_of o) c.get.new.self (alone c.args.works.now c.args.job.0)) (sym c.in-Get.is)
-    (told (alone c.args.works.now c.args.job.0) contents mine h))
+    subst (λ d. TakesStep c.args.node c.args.row.now (alone c.args.works.now c.args.job.0) contents (input.Call c.args.session d) (given_of o) c.get.new.self (alone c.get.new.works c.args.job.0)) (sym c.in-Get.is)
+    (subst (λ n. TakesStep c.args.node c.args.row.now (alone c.args.works.now n) contents (input.Call c.args.session (command.Get c.in-Get.id)) (given_of o) c.get.new.self (alone c.get.new.works n)) own
+    (told [] (λ id. []) contents mine (subst (λ n. IsShown c.args.row.now (alone c.args.works.now n) contents) (sym own) h))))
+
+pub returns-in-Get-clause-line : goal.returns-in-Get-clause-line
+returns-in-Get-clause-line c =
+    let mine = ap (is_own c.args.job.0) (sym c.in-Get.is) ∙ sym c.is_own.ensures ∙ c.if-not-is_own.false in
+    subst (λ j. OnOk c.get.result (HasAsked c.args.works.now j c.get.new.works)) (λ i. record { 0 = eqb-true c.in-Get.id.job.0 c.args.job.0 mine i }) c.get.ensures.line
 
 pub returns-in-Release-clause-ok : goal.returns-in-Release-clause-ok
 returns-in-Release-clause-ok c contents own h =

@@ -45,13 +45,13 @@ returns-clause-ok c session beside contents mine h makes =
 pub returns-then-victims-len-clause-ok : goal.returns-then-victims-len-clause-ok
 returns-then-victims-len-clause-ok c = each_ok c.told-then-victims-len.result (λ o said session beside contents mine h makes.
     let few = few_victims c.args.node c.args.self.now beside contents h (x c.args.node c.args.self.now beside contents session c.args.id.now c.args.kind c.args.len mine h) (quiet c.args.node c.args.self.now beside contents session c.args.id.now c.args.kind c.args.len mine h) c.args.len (created c.args.id.now c.args.kind c.args.len) (by_room c.args.node c.args.self.now beside contents session c.args.id.now c.args.kind c.args.len mine h c.requires) c.args.victims.now makes in
-    let counted = c.len.ensures ∙ ap length c.copies.ensures.copies in
+    let counted = c.len.ensures.len ∙ ap length c.copies.ensures.copies in
     let more = c.if-victims-len.true in
     absurd (omega (arith, few, counted, more))) c.told-then-victims-len.ensures.ok
 
 pub returns-clause-few : goal.returns-clause-few
 returns-clause-few c =
-    let counted = c.len.ensures ∙ ap length c.copies.ensures.copies in
+    let counted = c.len.ensures.len ∙ ap length c.copies.ensures.copies in
     let few = c.if-victims-len.false in
     let sent = length-removals c.args.node c.copies-2.result.now c.args.victims.now in
     let told = ap length c.in_ok-messages.ensures in
