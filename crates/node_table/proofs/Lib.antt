@@ -26,6 +26,7 @@ pub mod Counting
 pub mod Replacing
 pub mod Dropping
 pub mod Rooms
+pub mod Pulling
 pub mod Creating
 pub mod Asking
 pub mod Lending

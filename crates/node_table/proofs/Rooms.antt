@@ -261,7 +261,7 @@ module _ (node : ℕ) (row : Row) (beside : Beside) (contents : Contents) (h : I
         abbrev pub new : Row
         new = replaced row used id k n offset victims
 
-        change_is : step row.order s (judge node bf x) ≡ c
+        pub change_is : step row.order s (judge node bf x) ≡ c
         change_is =
             room_is (evict_room s n victims) makes.room_is
             ∙ (λ i. erasing s (sending (evictions_told s row.copies victims i) (elim (option_map_or Ok ((sym same_place ∙ least) i) (Err Full)) as (λ _. Change) [ Ok offset ↦ f (evicted_is i) offset | Err refusal ↦ refused (evicted_is i) refusal ])))
@@ -276,7 +276,7 @@ module _ (node : ℕ) (row : Row) (beside : Beside) (contents : Contents) (h : I
         now_at : (q : ObjectId) → at new.copies q ≡ cond (is_among victims q) (option_and_then evicted_of (cond (same_id q id) (Some k) (at row.copies q))) (cond (same_id q id) (Some k) (at row.copies q))
         now_at = at_now row.copies row.window.placed placed victims id k n offset nowhere kept_here lies_there free
 
-        here : at new.copies id ≡ Some k
+        pub here : at new.copies id ≡ Some k
         here = id_now row.copies row.window.placed placed victims id k n offset nowhere kept_here lies_there free
 
         -- a copy is there still unless it was evicted
@@ -445,11 +445,11 @@ module _ (node : ℕ) (row : Row) (beside : Beside) (contents : Contents) (h : I
         now_is : c.shape.copies ≡ copies_of new.copies
         now_is = ap (λ (t : Shape). t.copies) d_shape ∙ copies_is
 
-        module _ (posts : List Post) (posts_is : posts ≡ flat_map (posts_of node (view_after node bf x (judge node bf x) c) x) d.sent) where
-          abbrev told : Given
+        module _ (posts : List Post) where
+          abbrev pub told : Given
           told = record { reply = whole_reply bf x d.reply; posts = removals node row.copies victims ++ posts; erased = [] }
 
-          m : Moves node row beside contents h x c told new after
+          pub m : Moves node row beside contents h x c told new after
           m = record {
             shape = d_shape ∙ ap (λ t. record s { copies = t; works = works; works_asked = numbers }) copies_is;
             order = ap (reordered row.order (copies_of new.copies)) d_used ∙ order_is;
@@ -469,8 +469,8 @@ module _ (node : ℕ) (row : Row) (beside : Beside) (contents : Contents) (h : I
           posts_are [] o more = refl
           posts_are (q ∷ ids) o more = ap (λ ps. to_directory (RemoveLocation q node) ++ ps) (posts_are ids o more)
 
-          pub placed_done : TakesStep node row beside contents x told new after
-          placed_done =
+          pub placed_done : posts ≡ flat_map (posts_of node (view_after node bf x (judge node bf x) c) x) d.sent → TakesStep node row beside contents x told new after
+          placed_done posts_is =
               moved node row beside contents h x c change_is told new after m
               (ap (λ ps. removals node row.copies victims ++ ps) posts_is ∙ posts_are (filter (has_secondary row.copies) victims) (view_after node bf x (judge node bf x) c) d.sent)
 

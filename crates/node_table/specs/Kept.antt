@@ -1,15 +1,15 @@
 -- One copy as its row keeps it: the store's copy, its digest, and which work is in flight for it.
-use Rattle.std.specs.Prelude.{◌≡◌, ℕ, ◌+◌, ◌-◌, Bool, false, not, ◌&&◌, Option, Some, None, if◌then◌else◌, is_some, is_none, option_map}
+use Rattle.std.specs.Prelude.{◌≡◌, ℕ, ◌+◌, ◌-◌, ◌==◌, Bool, true, false, not, ◌&&◌, Option, Some, None, if◌then◌else◌, is_some, is_none, option_map}
 use Rattle.std.specs.Option.{option_map_or}
 use Rattle.obj_id.specs.declared.commands.Kind.{Kind}
 use Rattle.obj_id.specs.declared.commands.CopyState.TheVariants.{Sealed, Away}
 use Rattle.obj_id.specs.declared.messages.Digest.{Digest}
 use Rattle.obj_id.specs.declared.works.WorkKind.{WorkKind}
 use Rattle.obj_id.specs.declared.works.WorkKind.TheVariants.{Write}
-use Rattle.private_store.specs.Shape.{Copy, Fetch}
+use Rattle.private_store.specs.Shape.{Copy, Fetch, Phase, sized, pulling}
 use Rattle.obj_id.specs.Kinds.{is_primary}
 use Rattle.private_store.specs.Copies.{is_sealed}
-use Rattle.private_store.specs.Commands.{new_copy, fetched_copy, with_holds, holds_of}
+use Rattle.private_store.specs.Commands.{new_copy, fetched_copy, with_holds, holds_of, counted, chunk_count}
 use Rattle.object_state.specs.Marks.{Marks}
 use Rattle.pins_holds.specs.Pinned.{Pinned}
 use Rattle.fetch_core.specs.Fetching.{Fetching}
@@ -49,10 +49,17 @@ kept_of marks pins offset fetch granted =
       granted = granted;
     }
 
--- marks and fetch say the same of what both know
-pub record Agrees (marks : Marks) (pins : Pinned) (fetch : Option Fetching) : Type 0 where
+-- whether the source of a fetch is known, and its bytes not asked for
+abbrev pub is_unasked : Phase → Bool
+is_unasked (sized source) = true
+is_unasked _ = false
+
+-- marks, place and fetch say the same of what they know
+pub record Agrees (marks : Marks) (pins : Pinned) (offset : Option ℕ) (fetch : Option Fetching) : Type 0 where
   pub kind : pins.kind ≡ marks.kind
   pub length : option_map_or (λ f. f.length) fetch marks.length ≡ marks.length
+  -- what isn't asked for has no place yet
+  pub unasked : option_map_or (λ f. is_unasked f.phase) fetch false ≡ true → offset ≡ None
 
 -- ---- new copies
 
@@ -103,3 +110,20 @@ spilling_if kept = if can_spill kept then spilling kept else kept
 abbrev pub unplaced : Kept → Kept
 unplaced kept =
     record kept { copy = record kept.copy { state = if can_go_away kept then Away else kept.copy.state; offset = None } }
+
+-- a fetch of n bytes whose source is known: all chunks are missing
+abbrev pub with_chunks : ℕ → Fetch → Fetch
+with_chunks n fetch =
+    elim fetch.phase [
+      | sized source ↦ record fetch { phase = pulling source (counted 0 (chunk_count n)) }
+      | _ ↦ fetch
+    ]
+
+-- it has a place, and all chunks of its bytes are asked for
+abbrev pub pulled : ℕ → Kept → Kept
+pulled offset kept =
+    record kept { copy = record kept.copy { offset = Some offset; fetch = option_map (with_chunks kept.copy.length) kept.copy.fetch } }
+
+-- whether it is of n bytes, and has no place
+abbrev pub waits_for_place : ℕ → Kept → Bool
+waits_for_place n kept = is_none kept.copy.offset && kept.copy.length == n

@@ -2,7 +2,8 @@
 ghost use Rattle.std.specs.Option.{option_copied, option_map_or};
 ghost use Rattle.private_store.specs.Tables.{at, with_entry, without_entry};
 ghost use Rattle.node_table.specs.Entries.{changed, all_changed, each_changed};
-ghost use Rattle.node_table.specs.Kept.{released, left, sealed, spilling_if, unplaced};
+ghost use Rattle.node_table.specs.Kept.{Kept, released, left, sealed, spilling_if, unplaced, pulled};
+ghost use Rattle.private_store.specs.Commands.{counted, chunk_count};
 ghost use Rattle.node_table.specs.Evicting.{has_secondary, evicted_one, all_evicted};
 ghost use Rattle.private_store.specs.Copies.{is_created};
 ghost use Rattle.obj_id.specs.declared.refusals.Refusal.{Refusal};
@@ -224,6 +225,18 @@ impl Copies {
             return;
         };
         copy.seal(digest);
+    }
+
+    /// The copy has a place at the offset, and if its source is known its bytes are asked for there: these chunks are
+    /// missing, which are all.
+    pub fn begin_pull(&mut self, id: &ObjectId, offset: u64, missing: Vec<u32>)
+        requires { (k : Kept) → at self.old id.now ≡ Some k → missing.items ≡ counted 0 (chunk_count k.copy.length) }
+        ensures { self.new ≡ changed (pulled offset) self.old id.now }
+    {
+        let Some(copy) = self.by_id.get_mut(id) else {
+            return;
+        };
+        copy.begin_pull(offset, missing);
     }
 
     /// A write of the copy is in flight, where one can be.

@@ -4,10 +4,11 @@ ghost use Rattle.obj_id.specs.declared.refusals.Refusal.{Refusal};
 ghost use Rattle.obj_id.specs.declared.refusals.Refusal.TheVariants.{NoMemory};
 ghost use Rattle.obj_id.specs.Kinds.{is_primary};
 ghost use Rattle.private_store.specs.Copies.{extent_of, is_created, is_held};
-ghost use Rattle.private_store.specs.Commands.{holds_of as holds_of_lem};
+ghost use Rattle.private_store.specs.Commands.{counted, chunk_count, holds_of as holds_of_lem};
+ghost use Rattle.std.specs.Option.{option_map_or};
 ghost use Rattle.private_store.specs.Extents.{rounded as rounded_lem};
 ghost use Rattle.node_table.specs.RoomPlans.{facts_of};
-ghost use Rattle.node_table.specs.Kept.{new_kept, fetched_kept, released, left, sealed, spilling, spilling_if, can_spill, unplaced};
+ghost use Rattle.node_table.specs.Kept.{new_kept, fetched_kept, released, left, sealed, spilling, spilling_if, can_spill, unplaced, is_unasked, pulled};
 ghost use Rattle.node_table.specs.Checks.{release_check_of as release_check};
 ghost use Rattle.node_table.specs.Holding.{IsHeld, IsUnready, IsHoldRefused};
 ghost use Rattle.node_table.specs.Usages.{is_spilling as is_spilling_lem};
@@ -42,7 +43,7 @@ impl Model for RowCopy {
 
     ghost view = { λ c. kept_of c.marks c.pins c.offset c.fetch c.granted };
 
-    ghost invariant = { λ c. Agrees c.marks c.pins c.fetch };
+    ghost invariant = { λ c. Agrees c.marks c.pins c.offset c.fetch };
 }
 
 impl RowCopy {
@@ -95,7 +96,8 @@ impl RowCopy {
 
     /// Where its bytes begin in the window, if it is resident.
     pub fn offset(&self) -> Option<u64>
-        ensures { result ≡ self.now.copy.offset }
+        ensures offset { result ≡ self.now.copy.offset }
+        ensures unasked { option_map_or (λ f. is_unasked f.phase) self.now.copy.fetch false ≡ true → result ≡ None }
     {
         self.offset
     }
@@ -252,6 +254,18 @@ impl RowCopy {
             self.marks.mark_away();
         }
         self.offset = None;
+    }
+
+    /// It has a place at the offset, and if its source is known its bytes are asked for there: these chunks are missing,
+    /// which are all.
+    pub fn begin_pull(&mut self, offset: u64, missing: Vec<u32>)
+        requires { missing.items ≡ counted 0 (chunk_count self.old.copy.length) }
+        ensures { self.new ≡ pulled offset self.old }
+    {
+        if let Some(fetch) = self.fetch.as_mut() {
+            fetch.begin_with(missing);
+        }
+        self.offset = Some(offset);
     }
 
     /// A write of it is in flight, where it is a sealed primary that isn't on the device and has no work.
