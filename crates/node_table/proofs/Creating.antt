@@ -418,7 +418,7 @@ module _ (node : ℕ) (row : Row) (beside : Beside) (contents : Contents) (sessi
             ];
             received = received_stays node row beside contents h x refl;
             plain = λ q k found. elim (stands_at q k found) [
-              | inl t ↦ subst (λ (z : Kept). IsPlain z.copy) t.1 (record { state = refl; backed = refl; fault = refl })
+              | inl t ↦ subst (λ (z : Kept). IsPlain z.copy) t.1 (record { state = refl; backed = refl })
               | inr t ↦ h.plain q k t.2
             ];
             reply = refl;

@@ -12,7 +12,6 @@ pub mod Sealing
 pub mod Orders
 pub mod Getting
 pub mod Holding
-pub mod Fetching
 pub mod Releasing
 pub mod Leaving
 pub mod LeavingEach
@@ -24,6 +23,8 @@ pub mod Removing
 pub mod Counting
 pub mod Replacing
 pub mod Dropping
+pub mod Fetching
+pub mod Faults
 pub mod Creating
 pub mod Asking
 pub mod Lending

@@ -1,5 +1,5 @@
 -- One copy as its row keeps it: the store's copy, its digest, and which work is in flight for it.
-use Rattle.std.specs.Prelude.{◌≡◌, ℕ, ◌+◌, ◌-◌, Bool, false, not, ◌&&◌, Option, Some, None, if◌then◌else◌, is_none, option_map}
+use Rattle.std.specs.Prelude.{◌≡◌, ℕ, ◌+◌, ◌-◌, Bool, true, false, not, ◌&&◌, Option, Some, None, if◌then◌else◌, is_some, is_none, option_map}
 use Rattle.std.specs.Option.{option_map_or}
 use Rattle.obj_id.specs.declared.commands.Kind.{Kind}
 use Rattle.obj_id.specs.declared.commands.CopyState.TheVariants.{Sealed}
@@ -10,6 +10,7 @@ use Rattle.private_store.specs.Shape.{Copy, Fetch}
 use Rattle.obj_id.specs.Kinds.{is_primary}
 use Rattle.private_store.specs.Copies.{is_sealed}
 use Rattle.private_store.specs.Commands.{new_copy, fetched_copy, with_holds, holds_of}
+use Rattle.private_store.specs.Contents.{is_sized}
 use Rattle.object_state.specs.Marks.{Marks}
 use Rattle.pins_holds.specs.Pinned.{Pinned}
 use Rattle.fetch_core.specs.Fetching.{Fetching}
@@ -53,6 +54,8 @@ kept_of marks pins offset fetch granted =
 pub record Agrees (marks : Marks) (pins : Pinned) (fetch : Option Fetching) : Type 0 where
   pub kind : pins.kind ≡ marks.kind
   pub length : option_map_or (λ f. f.length) fetch marks.length ≡ marks.length
+  -- a fetch whose source is known has its digest
+  pub digest : option_map_or (λ f. is_sized f.phase) fetch false ≡ true → is_some marks.digest ≡ true
 
 -- ---- new copies
 
@@ -87,6 +90,10 @@ left session kept = record kept { copy = with_holds kept.copy session 0 }
 
 abbrev pub sealed : Digest → Kept → Kept
 sealed digest kept = record kept { copy = record kept.copy { state = Sealed }; digest = Some digest }
+
+-- its fault was told
+abbrev pub fault_told : Kept → Kept
+fault_told kept = record kept { copy = record kept.copy { fault = None } }
 
 abbrev pub spilling : Kept → Kept
 spilling kept = record kept { working = Some Write }

@@ -2,7 +2,7 @@
 ghost use Rattle.std.specs.Option.{option_copied, option_map_or};
 ghost use Rattle.private_store.specs.Tables.{at, with_entry, without_entry};
 ghost use Rattle.node_table.specs.Entries.{changed, all_changed, each_changed, without_all};
-ghost use Rattle.node_table.specs.Kept.{released, left, sealed, spilling_if};
+ghost use Rattle.node_table.specs.Kept.{released, left, sealed, fault_told, spilling_if};
 ghost use Rattle.private_store.specs.Copies.{is_created};
 ghost use Rattle.obj_id.specs.declared.refusals.Refusal.{Refusal};
 ghost use Rattle.node_table.specs.Checks.{release_check};
@@ -185,6 +185,16 @@ impl Copies {
             return;
         };
         copy.seal(digest);
+    }
+
+    /// The fault of the copy was told.
+    pub fn forget_fault(&mut self, id: &ObjectId)
+        ensures { self.new ≡ changed fault_told self.old id.now }
+    {
+        let Some(copy) = self.by_id.get_mut(id) else {
+            return;
+        };
+        copy.forget_fault();
     }
 
     /// A write of the copy is in flight, where one can be.
