@@ -130,7 +130,7 @@ module _ (node : ℕ) (row : Row) (beside : Beside) (contents : Contents) (sessi
             (placed_done node row beside contents h x quiet n (created id kind n) by_room victims makes placed id (new_kept kind n offset)
             (ap (option_and_then (λ (k : Kept). extent_of k.copy)) absent) not_victim offset refl refl least free beside.works beside.used (Some id)
             refl refl (λ u is. some_value u id (sym is)) (λ none. none_some id (sym none)) (λ keeps. true_false keeps) (sym no_work) (λ q differs. refl) (sym no_hand)
-            (record { state = refl; backed = refl; fault = refl }) [] refl)
+            (record { state = refl; backed = refl }) [] refl)
 
 -- whether an id is among others, by the `==` of ids
 pub among-eq : (ids : List ObjectId) (id : ObjectId) → list_any (λ y. id_eq y id) ids ≡ is_among ids id

@@ -12,7 +12,6 @@ pub mod Sealing
 pub mod Orders
 pub mod Getting
 pub mod Holding
-pub mod Fetching
 pub mod Releasing
 pub mod Leaving
 pub mod LeavingEach
@@ -25,6 +24,8 @@ pub mod Evicting
 pub mod Counting
 pub mod Replacing
 pub mod Dropping
+pub mod Fetching
+pub mod Faults
 pub mod Rooms
 pub mod Pulling
 pub mod Creating

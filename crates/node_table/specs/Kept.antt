@@ -10,6 +10,7 @@ use Rattle.private_store.specs.Shape.{Copy, Fetch, Phase, sized, pulling}
 use Rattle.obj_id.specs.Kinds.{is_primary}
 use Rattle.private_store.specs.Copies.{is_sealed}
 use Rattle.private_store.specs.Commands.{new_copy, fetched_copy, with_holds, holds_of, counted, chunk_count}
+use Rattle.private_store.specs.Contents.{is_sized}
 use Rattle.object_state.specs.Marks.{Marks}
 use Rattle.pins_holds.specs.Pinned.{Pinned}
 use Rattle.fetch_core.specs.Fetching.{Fetching}
@@ -60,6 +61,8 @@ pub record Agrees (marks : Marks) (pins : Pinned) (offset : Option ℕ) (fetch :
   pub length : option_map_or (λ f. f.length) fetch marks.length ≡ marks.length
   -- what isn't asked for has no place yet
   pub unasked : option_map_or (λ f. is_unasked f.phase) fetch false ≡ true → offset ≡ None
+  -- a fetch whose source is known has its digest
+  pub digest : option_map_or (λ f. is_sized f.phase) fetch false ≡ true → is_some marks.digest ≡ true
 
 -- ---- new copies
 
@@ -98,6 +101,10 @@ left session kept = record kept { copy = with_holds kept.copy session 0 }
 
 abbrev pub sealed : Digest → Kept → Kept
 sealed digest kept = record kept { copy = record kept.copy { state = Sealed }; digest = Some digest }
+
+-- its fault was told
+abbrev pub fault_told : Kept → Kept
+fault_told kept = record kept { copy = record kept.copy { fault = None } }
 
 abbrev pub spilling : Kept → Kept
 spilling kept = record kept { working = Some Write }

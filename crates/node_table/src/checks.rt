@@ -1,9 +1,7 @@
 //! Why a command can't be carried out.
-ghost use Rattle.std.specs.Prelude.{◌≡◌, Some, option_map};
-ghost use Rattle.node_table.specs.Checks.{write_check_of, write_check as write_check_lem, seal_check_of, seal_check as seal_check_lem, read_check_of, read_check as read_check_lem, lend_check_of, lend_check as lend_check_lem, fetch_check as fetch_check_lem, create_check as create_check_lem, visible_state as visible_state_lem};
+ghost use Rattle.std.specs.Prelude.{◌≡◌};
+ghost use Rattle.node_table.specs.Checks.{write_check_of, write_check as write_check_lem, seal_check_of, seal_check as seal_check_lem, read_check_of, read_check as read_check_lem, lend_check_of, lend_check as lend_check_lem, fetch_check as fetch_check_lem, create_check as create_check_lem, visible_state as visible_state_lem, fault_at};
 ghost use Rattle.private_store.specs.Tables.{at};
-ghost use Rattle.private_store.specs.Shape.{Fetch};
-ghost use Rattle.node_table.specs.Kept.{Kept};
 ghost use Rattle.node_table.specs.Row.{copies_of};
 
 use crate::copies::Copies;
@@ -11,6 +9,7 @@ use crate::copy::RowCopy;
 use crate::row::JobRow;
 use obj_id::limits::{MOST_BYTES, MOST_COPIES};
 use obj_id::{CopyState, ObjectId, Refusal};
+use private_store::Fault;
 
 impl RowCopy {
     /// Why `len` bytes can't be written from the offset on: `Absent`, `AlreadySealed`, `OutOfBounds`.
@@ -128,14 +127,11 @@ impl Copies {
         None
     }
 
-    /// The number of the fetch that brings the object; 0 where none does.
-    pub fn fetch_of(&self, id: &ObjectId) -> u64
-        ensures { (k : Kept) (f : Fetch) → at self.now id.now ≡ Some k → k.copy.fetch ≡ Some f → result ≡ f.number }
+    /// What the copy has to tell of its last restore, if there is a copy.
+    pub fn fault(&self, id: &ObjectId) -> Option<Fault>
+        ensures { result ≡ fault_at self.now id.now }
     {
-        let Some(copy) = self.get(id) else {
-            return 0;
-        };
-        copy.fetch_number().unwrap_or(0)
+        self.get(id)?.fault()
     }
 
     /// The state of the copy, if there is one. `Absent` if it is doomed.

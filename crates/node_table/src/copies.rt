@@ -2,7 +2,7 @@
 ghost use Rattle.std.specs.Option.{option_copied, option_map_or};
 ghost use Rattle.private_store.specs.Tables.{at, with_entry, without_entry};
 ghost use Rattle.node_table.specs.Entries.{changed, all_changed, each_changed};
-ghost use Rattle.node_table.specs.Kept.{Kept, released, left, sealed, spilling_if, unplaced, pulled};
+ghost use Rattle.node_table.specs.Kept.{Kept, released, left, sealed, fault_told, spilling_if, unplaced, pulled};
 ghost use Rattle.private_store.specs.Commands.{counted, chunk_count};
 ghost use Rattle.node_table.specs.Evicting.{has_secondary, evicted_one, all_evicted};
 ghost use Rattle.private_store.specs.Copies.{is_created};
@@ -225,6 +225,16 @@ impl Copies {
             return;
         };
         copy.seal(digest);
+    }
+
+    /// The fault of the copy was told.
+    pub fn forget_fault(&mut self, id: &ObjectId)
+        ensures { self.new ≡ changed fault_told self.old id.now }
+    {
+        let Some(copy) = self.by_id.get_mut(id) else {
+            return;
+        };
+        copy.forget_fault();
     }
 
     /// The copy has a place at the offset, and if its source is known its bytes are asked for there: these chunks are

@@ -1,14 +1,15 @@
 //! One copy of a row.
 ghost use Rattle.std.specs.Prelude.{◌≡◌, ◌≢◌, ◌+◌, ◌==◌, nat_le, if◌then◌else◌, true, false, Some, None, IfOk, IfErr, IfSome, IfNone, OnOk, OnErr, IsErrOf, IsOk, is_some, option_map};
+ghost use Rattle.std.specs.Option.{option_copied, option_map_or};
 ghost use Rattle.obj_id.specs.declared.refusals.Refusal.{Refusal};
 ghost use Rattle.obj_id.specs.declared.refusals.Refusal.TheVariants.{NoMemory};
 ghost use Rattle.obj_id.specs.Kinds.{is_primary};
 ghost use Rattle.private_store.specs.Copies.{extent_of, is_created, is_held};
 ghost use Rattle.private_store.specs.Commands.{counted, chunk_count, holds_of as holds_of_lem};
-ghost use Rattle.std.specs.Option.{option_map_or};
+ghost use Rattle.private_store.specs.Contents.{is_sized};
 ghost use Rattle.private_store.specs.Extents.{rounded as rounded_lem};
 ghost use Rattle.node_table.specs.RoomPlans.{facts_of};
-ghost use Rattle.node_table.specs.Kept.{new_kept, fetched_kept, released, left, sealed, spilling, spilling_if, can_spill, unplaced, is_unasked, pulled};
+ghost use Rattle.node_table.specs.Kept.{fetch_of, fault_told, new_kept, fetched_kept, released, left, sealed, spilling, spilling_if, can_spill, unplaced, is_unasked, pulled};
 ghost use Rattle.node_table.specs.Checks.{release_check_of as release_check};
 ghost use Rattle.node_table.specs.Holding.{IsHeld, IsUnready, IsHoldRefused};
 ghost use Rattle.node_table.specs.Usages.{is_spilling as is_spilling_lem};
@@ -19,7 +20,7 @@ use lru_evictor::CopyFacts;
 use obj_id::{CopyState, Digest, Extent, Kind, Refusal, WorkKind};
 use object_state::ObjectCopy;
 use pins_holds::Pins;
-use private_store::rounded;
+use private_store::{Fault, rounded};
 use std::alloc::Global;
 use std::marker::Model;
 
@@ -127,11 +128,33 @@ impl RowCopy {
         self.marks.working().is_some()
     }
 
-    /// The number of the fetch that brings it, if it is on its way.
-    pub fn fetch_number(&self) -> Option<u64>
-        ensures { result ≡ option_map (λ f. f.number) self.now.copy.fetch }
+    /// The fetch that brings it, if it is on its way.
+    pub fn fetch(&self) -> Option<&FetchIn>
+        ensures { option_map fetch_of (option_copied result) ≡ self.now.copy.fetch }
     {
-        Some(self.fetch.as_ref()?.number())
+        self.fetch.as_ref()
+    }
+
+    /// The digest of its bytes: from the seal, or from the source that its fetch chose.
+    pub fn digest(&self) -> Option<Digest>
+        ensures digest { result ≡ self.now.digest }
+        ensures fetched { option_map_or (λ f. is_sized f.phase) self.now.copy.fetch false ≡ true → is_some result ≡ true }
+    {
+        self.marks.digest()
+    }
+
+    /// What the next Get is told of its last restore, if that failed and no Get was told since.
+    pub fn fault(&self) -> Option<Fault>
+        ensures { result ≡ self.now.copy.fault }
+    {
+        self.marks.fault()
+    }
+
+    /// Its fault was told.
+    pub fn forget_fault(&mut self)
+        ensures { self.new ≡ fault_told self.old }
+    {
+        self.marks.take_fault();
     }
 
     /// Whether its bytes are on the device.

@@ -104,7 +104,7 @@ impl JobRow {
 }
 
 /// What the directory is told of evictions: that a secondary is no longer at the node.
-fn removals(
+pub(crate) fn removals(
     alloc: Global,
     node: u32,
     copies: &Copies,

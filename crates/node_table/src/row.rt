@@ -15,7 +15,7 @@ ghost use Rattle.private_store.specs.Copies.{is_created};
 ghost use Rattle.private_store.specs.Kept.{is_remembered};
 ghost use Rattle.lru_evictor.specs.Orders.{order_of, touched, last_used};
 ghost use Rattle.node_table.specs.Entries.{changed, all_changed, each_changed};
-ghost use Rattle.node_table.specs.Kept.{Kept, sealed, held, released, left, spilling_if, fetched_kept, new_kept, waits_for_place, pulled};
+ghost use Rattle.node_table.specs.Kept.{Kept, sealed, fault_told, held, released, left, spilling_if, fetched_kept, new_kept, waits_for_place, pulled};
 ghost use Rattle.node_table.specs.Checks.{release_check};
 ghost use Rattle.node_table.specs.Row.{Row, new_row, place_of, ArePlaced};
 ghost use Rattle.node_table.specs.Dropping.{dropped, settled_row, keys_settled, unheld_row};
@@ -167,6 +167,13 @@ impl JobRow {
         ensures { self.new ≡ record self.old { copies = changed (sealed digest) self.old.copies id.now } }
     {
         self.copies.seal(id, digest);
+    }
+
+    /// The fault of the copy was told.
+    pub(crate) fn forget_fault(&mut self, id: &ObjectId)
+        ensures { self.new ≡ record self.old { copies = changed fault_told self.old.copies id.now } }
+    {
+        self.copies.forget_fault(id);
     }
 
     /// One more hold of the session on the copy, if it is there, sealed and not doomed, which is the most recently used
