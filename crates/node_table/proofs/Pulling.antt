@@ -220,17 +220,8 @@ module _ (node : ℕ) (row : Row) (beside : Beside) (contents : Contents) (h : I
         (sym (ap (λ ps. ps ++ []) pull_is))
 
 -- what was plain is so still
-pub still_plain : (offset : ℕ) (k : Kept) → k.copy.state ≡ Fetching → (fetch : Fetch) (source : ℕ) → k.copy.fetch ≡ Some fetch → fetch.phase ≡ sized source → IsPlain k.copy → IsPlain (pulled offset k).copy
-still_plain offset k is fetch source fetched at_source plain = record { state = state; backed = plain.backed }
-  where
-    by : Phase → Fetch
-    by p = elim p [ sized source ↦ record fetch { phase = pulling source (counted 0 (chunk_count k.copy.length)) } | _ ↦ fetch ]
-
-    state : is_plain k.copy.state k.copy.fault (option_map (with_chunks k.copy.length) k.copy.fetch) ≡ true
-    state =
-        ap (λ st. is_plain st k.copy.fault (option_map (with_chunks k.copy.length) k.copy.fetch)) is
-        ∙ ap (λ o. option_map_or (λ (f : Fetch). not (is_unasked f.phase)) (option_map (with_chunks k.copy.length) o) true) fetched
-        ∙ ap (λ p. not (is_unasked (by p).phase)) at_source
+pub still_plain : (offset : ℕ) (k : Kept) → k.copy.state ≡ Fetching → IsPlain k.copy → IsPlain (pulled offset k).copy
+still_plain offset k is plain = record { state = ap (λ st. is_plain st k.copy.fault) is; backed = plain.backed }
 
 -- one message more
 pub length_more : {X : Type 0} (xs : List X) (y : X) → length (xs ++ y ∷ []) ≡ length xs + 1

@@ -11,16 +11,16 @@ use Rattle.private_store.specs.declared.inputs.Input.{Input}
 use Rattle.private_store.specs.Tables.{ById, at, is_among}
 use Rattle.std.specs.Option.{option_map_or}
 use Rattle.obj_id.specs.declared.commands.CopyState.{CopyState}
-use Rattle.obj_id.specs.declared.commands.CopyState.TheVariants.{Fetching, Away}
+use Rattle.obj_id.specs.declared.commands.CopyState.TheVariants.{Away}
 use Rattle.private_store.specs.declared.faults.Fault.{Fault}
-use Rattle.private_store.specs.Shape.{Copy, Fetch, WorkInFlight}
+use Rattle.private_store.specs.Shape.{Copy, WorkInFlight}
 use Rattle.private_store.specs.Copies.{extent_of}
 use Rattle.private_store.specs.Contents.{Contents, View, bytes_at, digest_at, keeps_digest, no_digest}
 use Rattle.private_store.specs.Private.{Post, view_step}
 use Rattle.private_store.specs.Kept.{IsViewKept, has_hand}
 use Rattle.job_region.specs.Region.{bytes_at as placed_bytes}
 use Rattle.lru_evictor.specs.Orders.{AreThere}
-use Rattle.node_table.specs.Kept.{Kept, is_unasked}
+use Rattle.node_table.specs.Kept.{Kept}
 use Rattle.node_table.specs.Checks.{lend_check}
 use Rattle.node_table.specs.Row.{Row, Beside, copies_of, received_bytes, shape_of}
 
@@ -28,20 +28,18 @@ use Rattle.node_table.specs.Row.{Row, Beside, copies_of, received_bytes, shape_o
 abbrev pub work_on : List WorkInFlight → ObjectId → Option WorkKind
 work_on works id = option_map (λ w. if w.writes then Write else Read) (find (λ w. same_id id w.id) works)
 
--- whether Get of the copy has no room to make: it isn't away without a fault, nor fetched from a known source and not
--- asked for
-abbrev pub is_plain : CopyState → Option Fault → Option Fetch → Bool
-is_plain Away fault fetch = is_some fault
-is_plain Fetching fault fetch = option_map_or (λ f. not (is_unasked f.phase)) fetch true
-is_plain _ fault fetch = true
+-- whether Get of the copy is built: it isn't away without a fault
+abbrev pub is_plain : CopyState → Option Fault → Bool
+is_plain Away fault = is_some fault
+is_plain _ fault = true
 
 -- the view of a job: its row, what stands beside it, and contents
 abbrev pub seen : Row → Beside → Contents → View
 seen row beside contents = record { shape = shape_of row beside; order = row.order; contents = contents }
 
--- a copy as the events that are built make them: Get of it has no room to make, and it isn't on the device
+-- a copy as the events that are built make them: Get of it is built, and it isn't on the device
 pub record IsPlain (copy : Copy) : Type 0 where
-  pub state : is_plain copy.state copy.fault copy.fetch ≡ true
+  pub state : is_plain copy.state copy.fault ≡ true
   pub backed : copy.backed ≡ None
 
 -- the row shows these contents: they are what lies in its window, the digests that it keeps, and what was received

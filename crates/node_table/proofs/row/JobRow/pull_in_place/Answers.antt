@@ -75,7 +75,7 @@ returns-clause-ok c session beside contents mine h makes =
     (subst (λ (ps : List Post). TakesStep c.args.node c.args.self.now beside contents (input.Call session (command.Get c.args.id.now)) (record { reply = reply.Refused Pending; posts = ps; erased = [] }) (replaced c.args.self.now None c.args.id.now (pulled e.offset v.k) v.k.copy.length e.offset c.args.victims.now) beside) (sym posts_is)
     (pull_done c.args.node c.args.self.now beside contents h (input.Call session (command.Get c.args.id.now)) (quiet_get c.args.node c.args.self.now beside contents session c.args.id.now) c.args.id.now v.k v.found v.is z.fetch z.source z.fetched z.is z.fine (phase_is c.args.node c.args.self.now beside contents session c.args.id.now mine c.requires.alive h v.k v.found v.stays v.is z.fetch z.fetched (sized z.source) z.is) c.args.victims.now (subst (λ n. MakesPlace (make_room c.args.self.now.order (shape_of c.args.self.now beside) n) (shape_of c.args.self.now beside) n c.args.victims.now) long makes) c.pull_copy.ensures.placed w.nowhere e.offset
     (ap (λ n. first (extents_of (placed_without c.args.self.now c.args.victims.now)) c.args.self.now.window.quota n) (sym long) ∙ r.least) r.fresh
-    (still_plain e.offset v.k v.is z.fetch z.source z.fetched z.is (h.plain c.args.id.now v.k v.found)))))
+    (still_plain e.offset v.k v.is (h.plain c.args.id.now v.k v.found)))))
 
 pub returns-clause-few : goal.returns-clause-few
 returns-clause-few c =

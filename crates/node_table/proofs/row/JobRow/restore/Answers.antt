@@ -12,4 +12,4 @@ returns-clause-ok c =
     let v = some_at c.args.self.now.copies c.args.id.now Away c.requires.visible in
     let sound = sym (ap (option_and_then (λ (k : Kept). k.copy.fault)) v.found) ∙ c.requires.sound in
     each_ok c.told.result (λ o said session hands bytes contents mine h.
-    true_false (sym (ap (λ st. is_plain st v.k.copy.fault v.k.copy.fetch) v.is ∙ ap is_some sound) ∙ (h.plain c.args.id.now v.k v.found).state)) c.told.ensures.ok
+    true_false (sym (ap (λ st. is_plain st v.k.copy.fault) v.is ∙ ap is_some sound) ∙ (h.plain c.args.id.now v.k v.found).state)) c.told.ensures.ok
