@@ -201,9 +201,9 @@ module _ (node : ℕ) (row : Row) (beside : Beside) (contents : Contents) (h : I
 
     shown : IsShown new beside after.contents
     shown = shown_now node row beside contents h x change (change_is node row beside contents h x quiet n f by_room victims makes placed id now nowhere (no_victim_here victims makes) offset (pulled_lies offset k n refl) refl least free
-            beside.works beside.used None shape_is refl (λ u none. none_some u none) (λ _. h.listed id k found) of_digest (h.working id k found) (λ q differs. refl) (h.granted id k found) plain) told new beside
+        beside.works beside.used None shape_is refl (λ u none. none_some u none) (λ _. h.listed id k found) of_digest (h.working id k found) (λ q differs. refl) (h.granted id k found) plain) told new beside
         (m node row beside contents h x quiet n f by_room victims makes placed id now nowhere (no_victim_here victims makes) offset (pulled_lies offset k n refl) refl least free
-            beside.works beside.used None shape_is refl (λ u none. none_some u none) (λ _. h.listed id k found) of_digest (h.working id k found) (λ q differs. refl) (h.granted id k found) plain (message ∷ []))
+        beside.works beside.used None shape_is refl (λ u none. none_some u none) (λ _. h.listed id k found) of_digest (h.working id k found) (λ q differs. refl) (h.granted id k found) plain (message ∷ []))
 
     -- what is sent asks for all chunks
     pull_is : pull_posts after id ≡ message ∷ []
@@ -211,12 +211,12 @@ module _ (node : ℕ) (row : Row) (beside : Beside) (contents : Contents) (h : I
         ap (λ p. option_map_or (λ (copy : Copy). option_map_or (λ fetch. pull_of after id copy fetch fetch.phase) copy.fetch []) p []) (ap (λ (t : Shape). at t.copies id) shape_is ∙ at-put_here (copies_of (all_evicted victims row.copies)) id now.copy)
         ∙ ap (λ p. option_map_or (λ fetch. pull_of after id now.copy fetch fetch.phase) p []) fetch_now
         ∙ ap (λ d. to_peer source (Pull id fetch.number n d missing) ∷ []) (shown.digests id now (here node row beside contents h x quiet n f by_room victims makes placed id now nowhere (no_victim_here victims makes) offset (pulled_lies offset k n refl) refl least free
-            beside.works beside.used None shape_is refl (λ u none. none_some u none) (λ _. h.listed id k found) of_digest (h.working id k found) (λ q differs. refl) (h.granted id k found) plain) keeps_now)
+        beside.works beside.used None shape_is refl (λ u none. none_some u none) (λ _. h.listed id k found) of_digest (h.working id k found) (λ q differs. refl) (h.granted id k found) plain) keeps_now)
 
     pub pull_done : TakesStep node row beside contents x told new beside
     pull_done =
         placed_done node row beside contents h x quiet n f by_room victims makes placed id now nowhere (no_victim_here victims makes) offset (pulled_lies offset k n refl) refl least free
-            beside.works beside.used None shape_is refl (λ u none. none_some u none) (λ _. h.listed id k found) of_digest (h.working id k found) (λ q differs. refl) (h.granted id k found) plain (message ∷ [])
+        beside.works beside.used None shape_is refl (λ u none. none_some u none) (λ _. h.listed id k found) of_digest (h.working id k found) (λ q differs. refl) (h.granted id k found) plain (message ∷ [])
         (sym (ap (λ ps. ps ++ []) pull_is))
 
 -- what was plain is so still
