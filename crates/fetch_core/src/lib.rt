@@ -137,12 +137,24 @@ impl FetchIn {
         ensures grows { OnErr result ((source : ℕ) × (self.old.phase ≡ sized source)) }
         ensures memory { (r : Refusal) → IsErrOf result r → r ≡ NoMemory }
     {
-        let Stage::Sized(source) = self.stage else {
+        let Stage::Sized(_) = self.stage else {
             return Ok(());
         };
-        self.missing = all_chunks(alloc, self.length)?;
-        self.stage = Stage::Pulling(source);
+        let missing = all_chunks(alloc, self.length)?;
+        self.begin_with(missing);
         Ok(())
+    }
+
+    /// The same, where the indexes of all chunks were made before. Takes no memory.
+    pub fn begin_with(&mut self, missing: Vec<u32>)
+        requires { missing.items ≡ counted 0 (chunk_count self.old.length) }
+        ensures { self.new ≡ pull_begun self.old }
+    {
+        let Stage::Sized(source) = self.stage else {
+            return;
+        };
+        self.missing = missing;
+        self.stage = Stage::Pulling(source);
     }
 
     /// A chunk of `length` bytes came: whether it fills a gap, which is then closed, so that its bytes are
@@ -273,7 +285,7 @@ fn chunk_bytes(length: u32, index: u32) -> usize
 }
 
 /// The indexes of all chunks of an object of `length` bytes.
-fn all_chunks(alloc: Global, length: u32) -> Result<Vec<u32>, AllocError>
+pub fn all_chunks(alloc: Global, length: u32) -> Result<Vec<u32>, AllocError>
     ensures { IfOk result (λ v. v.items ≡ counted 0 (chunk_count length)) }
 {
     let count = length.div_ceil(CHUNK_SIZE);

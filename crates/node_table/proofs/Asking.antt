@@ -1,23 +1,23 @@
--- A row takes Create where writes are asked for to make room.
-use Rattle.std.proofs.Common.{◌≡◌, ℕ, ◌+◌, ◌-◌, ◌≤◌, ◌<◌, Bool, true, false, not, ◌&&◌, ◌||◌, cond, ◌==◌, List, [], ◌∷◌, ◌++◌, map, fold, length, take, Option, Some, None, is_none, option_map, unwrap_or, refl, sym, ap, subst, ◌∙◌, T, arith}
-use Rattle.std.specs.Prelude.{find, nat_le}
+-- A row takes a step where writes are asked for to make room.
+use Rattle.std.proofs.Common.{◌≡◌, ℕ, ◌+◌, ◌-◌, ◌≤◌, ◌<◌, Bool, true, false, not, ◌&&◌, ◌||◌, cond, List, [], ◌∷◌, ◌++◌, map, fold, length, take, Option, Some, None, is_none, option_map, unwrap_or, refl, sym, ap, subst, ◌∙◌, T, arith}
+use Rattle.std.specs.Prelude.{find, nat_le, is_ok}
 use Rattle.std.proofs.lemmas.Bool.Decides.{nat_tests}
 use Rattle.std.specs.Option.{option_map_or}
 use Rattle.std.specs.FinMap.Entries.{is_sorted, same_entries, is_sorted-put}
 use Rattle.obj_id.specs.declared.ids.ObjectId.{ObjectId}
 use Rattle.obj_id.specs.declared.works.WorkKind.TheVariants.{Write, Read}
-use Rattle.obj_id.specs.declared.commands.Kind.{Kind}
 use Rattle.obj_id.specs.declared.commands.Reply.TheVariants as reply
 use Rattle.obj_id.specs.declared.refusals.Refusal.TheVariants.{Pending}
 use Rattle.obj_id.specs.Ids.{id_cmp, same_id}
 use Rattle.obj_id.proofs.SameIds.{id_cmp-IsTotalOrder, id_cmp-IsAntisymmetric, same_id-equal}
 use Rattle.private_store.specs.Tables.{ById, at, with_entry, is_among}
 use Rattle.private_store.specs.Hands.{Hand}
-use Rattle.private_store.specs.Shape.{Copy, Shape, WorkInFlight}
+use Rattle.private_store.specs.Shape.{Copy, Shape, Change, WorkInFlight}
+use Rattle.private_store.specs.declared.inputs.Input.{Input}
 use Rattle.private_store.specs.Copies.{extent_of, is_working, is_idle, is_spillable}
-use Rattle.private_store.specs.Room.{make_room, no_room, asked}
-use Rattle.private_store.specs.Change.{refused, erasing}
-use Rattle.private_store.specs.Contents.{Contents, judge, keeps_digest, no_digest}
+use Rattle.private_store.specs.Room.{Room, make_room, no_room, asked}
+use Rattle.private_store.specs.Change.{refused, erasing, in_room}
+use Rattle.private_store.specs.Contents.{Contents, judge, keeps_digest, no_digest, brought}
 use Rattle.private_store.specs.Private.{key_of}
 use Rattle.private_store.specs.Step.{step}
 use Rattle.private_store.proofs.Filling.{filled}
@@ -31,13 +31,13 @@ use Rattle.spill_work.specs.Line.{WorkLine, works_of, numbered_works, room_for, 
 use Rattle.node_table.specs.Entries.{changed, each_changed}
 use Rattle.node_table.specs.Kept.{Kept, can_spill, spilling, spilling_if}
 use Rattle.node_table.specs.Row.{Row, Beside, beside_of, copies_of, shape_of}
-use Rattle.node_table.specs.Checks.{create_check}
 use Rattle.node_table.specs.RoomPlans.{AsksWrites}
 use Rattle.node_table.specs.Shown.{seen, work_on, IsPlain, IsShown, only, TakesStep}
 use Rattle.node_table.proofs.ByChecks.{sending-is}
 use Rattle.node_table.proofs.Changes.{changed-found, changed-absent}
 use Rattle.node_table.proofs.CopyTables.{sorted-copies, at-copies_found, copies-changed}
-use Rattle.node_table.proofs.Creating.{x, room_is, each_among}
+use Rattle.node_table.specs.MadeRooms.{BringsNothing, TellsRoom}
+use Rattle.node_table.proofs.Rooms.{room_is, each_among}
 use Rattle.node_table.proofs.Described.{working-on}
 use Rattle.node_table.proofs.Stepping.{Moves, moved, same_bytes, received_stays}
 
@@ -183,9 +183,10 @@ may_ask row line hands bytes n ids asks =
 
 -- ---- the step
 
-module _ (node : ℕ) (row : Row) (line : WorkLine) (hands : List Hand) (bytes : ObjectId → List ℕ) (contents : Contents) (session : ℕ) (id : ObjectId) (kind : Kind) (n : ℕ)
-    (mine : (id.job.0 == row.job) ≡ true) (h : IsShown row (beside_of line hands bytes row.job) contents)
-    (passed : create_check row id n ≡ None) (ids : List ObjectId) (asks : AsksWrites (make_room row.order (shape_of row (beside_of line hands bytes row.job)) n) (shape_of row (beside_of line hands bytes row.job)) ids)
+module _ (node : ℕ) (row : Row) (line : WorkLine) (hands : List Hand) (bytes : ObjectId → List ℕ) (contents : Contents) (h : IsShown row (beside_of line hands bytes row.job) contents)
+    (x : Input) (quiet : BringsNothing node (seen row (beside_of line hands bytes row.job) contents) x) (n : ℕ) (f : Shape → ℕ → Change)
+    (by_room : step row.order (shape_of row (beside_of line hands bytes row.job)) (judge node (seen row (beside_of line hands bytes row.job) contents) x) ≡ erasing (shape_of row (beside_of line hands bytes row.job)) (in_room (make_room row.order (shape_of row (beside_of line hands bytes row.job)) n) f))
+    (ids : List ObjectId) (asks : AsksWrites (make_room row.order (shape_of row (beside_of line hands bytes row.job)) n) (shape_of row (beside_of line hands bytes row.job)) ids)
     (line_after : WorkLine) (in_line : AsksAll line (record { 0 = row.job }) Write ids line_after) where
   abbrev beside : Beside
   beside = beside_of line hands bytes row.job
@@ -208,9 +209,9 @@ module _ (node : ℕ) (row : Row) (line : WorkLine) (hands : List Hand) (bytes :
   copies_same : copies_of new.copies ≡ copies_of row.copies
   copies_same = all_same ids row.copies sorted
 
-  change_is : step row.order s (judge node (seen row beside contents) (x node row beside contents session id kind n mine h)) ≡ erasing s (refused now Pending)
+  change_is : step row.order s (judge node (seen row beside contents) x) ≡ erasing s (refused now Pending)
   change_is =
-      room_is node row beside contents session id kind n mine h passed (no_room (fold (asked true) s ids) Pending) asks.room_is
+      room_is node row beside contents h x quiet n f by_room (no_room (fold (asked true) s ids) Pending) asks.room_is
       ∙ ap (erasing s) (sending-is [] (refused (fold (asked true) s ids) Pending) ∙ ap (λ t. refused t Pending) (all_asked ids s))
 
   shape_now : now ≡ shape_of new after
@@ -272,7 +273,7 @@ module _ (node : ℕ) (row : Row) (line : WorkLine) (hands : List Hand) (bytes :
   there_now : AreThere (copies_of new.copies) row.order
   there_now = subst (λ t. AreThere t row.order) (sym copies_same) h.there
 
-  m : Moves node row beside contents h (x node row beside contents session id kind n mine h) (erasing s (refused now Pending)) (only (reply.Refused Pending)) new after
+  m : Moves node row beside contents h x (erasing s (refused now Pending)) (only (reply.Refused Pending)) new after
   m = record {
     shape = shape_now;
     order = sym (reordered-unused row.order (copies_of new.copies) there_now);
@@ -281,19 +282,30 @@ module _ (node : ℕ) (row : Row) (line : WorkLine) (hands : List Hand) (bytes :
     bytes = λ q k e found lies.
         let z = was q k found in
         let same = (copy_was q k z.0 z.2).0 in
-        ap (filled (at contents.bytes q)) same ∙ same_bytes node row beside contents h (x node row beside contents session id kind n mine h) q z.0 e z.1 (ap extent_of (sym same) ∙ lies)
+        ap (λ b. filled (at (brought contents.bytes b) q) k.copy) (quiet.bytes (reply.Refused Pending)) ∙ ap (filled (at contents.bytes q)) same ∙ same_bytes node row beside contents h x q z.0 e z.1 (ap extent_of (sym same) ∙ lies)
         ∙ ap (λ (copy : Copy). take copy.length (placed_bytes e row.window.placed)) (sym same);
     digests = λ q k found keeps.
         let z = was q k found in
         let same = copy_was q k z.0 z.2 in
-        h.digests q z.0 z.1 (ap keeps_digest (sym same.0) ∙ keeps) ∙ ap (λ d. unwrap_or d no_digest) (sym same.1);
+        ap (λ d. unwrap_or (at (brought contents.digests d) q) no_digest) (quiet.digests (reply.Refused Pending)) ∙ h.digests q z.0 z.1 (ap keeps_digest (sym same.0) ∙ keeps) ∙ ap (λ d. unwrap_or d no_digest) (sym same.1);
     working = working_now;
     granted = λ q k found. let z = was q k found in granted_was q k z.0 z.2 ∙ h.granted q z.0 z.1;
-    received = received_stays node row beside contents h (x node row beside contents session id kind n mine h) refl;
+    received = received_stays node row beside contents h x quiet.received;
     plain = λ q k found. let z = was q k found in subst IsPlain (sym (copy_was q k z.0 z.2).0) (h.plain q z.0 z.1);
     reply = refl;
     erased = sym (ap (map (key_of row.job)) (keys_none (copies_of row.copies) (copies_of row.copies) (all_found (copies_of row.copies))));
   }
 
-  pub asked_done : TakesStep node row beside contents (x node row beside contents session id kind n mine h) (only (reply.Refused Pending)) new after
-  asked_done = moved node row beside contents h (x node row beside contents session id kind n mine h) (erasing s (refused now Pending)) change_is (only (reply.Refused Pending)) new after m refl
+  pub asked_done : TakesStep node row beside contents x (only (reply.Refused Pending)) new after
+  asked_done = moved node row beside contents h x (erasing s (refused now Pending)) change_is (only (reply.Refused Pending)) new after m refl
+
+-- whatever waited for the room
+pub asked_told : (row : Row) (line : WorkLine) (hands : List Hand) (bytes : ObjectId → List ℕ) (contents : Contents) → IsShown row (beside_of line hands bytes row.job) contents → (n : ℕ)
+    (ids : List ObjectId) → AsksWrites (make_room row.order (shape_of row (beside_of line hands bytes row.job)) n) (shape_of row (beside_of line hands bytes row.job)) ids
+    → (line_after : WorkLine) → AsksAll line (record { 0 = row.job }) Write ids line_after → (after : Row) → after ≡ record row { copies = each_changed spilling_if row.copies ids }
+    → TellsRoom row (beside_of line hands bytes row.job) contents n Pending after (beside_of line_after hands bytes row.job)
+asked_told row line hands bytes contents h n ids asks line_after in_line then is = record {
+  tells = λ node x f quiet by_room.
+      subst (λ r. TakesStep node row (beside_of line hands bytes row.job) contents x (only (reply.Refused Pending)) r (beside_of line_after hands bytes row.job)) (sym is)
+      (asked_done node row line hands bytes contents h x quiet n f (by_room (ap (λ (r : Room). is_ok r.offset) asks.room_is)) ids asks line_after in_line);
+}

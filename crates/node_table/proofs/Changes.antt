@@ -78,3 +78,7 @@ of_err (Err q) h e = h
 pub of_ok : {T E P : Type 0} (r : Result T E) → OnOk r P → is_err r ≡ false → P
 of_ok (Ok v) h e = h
 of_ok (Err q) h e = absurd cc
+
+-- an entry that is there, as the table's holder sees it
+pub found_rising : {X : Type 0} (id : ObjectId) (es : List (ObjectId × X)) (now : ById X) → by_rising_id es ≡ now → (x : X) → lookup (id_eq id) es ≡ Some x → at now id ≡ Some x
+found_rising id es now seen x found = ap (λ t. at t id) (sym seen) ∙ at-rising es id ∙ found

@@ -1,5 +1,5 @@
 -- How many copies a plan can take: each is another one.
-use Rattle.std.proofs.Common.{◌≡◌, ℕ, suc, ◌+◌, ◌≤◌, Bool, true, false, not, cond, List, [], ◌∷◌, length, Option, Some, None, is_some, refl, sym, ap, ◌∙◌, arith}
+use Rattle.std.proofs.Common.{◌≡◌, suc, ◌+◌, ◌≤◌, Bool, true, false, not, cond, List, [], ◌∷◌, length, Option, Some, None, is_some, refl, sym, ap, ◌∙◌, arith}
 use Rattle.std.specs.List.{list_all, count_by}
 use Rattle.std.specs.Option.{option_map_or}
 use Rattle.obj_id.specs.declared.ids.ObjectId.{ObjectId}
@@ -11,7 +11,6 @@ use Rattle.private_store.specs.Shape.{Copy, Shape}
 use Rattle.private_store.proofs.Rows.{at-drop}
 use Rattle.private_store.proofs.KeptLists.{length-filter-le, count-cons, count-yes}
 use Rattle.private_store.proofs.Tests.{both, both_left, both_right, true_false}
-use Rattle.node_table.specs.Creating.{removals}
 use Rattle.node_table.specs.RoomPlans.{all_pass}
 
 module _ {X : Type 0} where
@@ -67,8 +66,3 @@ passing_there store test (q ∷ ids) h = both _ _ (here (at store.copies q) (bot
     here : (o : Option Copy) → option_map_or (test q) o false ≡ true → is_some o ≡ true
     here None t = true_false t
     here (Some copy) t = refl
-
--- one message for each id
-pub length-removals : (node : ℕ) (ids : List ObjectId) → length (removals node ids) ≡ length ids
-length-removals node [] = refl
-length-removals node (id ∷ ids) = ap suc (length-removals node ids)

@@ -206,6 +206,17 @@ key_removed es id copy now sorted found =
         by true = refl
         by false = refl
 
+-- a copy is removed
+pub key_dropped : (es : ById Copy) (id : ObjectId) (copy : Copy) → T (is_sorted id_cmp es) → at es id ≡ Some copy → keys_gone es (without_entry es id) ≡ option_to_list copy.backed
+key_dropped es id copy sorted found = keys_one es (without_entry es id) id left es (true_T _ (all_found es)) sorted copy found
+  where
+    left : (q : ObjectId) → is_none (at (without_entry es id) q) ≡ same_id id q || is_none (at es q)
+    left q = ap is_none (at-drop es id q) ∙ by (same_id id q)
+      where
+        by : (b : Bool) → is_none (cond (not b) (at es q) None) ≡ b || is_none (at es q)
+        by true = refl
+        by false = refl
+
 -- ---- the step
 
 -- what was shown of a row before its copy was removed is so of it afterwards

@@ -1,6 +1,6 @@
 -- A row takes Get of an object that isn't there, and of one that is on its way.
-use Rattle.std.proofs.Common.{◌≡◌, ℕ, suc, ◌+◌, Bool, true, false, not, cond, ◌||◌, ◌==◌, nat_le, List, [], ◌∷◌, map, take, length, Option, Some, None, is_some, option_map, unwrap_or, refl, sym, ap, subst, ◌∙◌}
-use Rattle.std.specs.Prelude.{if◌then◌else◌, find}
+use Rattle.std.proofs.Common.{◌≡◌, ℕ, suc, ◌+◌, Bool, true, false, not, cond, ◌||◌, ◌==◌, nat_le, List, [], ◌∷◌, ◌++◌, map, take, length, Option, Some, None, is_some, option_map, unwrap_or, refl, sym, ap, subst, ◌∙◌}
+use Rattle.std.specs.Prelude.{if◌then◌else◌, find, option_to_list}
 use Rattle.std.specs.List.{list_any}
 use Rattle.std.specs.Option.{option_map_or}
 use Rattle.std.proofs.lemmas.Bool.{eqb-true}
@@ -8,42 +8,48 @@ use Rattle.obj_id.specs.declared.works.WorkKind.TheVariants.{Write, Read}
 use Rattle.obj_id.specs.declared.ids.ObjectId.{ObjectId}
 use Rattle.obj_id.specs.declared.messages.DirectoryMessage.TheVariants.{Locate}
 use Rattle.obj_id.specs.declared.refusals.Refusal.{Refusal}
-use Rattle.obj_id.specs.declared.refusals.Refusal.TheVariants.{TooMany, Pending, Absent}
+use Rattle.obj_id.specs.declared.refusals.Refusal.TheVariants.{BadSize, TooMany, Pending, Absent}
 use Rattle.obj_id.specs.declared.commands.Command.TheVariants as command
 use Rattle.obj_id.specs.declared.commands.Reply.TheVariants as reply
 use Rattle.obj_id.specs.Ids.{same_id}
 use Rattle.obj_id.proofs.SameIds.{same_id-equal}
+use Rattle.private_store.specs.declared.faults.FetchFault.{FetchFault}
+use Rattle.private_store.specs.declared.inputs.Input.{Input}
 use Rattle.private_store.specs.declared.inputs.Input.TheVariants as input
+use Rattle.obj_id.specs.declared.messages.PeerMessage.TheVariants.{Pull}
 use Rattle.private_store.specs.Limits.{most_copies, has_numbers}
 use Rattle.private_store.specs.Tables.{at, with_entry, is_among}
 use Rattle.private_store.specs.Kept.{has_hand}
-use Rattle.private_store.specs.Shape.{Shape, Change, Fetch, Phase, locating, sized, pulling, failed, locate}
-use Rattle.private_store.specs.Copies.{extent_of}
-use Rattle.private_store.specs.Change.{refused, erasing, sending}
-use Rattle.private_store.specs.Commands.{fetched_copy, fetch_begun, get_fetching}
-use Rattle.private_store.specs.Contents.{Contents, is_locating, keeps_digest, no_digest}
-use Rattle.private_store.specs.Private.{Post, key_of, to_directory}
-use Rattle.private_store.proofs.Checks.{checked-nil}
-use Rattle.obj_id.specs.declared.commands.CopyState.{CopyState}
-use Rattle.obj_id.specs.declared.commands.CopyState.TheVariants.{Created, Sealed, Restoring, Fetching, Away}
+use Rattle.private_store.specs.Shape.{Copy, Shape, Change, Fetch, Phase, locating, sized, pulling, failed, locate, pull}
+use Rattle.private_store.specs.Copies.{extent_of, was_sealed}
+use Rattle.private_store.specs.Room.{drop_copy}
+use Rattle.private_store.specs.Extents.{is_size}
+use Rattle.private_store.specs.Step.{step}
+use Rattle.private_store.specs.Change.{refused, erasing, sending, keys_gone}
+use Rattle.private_store.specs.Commands.{is_length, fetch_refusal, fetched_copy, fetch_begun, get_fetching}
+use Rattle.private_store.specs.Contents.{Contents, View, judge, is_sized, keeps_digest, no_digest}
+use Rattle.private_store.specs.Private.{Post, key_of, to_directory, to_peer, pull_of, pull_posts}
+use Rattle.private_store.proofs.Checks.{checked-true, checked-nil}
+use Rattle.obj_id.specs.declared.commands.CopyState.TheVariants.{Fetching}
 use Rattle.private_store.specs.Kept.{is_fetching, is_remembered}
-use Rattle.private_store.proofs.RefusingLemmas.{keys_none, all_found}
 use Rattle.private_store.proofs.Filling.{filled}
 use Rattle.private_store.proofs.Rows.{at-put, at-put_here}
-use Rattle.private_store.proofs.Tests.{some_value, none_some, true_false, false_true}
+use Rattle.private_store.proofs.Tests.{some_value, none_some, true_false, false_true, T_true}
 use Rattle.job_region.specs.Region.{bytes_at as placed_bytes}
 use Rattle.lru_evictor.specs.Orders.{AreThere, last_used}
-use Rattle.lru_evictor.proofs.Reorders.{reordered-used, reordered-unused}
+use Rattle.lru_evictor.proofs.Reorders.{reordered-used}
 use Rattle.node_table.specs.Kept.{Kept, fetched_kept}
-use Rattle.node_table.specs.Row.{Row, Beside, copies_of, shape_of}
+use Rattle.node_table.specs.Row.{Row, Beside, copies_of, shape_of, place_of, ArePlaced}
+use Rattle.node_table.specs.Dropping.{dropped}
 use Rattle.node_table.specs.Checks.{fetch_check}
-use Rattle.node_table.specs.Shown.{is_plain, work_on, IsPlain, IsShown, Given, only, TakesStep}
+use Rattle.node_table.specs.Shown.{seen, work_on, IsPlain, IsShown, Given, only, TakesStep}
 use Rattle.node_table.proofs.ByChecks.{unless_refused, first-check, needing-by, sending-is}
-use Rattle.node_table.proofs.CopyTables.{at-copies_none, copies-with}
+use Rattle.node_table.proofs.CopyTables.{at-copies_none, at-copies_found, copies-with}
 use Rattle.node_table.proofs.Changing.{there_with, keys_with}
 use Rattle.node_table.proofs.Orders.{there_last, listed_last, last_listed}
 use Rattle.node_table.proofs.Getting.{by_copy, get_is, get_at}
-use Rattle.node_table.proofs.Stepping.{Moves, moved, stays, same_bytes, received_stays}
+use Rattle.node_table.proofs.Stepping.{Moves, moved, shown_now, o, stays, telling, tells, same_moves, same_bytes, received_stays}
+use Rattle.node_table.proofs.Dropping.{key_dropped, change_left, moves_left}
 
 pub length-map : {A B : Type 0} (f : A → B) (xs : List A) → length (map f xs) ≡ length xs
 length-map f [] = refl
@@ -132,7 +138,7 @@ module _ (node : ℕ) (row : Row) (beside : Beside) (contents : Contents) (sessi
         (λ t lies. none_some e lies) (λ old lies. same_bytes node row beside contents h (input.Call session (command.Get id)) q y e old lies) lies;
     digests = λ q y there keeps. of_each q y there (λ z. keeps_digest z.copy ≡ true → unwrap_or (at contents.digests q) no_digest ≡ unwrap_or z.digest no_digest)
         (λ t keeps. true_false keeps) (λ old keeps. h.digests q y old keeps) keeps;
-    plain = λ q y there. of_each q y there (λ z. IsPlain z.copy) (λ t. record { state = refl; backed = refl; fault = refl }) (λ old. h.plain q y old);
+    plain = λ q y there. of_each q y there (λ z. IsPlain z.copy) (λ t. record { state = refl; backed = refl }) (λ old. h.plain q y old);
     working = λ q y there. of_each q y there (λ z. z.working ≡ work_on beside.works q)
         (λ t. sym (ap (work_on beside.works) (same_id-equal q id t) ∙ no_work)) (λ old. h.working q y old);
     granted = λ q y there. of_each q y there (λ z. z.granted ≡ has_hand beside.given q)
@@ -150,58 +156,89 @@ module _ (node : ℕ) (row : Row) (beside : Beside) (contents : Contents) (sessi
 -- ---- an object that is on its way
 
 module _ (node : ℕ) (row : Row) (beside : Beside) (contents : Contents) (session : ℕ) (id : ObjectId) (mine : (id.job.0 == row.job) ≡ true) (alive : is_remembered row.ended_tasks id.task ≡ false) (h : IsShown row beside contents)
-    (k : Kept) (found : at row.copies id ≡ Some k) (unmarked : k.copy.doomed ≡ false) (is : is_fetching k.copy.state ≡ true) where
-  on_its_way : (f : Fetch) × (k.copy.fetch ≡ Some f) × (f.phase ≡ locating)
-  on_its_way = by k.copy.state is k.copy.fetch refl (h.plain id k found).state
-    where
-      phase : (p : Phase) → is_locating p ≡ true → p ≡ locating
-      phase locating e = refl
-      phase (sized source) e = true_false e
-      phase (pulling source missing) e = true_false e
-      phase (failed fault) e = true_false e
+    (k : Kept) (found : at row.copies id ≡ Some k) (unmarked : k.copy.doomed ≡ false) (is : k.copy.state ≡ Fetching) where
+  abbrev s : Shape
+  s = shape_of row beside
 
-      some : (o : Option Fetch) → k.copy.fetch ≡ o → option_map_or (λ f. is_locating f.phase) o false ≡ true → (f : Fetch) × (k.copy.fetch ≡ Some f) × (f.phase ≡ locating)
-      some None e p = true_false p
-      some (Some f) e p = (f, e, phase f.phase p)
+  abbrev x : Input
+  x = input.Call session (command.Get id)
 
-      by : (state : CopyState) → is_fetching state ≡ true → (o : Option Fetch) → k.copy.fetch ≡ o → is_plain state o ≡ true → (f : Fetch) × (k.copy.fetch ≡ Some f) × (f.phase ≡ locating)
-      by Created t o e p = true_false t
-      by Sealed t o e p = true_false t
-      by Restoring t o e p = true_false t
-      by Fetching t o e p = some o e p
-      by Away t o e p = true_false t
+  -- what Get does by the fetch
+  abbrev by_fetch : Option Fetch → Change
+  by_fetch o = option_map_or (λ fetch. get_fetching row.order s id k.copy fetch fetch.phase) o (refused s Absent)
 
-  fetching_is : (state : CopyState) → is_fetching state ≡ true → state ≡ Fetching
-  fetching_is Created t = true_false t
-  fetching_is Sealed t = true_false t
-  fetching_is Restoring t = true_false t
-  fetching_is Fetching t = refl
-  fetching_is Away t = true_false t
+  fetch_is : (o : Option Fetch) → k.copy.fetch ≡ o → step row.order s (judge node (seen row beside contents) x) ≡ erasing s (by_fetch o)
+  fetch_is o e =
+      get_at node row beside contents session id mine alive h k found unmarked Fetching is
+      ∙ ap (erasing s) (needing-by s k.copy.fetch Absent (λ fetch. get_fetching row.order s id k.copy fetch fetch.phase) ∙ ap by_fetch e)
 
-  abbrev asks : ℕ → Change
-  asks n = record (refused (shape_of row beside) Pending) { sent = locate id n ∷ [] }
+  pub unfetched_told : k.copy.fetch ≡ None → TakesStep node row beside contents x (only (reply.Refused Absent)) row beside
+  unfetched_told none = stays node row beside contents h x (reply.Refused Absent) (fetch_is None none) refl refl refl
 
-  pub again : (n : ℕ) → ((f : Fetch) → k.copy.fetch ≡ Some f → n ≡ f.number) → (messages : List Post) → messages ≡ to_directory (Locate id node n)
-      → TakesStep node row beside contents (input.Call session (command.Get id)) (record { reply = reply.Refused Pending; posts = messages; erased = [] }) row beside
-  again n number messages sent =
-      let f = on_its_way in
-      moved node row beside contents h (input.Call session (command.Get id)) (erasing (shape_of row beside) (asks f.0.number))
-      (get_at node row beside contents session id mine alive h k found unmarked Fetching (fetching_is k.copy.state is)
-      ∙ ap (erasing (shape_of row beside)) (needing-by (shape_of row beside) k.copy.fetch Absent (λ fetch. get_fetching row.order (shape_of row beside) id k.copy fetch fetch.phase)
-      ∙ ap (λ o. option_map_or (λ fetch. get_fetching row.order (shape_of row beside) id k.copy fetch fetch.phase) o (refused (shape_of row beside) Absent)) f.1
-      ∙ ap (get_fetching row.order (shape_of row beside) id k.copy f.0) f.2 ∙ sending-is (locate id f.0.number ∷ []) (refused (shape_of row beside) Pending)))
-      (record { reply = reply.Refused Pending; posts = messages; erased = [] }) row beside (record {
-        shape = refl;
-        order = sym (reordered-unused row.order (copies_of row.copies) h.there);
-        there = h.there;
-        listed = h.listed;
-        bytes = same_bytes node row beside contents h (input.Call session (command.Get id));
-        digests = h.digests;
-        plain = h.plain;
-        working = h.working;
-        granted = h.granted;
-        received = received_stays node row beside contents h (input.Call session (command.Get id)) refl;
-        reply = refl;
-        erased = sym (ap (map (key_of row.job)) (keys_none (copies_of row.copies) (copies_of row.copies) (all_found (copies_of row.copies))));
-      })
-      (sent ∙ ap (λ m. to_directory (Locate id node m)) (number f.0 f.1))
+  module _ (f : Fetch) (fetched : k.copy.fetch ≡ Some f) where
+    pub phase_is : (phase : Phase) → f.phase ≡ phase → step row.order s (judge node (seen row beside contents) x) ≡ erasing s (get_fetching row.order s id k.copy f phase)
+    phase_is phase e = fetch_is (Some f) fetched ∙ ap (λ p. erasing s (get_fetching row.order s id k.copy f p)) e
+
+    -- the answer Pending, and these messages
+    abbrev pub pending : List Post → Given
+    pending posts = record { reply = reply.Refused Pending; posts = posts; erased = [] }
+
+    pub located_again : f.phase ≡ locating → (posts : List Post) → posts ≡ to_directory (Locate id node f.number) → TakesStep node row beside contents x (pending posts) row beside
+    located_again at posts said =
+        tells node row beside contents h x (reply.Refused Pending) (locate id f.number ∷ []) posts refl refl refl
+        (phase_is locating at ∙ ap (erasing s) (sending-is (locate id f.number ∷ []) (refused s Pending))) said
+
+    module _ (source : ℕ) (missing : List ℕ) (at_pulling : f.phase ≡ pulling source missing) (posts : List Post) where
+      asks : step row.order s (judge node (seen row beside contents) x) ≡ telling node row beside contents h x (reply.Refused Pending) (pull id ∷ [])
+      asks = phase_is (pulling source missing) at_pulling ∙ ap (erasing s) (sending-is (pull id ∷ []) (refused s Pending))
+
+      abbrev now : View
+      now = o node row beside contents h x (telling node row beside contents h x (reply.Refused Pending) (pull id ∷ [])) asks (pending posts) row beside (same_moves node row beside contents h x (reply.Refused Pending) (pull id ∷ []) posts refl refl refl)
+
+      shown : IsShown row beside now.contents
+      shown = shown_now node row beside contents h x (telling node row beside contents h x (reply.Refused Pending) (pull id ∷ [])) asks (pending posts) row beside (same_moves node row beside contents h x (reply.Refused Pending) (pull id ∷ []) posts refl refl refl)
+
+      keeps : keeps_digest k.copy ≡ true
+      keeps =
+          ap (λ st. cond (was_sealed st) true (option_map_or (λ (fetch : Fetch). is_sized fetch.phase) k.copy.fetch false)) is
+          ∙ ap (λ o. option_map_or (λ (fetch : Fetch). is_sized fetch.phase) o false) fetched ∙ ap is_sized at_pulling
+
+      pull_is : pull_posts now id ≡ to_peer source (Pull id f.number k.copy.length (unwrap_or k.digest no_digest) missing) ∷ []
+      pull_is =
+          ap (λ p. option_map_or (λ (copy : Copy). option_map_or (λ fetch. pull_of now id copy fetch fetch.phase) copy.fetch []) p []) (at-copies_found row.copies id k found)
+          ∙ ap (λ p. option_map_or (λ fetch. pull_of now id k.copy fetch fetch.phase) p []) fetched
+          ∙ ap (pull_of now id k.copy f) at_pulling
+          ∙ ap (λ d. to_peer source (Pull id f.number k.copy.length d missing) ∷ []) (shown.digests id k found keeps)
+
+      pub pulled_again : posts ≡ to_peer source (Pull id f.number k.copy.length (unwrap_or k.digest no_digest) missing) ∷ [] → TakesStep node row beside contents x (pending posts) row beside
+      pulled_again said = tells node row beside contents h x (reply.Refused Pending) (pull id ∷ []) posts refl refl refl asks (said ∙ sym (ap (λ ps. ps ++ []) pull_is))
+
+    pub bad_size : (source : ℕ) → f.phase ≡ sized source → is_size row.window.quota k.copy.length ≡ false → TakesStep node row beside contents x (only (reply.Refused BadSize)) row beside
+    bad_size source at bad =
+        stays node row beside contents h x (reply.Refused BadSize)
+        (phase_is (sized source) at ∙ ap (erasing s) (checked-true s (not (is_length s k.copy.length)) BadSize [] _ (ap not bad))) refl refl refl
+
+    -- a fetch that failed is told of, and its copy is removed
+    module _ (fault : FetchFault) (at_end : f.phase ≡ failed fault) (placed : ArePlaced row.window.placed (place_of row.copies)) where
+      abbrev tells_of : Given
+      tells_of = only (reply.Refused (fetch_refusal fault))
+
+      -- what is fetched isn't on the device
+      unbacked : k.copy.backed ≡ None
+      unbacked =
+          let kept = h.kept.kept.shape.each id k.copy (at-copies_found row.copies id k found) in
+          (kept.secondary (kept.fetched (ap is_fetching is))).2
+
+      abbrev keys : List ℕ
+      keys = keys_gone s.copies (drop_copy s id).copies
+
+      no_keys : keys ≡ []
+      no_keys = key_dropped s.copies id k.copy (T_true _ h.kept.kept.shape.by_id) (at-copies_found row.copies id k found) ∙ ap option_to_list unbacked
+
+      pub failed_told : TakesStep node row beside contents x tells_of (dropped row id) beside
+      failed_told =
+          let c = telling node row beside contents h x (reply.Refused (fetch_refusal fault)) [] in
+          let m = same_moves node row beside contents h x (reply.Refused (fetch_refusal fault)) [] [] refl refl refl in
+          moved node row beside contents h x (change_left node row beside contents h x c tells_of row m refl placed id keys)
+          (phase_is (failed fault) at_end) tells_of (dropped row id) beside
+          (moves_left node row beside contents h x c tells_of row m refl placed id keys tells_of refl (sym (ap (map (key_of row.job)) no_keys))) refl

@@ -12,7 +12,7 @@ use Rattle.private_store.specs.declared.inputs.Input.TheVariants as input
 use Rattle.private_store.specs.Limits.{most_holds}
 use Rattle.private_store.specs.Tables.{ById, at, with_entry, is_among}
 use Rattle.private_store.specs.Shape.{Copy, Shape, Change}
-use Rattle.private_store.specs.Copies.{is_sealed, is_created}
+use Rattle.private_store.specs.Copies.{is_sealed}
 use Rattle.private_store.specs.Room.{set_copy}
 use Rattle.private_store.specs.Change.{replied, refused, erasing, checked, needing, has_ended}
 use Rattle.private_store.specs.Commands.{get, get_copy, get_sealed, get_away, get_fetching, begin_fetch, with_holds, holds_of, all_holds}
@@ -23,16 +23,16 @@ use Rattle.private_store.proofs.Checks.{checked-true, checked-false, checked-nil
 use Rattle.private_store.proofs.Rows.{at-put_here}
 use Rattle.std.specs.Prelude.{IfOk, Ok, Err}
 use Rattle.std.specs.declared.result.Result.{Result}
-use Rattle.private_store.specs.Kept.{is_fetching, is_remembered}
-use Rattle.private_store.proofs.Tests.{true_false, false_true, both_left, both_right, not_true}
+use Rattle.private_store.specs.Kept.{is_remembered}
+use Rattle.private_store.proofs.Tests.{some_value, true_false, both_left, both_right, not_true}
 use Rattle.lru_evictor.specs.Orders.{AreThere, last_used, touched}
 use Rattle.lru_evictor.proofs.Reorders.{reordered-used}
 use Rattle.node_table.specs.Entries.{changed}
 use Rattle.node_table.specs.Kept.{Kept, held, is_ready}
 use Rattle.node_table.specs.Row.{Row, Beside, copies_of, shape_of}
-use Rattle.node_table.specs.Checks.{hold_check_of, fetch_check, get_check_of, copy_check, get_check, visible_state}
+use Rattle.node_table.specs.Checks.{hold_check_of, fetch_check, get_check_by, get_check_of, copy_check, get_check, visible_state}
 use Rattle.node_table.specs.Holding.{IsRowHeld, IsHoldRefusedAt}
-use Rattle.node_table.specs.Shown.{seen, is_plain, IsPlain, IsShown, only, TakesStep}
+use Rattle.node_table.specs.Shown.{seen, IsPlain, IsShown, only, TakesStep}
 use Rattle.node_table.proofs.ByChecks.{unless_refused, first-check, called, own}
 use Rattle.node_table.proofs.CopyTables.{at-copies_found, copies-changed}
 use Rattle.node_table.proofs.Changing.{there_still, bytes_stay, digests_stay, works_stay, plain_stay, listed_stay, keys_with, granted_stay}
@@ -44,36 +44,36 @@ pub each_ok : {T E : Type 0} {P Q : T → Type 0} (r : Result T E) → ((t : T) 
 each_ok (Ok t) f h = f t h
 each_ok (Err e) f h = tt
 
--- where a hold wanted memory, nothing else stood against it
-pub held_late : (copies new : ById Kept) (begun : ℕ) (id : ObjectId) (r : Refusal) → r ≡ NoMemory → IsHoldRefusedAt copies id r new → copy_check copies begun id ≡ None
-held_late copies new begun id r e h =
-    ap (λ (o : Option Kept). elim o [ None ↦ fetch_check copies begun | Some kept ↦ get_check_of kept ]) h.found
-    ∙ ap (λ b. cond b (Some Absent) (cond (is_created h.kept.copy.state) (Some NotSealed) (cond (is_sealed h.kept.copy.state) (hold_check_of h.kept) None))) (not_true h.kept.copy.doomed (both_right (is_sealed h.kept.copy.state) _ h.ready))
-    ∙ by h.kept.copy.state (both_left _ (not h.kept.copy.doomed) h.ready)
+sealed_is : (state : CopyState) → is_sealed state ≡ true → state ≡ Sealed
+sealed_is Created e = true_false e
+sealed_is Sealed e = refl
+sealed_is Restoring e = true_false e
+sealed_is Fetching e = true_false e
+sealed_is Away e = true_false e
+
+-- where a hold was out of memory, nothing else stood against it
+pub held_late : (row new : Row) (id : ObjectId) (r : Refusal) → r ≡ NoMemory → IsHoldRefusedAt row.copies id r new.copies → copy_check row id ≡ None
+held_late row new id r e h =
+    ap (λ (o : Option Kept). elim o [ None ↦ fetch_check row.copies row.fetches_begun | Some kept ↦ get_check_of row.window.quota kept ]) h.found
+    ∙ ap (λ b. cond b (Some Absent) (get_check_by row.window.quota h.kept h.kept.copy.state)) (not_true h.kept.copy.doomed (both_right (is_sealed h.kept.copy.state) _ h.ready))
+    ∙ ap (get_check_by row.window.quota h.kept) (sealed_is h.kept.copy.state (both_left _ (not h.kept.copy.doomed) h.ready))
     ∙ h.late e
-  where
-    by : (state : CopyState) → is_sealed state ≡ true → cond (is_created state) (Some NotSealed) (cond (is_sealed state) (hold_check_of h.kept) None) ≡ hold_check_of h.kept
-    by Created e = true_false e
-    by Sealed e = refl
-    by Restoring e = true_false e
-    by Fetching e = true_false e
-    by Away e = true_false e
 
 -- where there is no copy, what stands against its fetch
-pub absent_late : (copies : ById Kept) (begun : ℕ) (id : ObjectId) → at copies id ≡ None → fetch_check copies begun ≡ None → copy_check copies begun id ≡ None
-absent_late copies begun id none passed =
-    ap (λ (o : Option Kept). elim o [ None ↦ fetch_check copies begun | Some kept ↦ get_check_of kept ]) none ∙ passed
+pub absent_late : (row : Row) (id : ObjectId) → at row.copies id ≡ None → fetch_check row.copies row.fetches_begun ≡ None → copy_check row id ≡ None
+absent_late row id none passed =
+    ap (λ (o : Option Kept). elim o [ None ↦ fetch_check row.copies row.fetches_begun | Some kept ↦ get_check_of row.window.quota kept ]) none ∙ passed
 
--- nothing stands against an object that is on its way
-pub fetching_late : (copies : ById Kept) (begun : ℕ) (id : ObjectId) (k : Kept) → at copies id ≡ Some k → k.copy.doomed ≡ false → k.copy.state ≡ Fetching → copy_check copies begun id ≡ None
-fetching_late copies begun id k found stays is =
-    ap (λ (o : Option Kept). elim o [ None ↦ fetch_check copies begun | Some kept ↦ get_check_of kept ]) found
-    ∙ ap (λ b. cond b (Some Absent) (cond (is_created k.copy.state) (Some NotSealed) (cond (is_sealed k.copy.state) (hold_check_of k) None))) stays
-    ∙ ap (λ state. cond (is_created state) (Some NotSealed) (cond (is_sealed state) (hold_check_of k) None)) is
+-- what stands against a copy in this state
+pub state_late : (row : Row) (id : ObjectId) (k : Kept) (state : CopyState) → at row.copies id ≡ Some k → k.copy.doomed ≡ false → k.copy.state ≡ state → copy_check row id ≡ get_check_by row.window.quota k state
+state_late row id k state found stays is =
+    ap (λ (o : Option Kept). elim o [ None ↦ fetch_check row.copies row.fetches_begun | Some kept ↦ get_check_of row.window.quota kept ]) found
+    ∙ ap (λ b. cond b (Some Absent) (get_check_by row.window.quota k k.copy.state)) stays
+    ∙ ap (get_check_by row.window.quota k) is
 
 -- an object whose task hasn't ended
-pub alive_late : (row : Row) (id : ObjectId) → is_remembered row.ended_tasks id.task ≡ false → copy_check row.copies row.fetches_begun id ≡ None → get_check row id ≡ None
-alive_late row id alive passed = ap (λ b. cond b (Some Gone) (copy_check row.copies row.fetches_begun id)) alive ∙ passed
+pub alive_late : (row : Row) (id : ObjectId) → is_remembered row.ended_tasks id.task ≡ false → copy_check row id ≡ None → get_check row id ≡ None
+alive_late row id alive passed = ap (λ b. cond b (Some Gone) (copy_check row id)) alive ∙ passed
 
 abbrev looked : Bool → Kept → Result (Option CopyState) Refusal
 looked doomed k = cond doomed (Err Absent) (Ok (Some k.copy.state))
@@ -95,6 +95,13 @@ some_at copies id state e = by (at copies id) refl e
     by : (o : Option Kept) → at copies id ≡ o → visible_state o ≡ Ok (Some state) → Visible copies id state
     by (Some k) found e = seen k found k.copy.doomed refl e
     by None found e = absurd cc
+
+-- of the copy that was found
+pub seen_at : (copies : ById Kept) (id : ObjectId) (state : CopyState) (k : Kept) → at copies id ≡ Some k → visible_state (at copies id) ≡ Ok (Some state) → (k.copy.doomed ≡ false) × (k.copy.state ≡ state)
+seen_at copies id state k found e =
+    let v = some_at copies id state e in
+    let same = some_value v.k k (sym v.found ∙ found) in
+    (ap (λ (k : Kept). k.copy.doomed) (sym same) ∙ v.stays, ap (λ (k : Kept). k.copy.state) (sym same) ∙ v.is)
 
 pub none_at : (copies : ById Kept) (id : ObjectId) → visible_state (at copies id) ≡ Ok None → at copies id ≡ None
 none_at copies id e = by (at copies id) e
@@ -119,13 +126,6 @@ doomed_at copies id r e = by (at copies id) refl e
     by : (o : Option Kept) → at copies id ≡ o → visible_state o ≡ Err r → (k : Kept) × (at copies id ≡ Some k) × (k.copy.doomed ≡ true) × (r ≡ Absent)
     by (Some k) found e = seen k found k.copy.doomed refl e
     by None found e = absurd cc
-
-sealed_is : (state : CopyState) → is_sealed state ≡ true → state ≡ Sealed
-sealed_is Created e = true_false e
-sealed_is Sealed e = refl
-sealed_is Restoring e = true_false e
-sealed_is Fetching e = true_false e
-sealed_is Away e = true_false e
 
 -- of an object whose task has ended
 pub gone_told : (node : ℕ) (row : Row) (beside : Beside) (contents : Contents) (session : ℕ) (id : ObjectId) → (id.job.0 == row.job) ≡ true → IsShown row beside contents → is_remembered row.ended_tasks id.task ≡ true
@@ -185,17 +185,6 @@ module _ (node : ℕ) (row : Row) (beside : Beside) (contents : Contents) (sessi
     pub restoring_told : k.copy.state ≡ Restoring → TakesStep node row beside contents x (only (reply.Refused Pending)) row beside
     restoring_told is = stays node row beside contents h x (reply.Refused Pending) (get_at Restoring is) refl refl refl
 
-    -- a copy that is away can't be there
-    pub pending_told : is_created k.copy.state ≡ false → is_sealed k.copy.state ≡ false → is_fetching k.copy.state ≡ false → TakesStep node row beside contents x (only (reply.Refused Pending)) row beside
-    pending_told made sealed fetching = by k.copy.state refl made sealed fetching
-      where
-        by : (state : CopyState) → k.copy.state ≡ state → is_created state ≡ false → is_sealed state ≡ false → is_fetching state ≡ false → TakesStep node row beside contents x (only (reply.Refused Pending)) row beside
-        by Created is a b f = false_true a
-        by Sealed is a b f = false_true b
-        by Restoring is a b f = restoring_told is
-        by Fetching is a b f = false_true f
-        by Away is a b f = true_false (ap (λ st. is_plain st k.copy.fetch) (sym is) ∙ (h.plain id k found).state)
-
     module _ (is : is_sealed k.copy.state ≡ true) where
       abbrev now : Copy
       now = with_holds k.copy session (holds_of k.copy session + 1)
@@ -227,7 +216,7 @@ module _ (node : ℕ) (row : Row) (beside : Beside) (contents : Contents) (sessi
       here = ap (λ t. is_some (at t id)) (sym copies_is) ∙ ap is_some (at-put_here (copies_of row.copies) id now)
 
       plain_now : IsPlain now
-      plain_now = let p = h.plain id k found in record { state = p.state; backed = p.backed; fault = p.fault }
+      plain_now = let p = h.plain id k found in record { state = p.state; backed = p.backed }
 
       m : Moves node row beside contents h x (erasing s c) (only (reply.Got k.copy.length)) row_held beside
       m = record {

@@ -13,7 +13,6 @@ pub mod Sealing
 pub mod Orders
 pub mod Getting
 pub mod Holding
-pub mod Fetching
 pub mod Settling
 pub mod Releasing
 pub mod Leaving
@@ -23,9 +22,14 @@ pub mod Totals
 pub mod Described
 pub mod Planning
 pub mod Removing
+pub mod Evicting
 pub mod Counting
 pub mod Replacing
 pub mod Dropping
+pub mod Fetching
+pub mod Faults
+pub mod Rooms
+pub mod Pulling
 pub mod Creating
 pub mod Asking
 pub mod Lending

@@ -41,7 +41,7 @@ use Rattle.node_table.specs.Scope.{with_copy}
 
 -- other holds leave a copy plain
 pub plain-holds : (copy : Copy) (session n : ℕ) → IsPlain copy → IsPlain (with_holds copy session n)
-plain-holds copy session n p = record { state = p.state; backed = p.backed; fault = p.fault }
+plain-holds copy session n p = record { state = p.state; backed = p.backed }
 
 module _ (node : ℕ) (row : Row) (beside : Beside) (contents : Contents) (session : ℕ) (id : ObjectId) (mine : (id.job.0 == row.job) ≡ true) (h : IsShown row beside contents) where
   abbrev s : Shape

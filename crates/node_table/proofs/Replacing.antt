@@ -6,14 +6,13 @@ use Rattle.std.specs.List.Sorted.{IsPermutation}
 use Rattle.std.proofs.lemmas.List.Elements.{filter-append}
 use Rattle.std.specs.Option.{option_and_then}
 use Rattle.std.specs.Map.{lookup}
-use Rattle.std.specs.FinMap.Entries.{find-where_key}
 use Rattle.std.proofs.lemmas.Bool.Decides.{nat_tests}
 use Rattle.std.proofs.lemmas.List.{length-replicate}
 use Rattle.obj_id.specs.declared.ids.ObjectId.{ObjectId}
 use Rattle.obj_id.specs.declared.works.Extent.{Extent}
-use Rattle.obj_id.specs.declared.commands.Kind.{Kind}
-use Rattle.obj_id.specs.Ids.{id_cmp, same_id}
-use Rattle.obj_id.proofs.SameIds.{id_cmp-IsAntisymmetric, same_id-equal, same_id-itself}
+use Rattle.obj_id.specs.Kinds.{is_primary}
+use Rattle.obj_id.specs.Ids.{same_id}
+use Rattle.obj_id.proofs.SameIds.{same_id-equal, same_id-itself}
 use Rattle.private_store.specs.Tables.{ById, at, with_entry, is_among}
 use Rattle.private_store.specs.Extents.{rounded}
 use Rattle.private_store.specs.Copies.{extent_of}
@@ -24,15 +23,12 @@ use Rattle.job_region.proofs.Places.{lookup-put_in, lookup-put_in_other}
 use Rattle.lru_evictor.specs.Facts.{gone_of}
 use Rattle.lru_evictor.specs.Orders.{without_id, last_used}
 use Rattle.lru_evictor.proofs.Free.{goes, without-permuted}
-use Rattle.node_table.specs.Entries.{without_all}
-use Rattle.node_table.specs.Kept.{Kept, new_kept}
+use Rattle.node_table.specs.Evicting.{all_evicted}
+use Rattle.node_table.specs.Kept.{Kept, unplaced}
 use Rattle.node_table.specs.RoomPlans.{facts_of}
 use Rattle.node_table.specs.Row.{place_of, ArePlaced}
+use Rattle.node_table.proofs.Evicting.{evicted_of, at-evicted}
 use Rattle.node_table.proofs.Described.{first_in, later_in, one_of, nothing_in}
-
--- what is left of a table
-pub at-without : {X : Type 0} (ids : List ObjectId) (es : ById X) (q : ObjectId) → at (without_all ids es) q ≡ cond (not (is_among ids q)) (at es q) None
-at-without ids es q = find-where_key id_cmp (λ x. not (is_among ids x)) q (λ x t. ap (λ y. not (is_among ids y)) (sym (id_cmp-IsAntisymmetric q x t))) es
 
 same_offset : (n : ℕ) → nat_eq n n ≡ true
 same_offset n = grind (arith, nat_tests)
@@ -152,10 +148,11 @@ beside p (x ∷ placed) e inside = by (nat_lt x.0 p.0) (beside p placed e) insid
 -- ---- the copies
 
 module _ (es : ById Kept) (placed : List (ℕ × List ℕ)) (h : ArePlaced placed (place_of es)) (victims : List ObjectId)
-    (id : ObjectId) (kind : Kind) (n offset : ℕ) (absent : at es id ≡ None) (stays : is_among victims id ≡ false)
+    (id : ObjectId) (k : Kept) (n offset : ℕ) (nowhere : place_of es id ≡ None) (stays : is_among victims id ≡ false)
+    (lies_there : extent_of k.copy ≡ Some (record { offset = offset; length = rounded n }))
     (fresh : lookup (nat_eq offset) (without (gone es victims) placed) ≡ None) where
   abbrev pub es_now : ById Kept
-  es_now = without_all victims (with_entry es id (new_kept kind n offset))
+  es_now = all_evicted victims (with_entry es id k)
 
   abbrev pub placed_now : List (ℕ × List ℕ)
   placed_now = put_in (offset, replicate (rounded n) 0) (without (gone es victims) placed)
@@ -163,20 +160,40 @@ module _ (es : ById Kept) (placed : List (ℕ × List ℕ)) (h : ArePlaced place
   abbrev new : Extent
   new = record { offset = offset; length = rounded n }
 
-  pub at_now : (q : ObjectId) → at es_now q ≡ cond (not (is_among victims q)) (cond (same_id q id) (Some (new_kept kind n offset)) (at es q)) None
-  at_now q = at-without victims (with_entry es id (new_kept kind n offset)) q ∙ ap (λ o. cond (not (is_among victims q)) o None) (at-put es id (new_kept kind n offset) q)
+  abbrev entered : ObjectId → Option Kept
+  entered q = cond (same_id q id) (Some k) (at es q)
 
-  -- an entry is the new one, or one that was there and is no victim
+  pub at_now : (q : ObjectId) → at es_now q ≡ cond (is_among victims q) (option_and_then evicted_of (entered q)) (entered q)
+  at_now q = at-evicted victims (with_entry es id k) q ∙ ap (λ o. cond (is_among victims q) (option_and_then evicted_of o) o) (at-put es id k q)
+
+  pub id_now : at es_now id ≡ Some k
+  id_now = at_now id ∙ (λ i. cond (stays i) (option_and_then evicted_of (entered id)) (cond (same_id-itself id i) (Some k) (at es id)))
+
+  -- an entry of another object: it was there, and is no victim, or gave up its place
+  pub record Was (q : ObjectId) (y : Kept) : Type 0 where
+    pub was : Kept
+    pub other : same_id q id ≡ false
+    pub found : at es q ≡ Some was
+    pub is : ((is_among victims q ≡ false) × (was ≡ y)) ⊎ ((is_among victims q ≡ true) × (is_primary was.copy.kind ≡ true) × (unplaced was ≡ y))
+
   abbrev pub Stands : ObjectId → Kept → Type 0
-  Stands q k = ((same_id q id ≡ true) × (new_kept kind n offset ≡ k)) ⊎ ((same_id q id ≡ false) × (is_among victims q ≡ false) × (at es q ≡ Some k))
+  Stands q y = ((same_id q id ≡ true) × (k ≡ y)) ⊎ Was q y
 
-  pub stands : (q : ObjectId) (k : Kept) → at es_now q ≡ Some k → Stands q k
-  stands q k found = by (is_among victims q) (same_id q id) refl refl (sym (at_now q) ∙ found)
+  pub stands : (q : ObjectId) (y : Kept) → at es_now q ≡ Some y → Stands q y
+  stands q y found = by (same_id q id) refl (is_among victims q) refl (at es q) refl (sym (at_now q) ∙ found)
     where
-      by : (a b : Bool) → is_among victims q ≡ a → same_id q id ≡ b → cond (not a) (cond b (Some (new_kept kind n offset)) (at es q)) None ≡ Some k → Stands q k
-      by true b v s e = none_some k e
-      by false true v s e = inl (s, some_value (new_kept kind n offset) k e)
-      by false false v s e = inr (s, v, e)
+      kind : (z : Kept) (p : Bool) → is_primary z.copy.kind ≡ p → cond p (Some (unplaced z)) None ≡ Some y → (is_primary z.copy.kind ≡ true) × (unplaced z ≡ y)
+      kind z true p e = (p, some_value (unplaced z) y e)
+      kind z false p e = none_some y e
+
+      by : (s : Bool) → same_id q id ≡ s → (a : Bool) → is_among victims q ≡ a → (o : Option Kept) → at es q ≡ o
+          → cond a (option_and_then evicted_of (cond s (Some k) o)) (cond s (Some k) o) ≡ Some y → Stands q y
+      by true s true v o f e = true_false (sym (sym v ∙ ap (is_among victims) (same_id-equal q id s) ∙ stays))
+      by true s false v o f e = inl (s, some_value k y e)
+      by false s true v None f e = none_some y e
+      by false s true v (Some z) f e = let p = kind z (is_primary z.copy.kind) refl e in inr (record { was = z; other = s; found = f; is = inr (v, p.0, p.1) })
+      by false s false v None f e = none_some y e
+      by false s false v (Some z) f e = inr (record { was = z; other = s; found = f; is = inl (v, some_value z y e) })
 
   -- where an old copy lies nothing goes
   unmoved : (q : ObjectId) (e : Extent) → is_among victims q ≡ false → place_of es q ≡ Some e → goes (gone es victims) e.offset ≡ false
@@ -205,22 +222,25 @@ module _ (es : ById Kept) (placed : List (ℕ × List ℕ)) (h : ArePlaced place
   place_now : (q : ObjectId) (e : Extent) → place_of es_now q ≡ Some e → ((q ≡ id) × (new ≡ e)) ⊎ ((is_among victims q ≡ false) × (place_of es q ≡ Some e))
   place_now q e lies = by (at es_now q) refl lies
     where
-      of : (k : Kept) → Stands q k → extent_of k.copy ≡ Some e → ((q ≡ id) × (new ≡ e)) ⊎ ((is_among victims q ≡ false) × (place_of es q ≡ Some e))
-      of k (inl t) lies = inl (same_id-equal q id t.0, some_value new e (ap (λ (k : Kept). extent_of k.copy) t.1 ∙ lies))
-      of k (inr t) lies = inr (t.1, ap (option_and_then (λ (k : Kept). extent_of k.copy)) t.2 ∙ lies)
+      of : (y : Kept) → Stands q y → extent_of y.copy ≡ Some e → ((q ≡ id) × (new ≡ e)) ⊎ ((is_among victims q ≡ false) × (place_of es q ≡ Some e))
+      of y (inl t) lies = inl (same_id-equal q id t.0, some_value new e (sym lies_there ∙ ap (λ (k : Kept). extent_of k.copy) t.1 ∙ lies))
+      of y (inr w) lies = elim w.is [
+        | inl t ↦ inr (t.0, ap (option_and_then (λ (k : Kept). extent_of k.copy)) (w.found ∙ ap Some t.1) ∙ lies)
+        | inr t ↦ none_some e (ap (λ (k : Kept). extent_of k.copy) t.2 ∙ lies)
+      ]
 
       by : (o : Option Kept) → at es_now q ≡ o → option_and_then (λ (k : Kept). extent_of k.copy) o ≡ Some e → ((q ≡ id) × (new ≡ e)) ⊎ ((is_among victims q ≡ false) × (place_of es q ≡ Some e))
       by None found lies = none_some e lies
-      by (Some k) found lies = of k (stands q k found) lies
+      by (Some y) found lies = of y (stands q y found) lies
 
   new_lies : place_of es_now id ≡ Some new
-  new_lies = ap (option_and_then (λ (k : Kept). extent_of k.copy)) (at_now id ∙ (λ i. cond (not (stays i)) (cond (same_id-itself id i) (Some (new_kept kind n offset)) (at es id)) None))
+  new_lies = ap (option_and_then (λ (k : Kept). extent_of k.copy)) id_now ∙ lies_there
 
   old_lies : (q : ObjectId) (e : Extent) → is_among victims q ≡ false → place_of es q ≡ Some e → place_of es_now q ≡ Some e
-  old_lies q e kept lies = ap (option_and_then (λ (k : Kept). extent_of k.copy)) (at_now q ∙ ap (λ a. cond (not a) (cond (same_id q id) (Some (new_kept kind n offset)) (at es q)) None) kept) ∙ by (same_id q id) refl
+  old_lies q e kept lies = ap (option_and_then (λ (k : Kept). extent_of k.copy)) (at_now q ∙ ap (λ a. cond a (option_and_then evicted_of (entered q)) (entered q)) kept) ∙ by (same_id q id) refl
     where
-      by : (b : Bool) → same_id q id ≡ b → option_and_then (λ (k : Kept). extent_of k.copy) (cond b (Some (new_kept kind n offset)) (at es q)) ≡ Some e
-      by true t = none_some e (ap (option_and_then (λ (k : Kept). extent_of k.copy)) (sym absent) ∙ ap (place_of es) (sym (same_id-equal q id t)) ∙ lies)
+      by : (b : Bool) → same_id q id ≡ b → option_and_then (λ (k : Kept). extent_of k.copy) (cond b (Some k) (at es q)) ≡ Some e
+      by true t = none_some e (sym nowhere ∙ ap (place_of es) (sym (same_id-equal q id t)) ∙ lies)
       by false t = lies
 
   there_now : (q : ObjectId) (e : Extent) → place_of es_now q ≡ Some e → IsAt e placed_now

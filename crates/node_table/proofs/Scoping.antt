@@ -72,7 +72,7 @@ doomed-minor k p = record {
   working = refl;
   granted = refl;
   backed = refl;
-  plain = record { state = p.state; backed = p.backed; fault = p.fault };
+  plain = record { state = p.state; backed = p.backed };
 }
 
 scoped-minor : (g : Kept → Kept) (k : Kept) → IsMinor g k → IsMinor (λ z. scoped (g z)) k
@@ -92,7 +92,7 @@ scoped-minor g k m = record {
 
     plain_by : (b : Bool) → IsPlain (cond b (g k) (doomed (g k))).copy
     plain_by true = m.plain
-    plain_by false = let p = m.plain in record { state = p.state; backed = p.backed; fault = p.fault }
+    plain_by false = let p = m.plain in record { state = p.state; backed = p.backed }
 
 -- ---- the definitions, of a copy that is there
 
@@ -233,7 +233,7 @@ module _ (node : ℕ) (row : Row) (beside : Beside) (contents : Contents) (sessi
     unpin_done_so passed keeps is posts told placed =
         let k = there (λ k. cond k.copy.doomed (Some Absent) (unpin_check_of k (same_task task id.task))) Absent (at row.copies id) passed in
         scoped_so (command.Unpin id task) (record { bytes = refl; digest = refl; received = refl }) (λ z. record z { copy = record z.copy { pinned = false } }) k.0 k.1
-        (record { lies = λ z. (refl, refl); digest = refl; keeps = λ keep. keep; working = refl; granted = refl; backed = refl; plain = let p = h.plain id k.0 k.1 in record { state = p.state; backed = p.backed; fault = p.fault } })
+        (record { lies = λ z. (refl, refl); digest = refl; keeps = λ keep. keep; working = refl; granted = refl; backed = refl; plain = let p = h.plain id k.0 k.1 in record { state = p.state; backed = p.backed } })
         (refl, refl) (past k.0.copy.doomed Absent _ k.2).0
         (unpin-is None passed ∙ ap (erasing s) (it (λ copy. commands.scoped s id (record copy { pinned = false })) k.0 k.1))
         keeps (is ∙ ap (λ o. option_map_or (λ (k : Kept). in_scope (record k.copy { pinned = false })) o false) k.1) posts told placed
@@ -273,7 +273,7 @@ module _ (node : ℕ) (row : Row) (beside : Beside) (contents : Contents) (sessi
     give_up_done_so passed keeps is posts told placed =
         let k = there (λ k. cond k.copy.doomed (Some Absent) (give_up_check_of k task)) Absent (at row.copies id) passed in
         scoped_so (command.GiveUp id task) (record { bytes = refl; digest = refl; received = refl }) (λ z. record z { copy = without_borrower z.copy task }) k.0 k.1
-        (record { lies = λ z. (refl, refl); digest = refl; keeps = λ keep. keep; working = refl; granted = refl; backed = refl; plain = let p = h.plain id k.0 k.1 in record { state = p.state; backed = p.backed; fault = p.fault } })
+        (record { lies = λ z. (refl, refl); digest = refl; keeps = λ keep. keep; working = refl; granted = refl; backed = refl; plain = let p = h.plain id k.0 k.1 in record { state = p.state; backed = p.backed } })
         (refl, refl) (past k.0.copy.doomed Absent _ k.2).0
         (give_up-is None passed ∙ ap (erasing s) (it (λ copy. commands.scoped s id (without_borrower copy task)) k.0 k.1))
         keeps (is ∙ ap (λ o. option_map_or (λ (k : Kept). in_scope (without_borrower k.copy task)) o false) k.1) posts told placed
@@ -353,7 +353,7 @@ module _ (node : ℕ) (row : Row) (beside : Beside) (contents : Contents) (sessi
         let k = there (λ k. cond k.copy.doomed (Some Absent) (borrow_check_of k task)) Absent (at row.copies id) alive.1 in
         let sound = (past k.0.copy.doomed Absent _ k.2).0 in
         stays_so node row beside contents h (input.Call session (command.Borrow id task)) (record { bytes = refl; digest = refl; received = refl }) id k.0 k.1 (borrowed task)
-        (record { lies = λ z. (refl, refl); digest = refl; keeps = λ keep. keep; working = refl; granted = refl; backed = refl; plain = let p = h.plain id k.0 k.1 in record { state = p.state; backed = p.backed; fault = p.fault } })
+        (record { lies = λ z. (refl, refl); digest = refl; keeps = λ keep. keep; working = refl; granted = refl; backed = refl; plain = let p = h.plain id k.0 k.1 in record { state = p.state; backed = p.backed } })
         [] []
         (borrow-is None passed ∙ ap (erasing s) (it (λ copy. done (set_copy s id (borrowed_copy copy))) k.0 k.1
         ∙ ap done (sym (settled-stays (set_copy s id (borrowed_copy k.0.copy)) id (borrowed_copy k.0.copy) (at-put_here s.copies id (borrowed_copy k.0.copy)) sound))))

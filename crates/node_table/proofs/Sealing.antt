@@ -1,5 +1,5 @@
 -- A row takes Seal.
-use Rattle.std.proofs.Common.{◌≡◌, ℕ, true, false, cond, ◌==◌, ◌⊎◌, inl, inr, List, [], ◌∷◌, map, take, Some, None, is_none, unwrap_or, refl, sym, ap, ◌∙◌}
+use Rattle.std.proofs.Common.{◌≡◌, ℕ, true, false, cond, ◌==◌, ◌⊎◌, inl, inr, List, [], ◌∷◌, map, take, Some, None, unwrap_or, refl, sym, ap, ◌∙◌}
 use Rattle.std.specs.Option.{option_map_or}
 use Rattle.obj_id.specs.declared.ids.ObjectId.{ObjectId}
 use Rattle.obj_id.specs.declared.works.Extent.{Extent}
@@ -10,8 +10,7 @@ use Rattle.obj_id.specs.declared.messages.Message.TheVariants.{ToDirectory}
 use Rattle.obj_id.specs.declared.messages.DirectoryMessage.TheVariants.{AddLocation}
 use Rattle.obj_id.specs.declared.refusals.Refusal.{Refusal}
 use Rattle.obj_id.specs.declared.refusals.Refusal.TheVariants.{Absent}
-use Rattle.obj_id.specs.declared.commands.CopyState.{CopyState}
-use Rattle.obj_id.specs.declared.commands.CopyState.TheVariants.{Created, Sealed, Restoring, Fetching, Away}
+use Rattle.obj_id.specs.declared.commands.CopyState.TheVariants.{Sealed}
 use Rattle.obj_id.specs.declared.commands.Command.TheVariants as command
 use Rattle.obj_id.specs.declared.commands.Reply.TheVariants as reply
 use Rattle.obj_id.specs.Ids.{same_id}
@@ -19,21 +18,20 @@ use Rattle.private_store.specs.declared.inputs.Input.{Input}
 use Rattle.private_store.specs.declared.inputs.Input.TheVariants as input
 use Rattle.private_store.specs.Tables.{at, with_entry}
 use Rattle.private_store.specs.Shape.{Copy, Shape, Change, add_location}
-use Rattle.private_store.specs.Copies.{extent_of, is_created}
+use Rattle.private_store.specs.Copies.{extent_of}
 use Rattle.private_store.specs.Room.{set_copy}
 use Rattle.private_store.specs.Change.{refused, done, erasing, sending}
 use Rattle.private_store.specs.Contents.{Contents, judge, bytes_at, digest_of, no_digest, keeps_digest}
 use Rattle.private_store.specs.Private.{Post, key_of, length_at}
 use Rattle.private_store.specs.Step.{step}
 use Rattle.private_store.proofs.Rows.{at-put, at-put_here}
-use Rattle.private_store.proofs.Tests.{true_false}
 use Rattle.job_region.specs.Region.{bytes_at as placed_bytes}
 use Rattle.lru_evictor.proofs.Reorders.{reordered-unused}
 use Rattle.node_table.specs.Entries.{changed}
 use Rattle.node_table.specs.Kept.{Kept, sealed}
 use Rattle.node_table.specs.Row.{Row, Beside, copies_of, shape_of}
 use Rattle.node_table.specs.Checks.{seal_check}
-use Rattle.node_table.specs.Shown.{seen, is_plain, IsPlain, IsShown, Given, only, TakesStep}
+use Rattle.node_table.specs.Shown.{seen, IsPlain, IsShown, Given, only, TakesStep}
 use Rattle.node_table.proofs.ByChecks.{unless_refused, called, own, seal_done, seal-by, sending-is}
 use Rattle.node_table.proofs.Changes.{changed-found}
 use Rattle.node_table.proofs.CopyTables.{at-copies_found, copies-changed}
@@ -99,14 +97,7 @@ module _ (node : ℕ) (row : Row) (beside : Beside) (contents : Contents) (sessi
       copies_is = sym (copies-changed (sealed digest) row.copies id k found)
 
       plain_now : IsPlain now
-      plain_now = let p = h.plain id k found in record { state = by k.copy.state w.created p.state; backed = p.backed; fault = p.fault }
-        where
-          by : (state : CopyState) → is_created state ≡ true → is_plain state k.copy.fetch ≡ true → is_none k.copy.fetch ≡ true
-          by Created e p = p
-          by Sealed e p = true_false e
-          by Restoring e p = true_false e
-          by Fetching e p = true_false e
-          by Away e p = true_false e
+      plain_now = record { state = refl; backed = (h.plain id k found).backed }
 
       m : Moves node row beside contents h x c told row_sealed beside
       m = record {

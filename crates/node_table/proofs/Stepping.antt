@@ -8,12 +8,12 @@ use Rattle.obj_id.specs.declared.commands.Reply.{Reply}
 use Rattle.obj_id.specs.Ids.{id_cmp}
 use Rattle.private_store.specs.declared.inputs.Input.{Input}
 use Rattle.private_store.specs.Tables.{ById, at, is_among}
-use Rattle.private_store.specs.Shape.{Copy, Seen, Change}
+use Rattle.private_store.specs.Shape.{Copy, Seen, Change, Sending}
 use Rattle.private_store.specs.Copies.{extent_of}
 use Rattle.private_store.specs.Change.{replied, erasing}
 use Rattle.private_store.specs.Step.{step, reordered}
 use Rattle.private_store.specs.Contents.{Contents, View, judge, bytes_at, keeps_digest, no_digest, bytes_brought, digest_brought, bytes_received, brought, kept, whole_reply}
-use Rattle.private_store.specs.Private.{posts_of, key_of, view_step, view_after}
+use Rattle.private_store.specs.Private.{Post, posts_of, key_of, view_step, view_after}
 use Rattle.private_store.specs.Kept.{IsViewKept, has_hand}
 use Rattle.private_store.proofs.Filling.{at-kept, kept_row, filled}
 use Rattle.private_store.proofs.RowContents.{default_same}
@@ -135,20 +135,33 @@ module _ (node : ℕ) (row : Row) (beside : Beside) (contents : Contents) (h : I
       ap (λ o. kept (λ (seen : Seen). true) (λ seen. []) (brought contents.received o) beside.received) none
       ∙ ap (λ t. kept (λ (seen : Seen). true) (λ seen. []) t beside.received) h.received ∙ kept_as_they_are beside.bytes beside.received
 
-  -- a step that leaves the store as it was
+  -- a step that leaves the store as it was, and sends these messages
+  abbrev pub telling : Reply ℕ → List Sending → Change
+  telling r sent = erasing (shape_of row beside) (record (replied (shape_of row beside) r) { sent = sent })
+
+  module _ (r : Reply ℕ) (sent : List Sending) (posts : List Post)
+      (bytes : bytes_brought before x (judge node before x) r ≡ None) (digests : digest_brought node before x r ≡ None) (none : bytes_received x ≡ None) where
+    pub same_moves : Moves (telling r sent) (record { reply = whole_reply before x r; posts = posts; erased = [] }) row beside
+    same_moves = record {
+      shape = refl;
+      order = sym (reordered-unused row.order (copies_of row.copies) h.there);
+      there = h.there;
+      listed = h.listed;
+      bytes = λ id k e found lies. ap (λ b. filled (at (brought contents.bytes b) id) k.copy) bytes ∙ same_bytes id k e found lies;
+      digests = λ id k found keeps. ap (λ d. unwrap_or (at (brought contents.digests d) id) no_digest) digests ∙ h.digests id k found keeps;
+      plain = h.plain;
+      working = h.working;
+      granted = h.granted;
+      received = received_stays none;
+      reply = refl;
+      erased = sym (ap (map (key_of row.job)) (keys_none (copies_of row.copies) (copies_of row.copies) (all_found (copies_of row.copies))));
+    }
+
+    pub tells : (is : change ≡ telling r sent) → posts ≡ flat_map (posts_of node (o (telling r sent) is (record { reply = whole_reply before x r; posts = posts; erased = [] }) row beside same_moves) x) sent
+        → TakesStep node row beside contents x (record { reply = whole_reply before x r; posts = posts; erased = [] }) row beside
+    tells is said = moved (telling r sent) is (record { reply = whole_reply before x r; posts = posts; erased = [] }) row beside same_moves said
+
+  -- one that sends nothing
   pub stays : (r : Reply ℕ) → change ≡ erasing (shape_of row beside) (replied (shape_of row beside) r) → bytes_brought before x (judge node before x) r ≡ None → digest_brought node before x r ≡ None → bytes_received x ≡ None
       → TakesStep node row beside contents x (only (whole_reply before x r)) row beside
-  stays r is bytes digests none = moved (erasing (shape_of row beside) (replied (shape_of row beside) r)) is (only (whole_reply before x r)) row beside (record {
-    shape = refl;
-    order = sym (reordered-unused row.order (copies_of row.copies) h.there);
-    there = h.there;
-    listed = h.listed;
-    bytes = λ id k e found lies. ap (λ b. filled (at (brought contents.bytes b) id) k.copy) bytes ∙ same_bytes id k e found lies;
-    digests = λ id k found keeps. ap (λ d. unwrap_or (at (brought contents.digests d) id) no_digest) digests ∙ h.digests id k found keeps;
-    plain = h.plain;
-    working = h.working;
-    granted = h.granted;
-    received = received_stays none;
-    reply = refl;
-    erased = sym (ap (map (key_of row.job)) (keys_none (copies_of row.copies) (copies_of row.copies) (all_found (copies_of row.copies))));
-  }) refl
+  stays r is bytes digests none = tells r [] [] bytes digests none is refl

@@ -1,20 +1,23 @@
 -- Why a command can't be carried out, in the order of its checks; its own job's object is meant.
-use Rattle.std.specs.Prelude.{ℕ, ◌+◌, ◌==◌, nat_lt, nat_le, Bool, not, ◌&&◌, ◌||◌, length, if◌then◌else◌, List, Option, Some, None, is_some, Result, Ok, Err}
+use Rattle.std.specs.Prelude.{ℕ, ◌+◌, ◌==◌, nat_lt, nat_le, Bool, not, ◌&&◌, ◌||◌, length, if◌then◌else◌, List, Option, Some, None, is_some, Result, Ok, Err, ◌≡◌, false, option_map}
+use Rattle.std.specs.Option.{option_map_or, option_and_then}
 use Rattle.obj_id.specs.declared.ids.ObjectId.{ObjectId}
 use Rattle.obj_id.specs.declared.commands.Command.{Command}
 use Rattle.obj_id.specs.declared.commands.Command.TheVariants as command
 use Rattle.obj_id.specs.declared.commands.CopyState.{CopyState}
+use Rattle.obj_id.specs.declared.commands.CopyState.TheVariants.{Created, Sealed, Restoring, Fetching, Away}
 use Rattle.obj_id.specs.declared.refusals.Refusal.{Refusal}
-use Rattle.obj_id.specs.declared.refusals.Refusal.TheVariants.{BadSize, Gone, Exists, Absent, AlreadySealed, NotSealed, NotHeld, OutOfBounds, TooMany, NotOwner, Granted}
+use Rattle.obj_id.specs.declared.refusals.Refusal.TheVariants.{BadSize, Gone, Exists, Absent, AlreadySealed, NotSealed, NotHeld, OutOfBounds, TooMany, NotOwner, Granted, Pending}
 use Rattle.obj_id.specs.declared.ids.TaskNo.{TaskNo}
 use Rattle.obj_id.specs.Ids.{same_task}
 use Rattle.obj_id.specs.Kinds.{is_primary}
 use Rattle.private_store.specs.Limits.{most_bytes, most_holds, most_copies, most_borrowers, has_numbers}
 use Rattle.private_store.specs.Tables.{ById, at}
 use Rattle.private_store.specs.Extents.{is_size}
-use Rattle.private_store.specs.Shape.{Copy}
+use Rattle.private_store.specs.Shape.{Copy, Fetch, Phase, locating, sized, pulling, failed}
 use Rattle.private_store.specs.Copies.{is_created, is_sealed}
-use Rattle.private_store.specs.Commands.{holds_of, all_holds, has_borrower, is_unsealed}
+use Rattle.private_store.specs.Commands.{holds_of, all_holds, has_borrower, is_unsealed, refusal_of, fetch_refusal}
+use Rattle.private_store.specs.declared.faults.Fault.{Fault}
 use Rattle.private_store.specs.Kept.{is_remembered}
 use Rattle.node_table.specs.Kept.{Kept}
 use Rattle.node_table.specs.Row.{Row}
@@ -77,19 +80,32 @@ fetch_check copies begun =
     if nat_le most_copies (length copies) then Some TooMany else
     (if has_numbers begun 1 then None else Some TooMany)
 
--- of an object that is asked for: it is held if it is sealed, and fetched if it isn't there. No event that is built
--- puts a copy away, or learns of a source
-abbrev pub get_check_of : Kept → Option Refusal
-get_check_of kept =
-    if kept.copy.doomed then Some Absent else
-    (if is_created kept.copy.state then Some NotSealed else (if is_sealed kept.copy.state then hold_check_of kept else None))
+-- of a fetch in this phase, of an object of n bytes: what it came to if it failed, and a length that the window can't have
+abbrev pub phase_check : ℕ → ℕ → Phase → Option Refusal
+phase_check window n locating = None
+phase_check window n (sized source) = if is_size window n then None else Some BadSize
+phase_check window n (pulling source missing) = None
+phase_check window n (failed fault) = Some (fetch_refusal fault)
+
+-- of an object that is asked for, by the state of its copy
+abbrev pub get_check_by : ℕ → Kept → CopyState → Option Refusal
+get_check_by window kept Created = Some NotSealed
+get_check_by window kept Sealed = hold_check_of kept
+get_check_by window kept Restoring = Some Pending
+get_check_by window kept Fetching = option_map_or (λ fetch. phase_check window kept.copy.length fetch.phase) kept.copy.fetch (Some Absent)
+get_check_by window kept Away = option_map refusal_of kept.copy.fault
+
+-- of an object that is asked for
+abbrev pub get_check_of : ℕ → Kept → Option Refusal
+get_check_of window kept = if kept.copy.doomed then Some Absent else get_check_by window kept kept.copy.state
 
 -- of an object whose task hasn't ended
-abbrev pub copy_check : ById Kept → ℕ → ObjectId → Option Refusal
-copy_check copies begun id = elim (at copies id) [ None ↦ fetch_check copies begun | Some kept ↦ get_check_of kept ]
+abbrev pub copy_check : Row → ObjectId → Option Refusal
+copy_check row id =
+    elim (at row.copies id) [ None ↦ fetch_check row.copies row.fetches_begun | Some kept ↦ get_check_of row.window.quota kept ]
 
 abbrev pub get_check : Row → ObjectId → Option Refusal
-get_check row id = if is_remembered row.ended_tasks id.task then Some Gone else copy_check row.copies row.fetches_begun id
+get_check row id = if is_remembered row.ended_tasks id.task then Some Gone else copy_check row id
 
 -- ---- scope
 
@@ -155,3 +171,22 @@ early_check row session _ = None
 abbrev pub visible_state : Option Kept → Result (Option CopyState) Refusal
 visible_state None = Ok None
 visible_state (Some kept) = if kept.copy.doomed then Err Absent else Ok (Some kept.copy.state)
+
+-- what the copy that is asked for has to tell of its last restore
+abbrev pub fault_at : ById Kept → ObjectId → Option Fault
+fault_at copies id = option_and_then (λ kept. kept.copy.fault) (at copies id)
+
+-- whether the source of the copy's fetch is known, and the window may have its length
+abbrev pub can_pull : ℕ → Copy → Phase → Bool
+can_pull window copy (sized source) = is_size window copy.length
+can_pull window copy _ = false
+
+abbrev pub can_pull_at : Row → ObjectId → Bool
+can_pull_at row id =
+    option_map_or (λ kept. option_map_or (λ fetch. can_pull row.window.quota kept.copy fetch.phase) kept.copy.fetch false) (at row.copies id) false
+
+-- the copy is in a fetch, and that in this phase
+pub record IsInPhase (copy : Copy) (phase : Phase) : Type 0 where
+  pub fetch : Fetch
+  pub found : copy.fetch ≡ Some fetch
+  pub is : fetch.phase ≡ phase

@@ -1,8 +1,8 @@
 -- Entries by object: a table of them, and a change of one of its entries, or of each.
-use Rattle.std.specs.Prelude.{not, List, [], ◌∷◌, map, filter, fold}
+use Rattle.std.specs.Prelude.{List, [], ◌∷◌, map, fold}
 use Rattle.std.specs.Option.{option_map_or}
 use Rattle.obj_id.specs.declared.ids.ObjectId.{ObjectId}
-use Rattle.private_store.specs.Tables.{ById, at, with_entry, is_among}
+use Rattle.private_store.specs.Tables.{ById, at, with_entry}
 
 -- the entries by rising id, however they stand; of two of one id the first counts
 abbrev pub by_rising_id : {X : Type 0} → List (ObjectId × X) → ById X
@@ -20,7 +20,3 @@ all_changed f table = map (λ e. (e.0, f e.1)) table
 -- the entries of these ids changed, one after the other
 abbrev pub each_changed : {X : Type 0} → (X → X) → ById X → List ObjectId → ById X
 each_changed f table ids = fold (changed f) table ids
-
--- no entry of any of these ids
-abbrev pub without_all : {X : Type 0} → List ObjectId → ById X → ById X
-without_all ids table = filter (λ e. not (is_among ids e.0)) table

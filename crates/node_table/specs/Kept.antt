@@ -1,16 +1,17 @@
 -- One copy as its row keeps it: the store's copy, its digest, and which work is in flight for it.
-use Rattle.std.specs.Prelude.{◌≡◌, ℕ, ◌+◌, ◌-◌, Bool, true, false, not, ◌&&◌, [], ◌∷◌, ◌++◌, Option, Some, None, if◌then◌else◌, is_none, option_map}
+use Rattle.std.specs.Prelude.{◌≡◌, ℕ, ◌+◌, ◌-◌, Bool, true, false, not, ◌&&◌, [], ◌∷◌, ◌++◌, Option, Some, None, if◌then◌else◌, is_none, option_map, ◌==◌, is_some}
 use Rattle.std.specs.Option.{option_map_or}
 use Rattle.obj_id.specs.declared.commands.Kind.{Kind}
-use Rattle.obj_id.specs.declared.commands.CopyState.TheVariants.{Sealed}
+use Rattle.obj_id.specs.declared.commands.CopyState.TheVariants.{Sealed, Away}
 use Rattle.obj_id.specs.declared.messages.Digest.{Digest}
 use Rattle.obj_id.specs.declared.works.WorkKind.{WorkKind}
 use Rattle.obj_id.specs.declared.works.WorkKind.TheVariants.{Write}
-use Rattle.private_store.specs.Shape.{Copy, Fetch}
+use Rattle.private_store.specs.Shape.{Copy, Fetch, Phase, sized, pulling}
 use Rattle.obj_id.specs.Kinds.{is_primary}
 use Rattle.obj_id.specs.declared.ids.TaskNo.{TaskNo}
 use Rattle.private_store.specs.Copies.{is_sealed, in_scope}
-use Rattle.private_store.specs.Commands.{new_copy, fetched_copy, with_holds, holds_of, without_borrower}
+use Rattle.private_store.specs.Commands.{new_copy, fetched_copy, with_holds, holds_of, without_borrower, counted, chunk_count}
+use Rattle.private_store.specs.Contents.{is_sized}
 use Rattle.object_state.specs.Marks.{Marks}
 use Rattle.pins_holds.specs.Pinned.{Pinned}
 use Rattle.fetch_core.specs.Fetching.{Fetching}
@@ -50,10 +51,19 @@ kept_of marks pins offset fetch granted =
       granted = granted;
     }
 
--- marks and fetch say the same of what both know
-pub record Agrees (marks : Marks) (pins : Pinned) (fetch : Option Fetching) : Type 0 where
+-- whether the source of a fetch is known, and its bytes not asked for
+abbrev pub is_unasked : Phase → Bool
+is_unasked (sized source) = true
+is_unasked _ = false
+
+-- marks, place and fetch say the same of what they know
+pub record Agrees (marks : Marks) (pins : Pinned) (offset : Option ℕ) (fetch : Option Fetching) : Type 0 where
   pub kind : pins.kind ≡ marks.kind
   pub length : option_map_or (λ f. f.length) fetch marks.length ≡ marks.length
+  -- what isn't asked for has no place yet
+  pub unasked : option_map_or (λ f. is_unasked f.phase) fetch false ≡ true → offset ≡ None
+  -- a fetch whose source is known has its digest
+  pub digest : option_map_or (λ f. is_sized f.phase) fetch false ≡ true → is_some marks.digest ≡ true
 
 -- ---- new copies
 
@@ -75,6 +85,10 @@ is_ready copy = is_sealed copy.state && not copy.doomed
 abbrev pub can_spill : Kept → Bool
 can_spill kept = is_sealed kept.copy.state && is_primary kept.copy.kind && is_none kept.copy.backed && is_none kept.working
 
+-- sealed, with its bytes on the device
+abbrev pub can_go_away : Kept → Bool
+can_go_away kept = is_sealed kept.copy.state && is_some kept.copy.backed
+
 -- ---- the changes
 
 abbrev pub held : ℕ → Kept → Kept
@@ -88,6 +102,10 @@ left session kept = record kept { copy = with_holds kept.copy session 0 }
 
 abbrev pub sealed : Digest → Kept → Kept
 sealed digest kept = record kept { copy = record kept.copy { state = Sealed }; digest = Some digest }
+
+-- its fault was told
+abbrev pub fault_told : Kept → Kept
+fault_told kept = record kept { copy = record kept.copy { fault = None } }
 
 abbrev pub spilling : Kept → Kept
 spilling kept = record kept { working = Some Write }
@@ -112,3 +130,25 @@ given_up task kept = scoped (record kept { copy = without_borrower kept.copy tas
 -- where it can be
 abbrev pub spilling_if : Kept → Kept
 spilling_if kept = if can_spill kept then spilling kept else kept
+
+-- it has no place any more, and is away where it can be
+abbrev pub unplaced : Kept → Kept
+unplaced kept =
+    record kept { copy = record kept.copy { state = if can_go_away kept then Away else kept.copy.state; offset = None } }
+
+-- a fetch of n bytes whose source is known: all chunks are missing
+abbrev pub with_chunks : ℕ → Fetch → Fetch
+with_chunks n fetch =
+    elim fetch.phase [
+      | sized source ↦ record fetch { phase = pulling source (counted 0 (chunk_count n)) }
+      | _ ↦ fetch
+    ]
+
+-- it has a place, and all chunks of its bytes are asked for
+abbrev pub pulled : ℕ → Kept → Kept
+pulled offset kept =
+    record kept { copy = record kept.copy { offset = Some offset; fetch = option_map (with_chunks kept.copy.length) kept.copy.fetch } }
+
+-- whether it is of n bytes, and has no place
+abbrev pub waits_for_place : ℕ → Kept → Bool
+waits_for_place n kept = is_none kept.copy.offset && kept.copy.length == n

@@ -8,7 +8,8 @@ pub mod Erased
 pub mod Outcomes
 pub mod Usages
 pub mod RoomPlans
-pub mod Creating
+pub mod Evicting
+pub mod MadeRooms
 pub mod Dropping
 pub mod Holding
 pub mod Asked

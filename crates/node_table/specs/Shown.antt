@@ -1,5 +1,5 @@
 -- Which contents a row shows of its job's store, and what it is that a row takes the private step.
-use Rattle.std.specs.Prelude.{◌≡◌, ℕ, Bool, true, false, is_none, None, if◌then◌else◌, List, [], find, take, length, Option, Some, unwrap_or, option_map}
+use Rattle.std.specs.Prelude.{◌≡◌, ℕ, Bool, true, is_some, None, if◌then◌else◌, List, [], find, take, length, Option, Some, unwrap_or, option_map}
 use Rattle.obj_id.specs.declared.ids.ObjectId.{ObjectId}
 use Rattle.obj_id.specs.declared.works.DeviceKey.{DeviceKey}
 use Rattle.obj_id.specs.declared.works.Extent.{Extent}
@@ -9,12 +9,12 @@ use Rattle.obj_id.specs.declared.commands.Reply.{Reply}
 use Rattle.obj_id.specs.Ids.{same_id}
 use Rattle.private_store.specs.declared.inputs.Input.{Input}
 use Rattle.private_store.specs.Tables.{ById, at, is_among}
-use Rattle.std.specs.Option.{option_map_or}
 use Rattle.obj_id.specs.declared.commands.CopyState.{CopyState}
-use Rattle.obj_id.specs.declared.commands.CopyState.TheVariants.{Created, Sealed, Fetching}
-use Rattle.private_store.specs.Shape.{Copy, Fetch, WorkInFlight}
+use Rattle.obj_id.specs.declared.commands.CopyState.TheVariants.{Away}
+use Rattle.private_store.specs.declared.faults.Fault.{Fault}
+use Rattle.private_store.specs.Shape.{Copy, WorkInFlight}
 use Rattle.private_store.specs.Copies.{extent_of}
-use Rattle.private_store.specs.Contents.{Contents, View, bytes_at, digest_at, keeps_digest, no_digest, is_locating}
+use Rattle.private_store.specs.Contents.{Contents, View, bytes_at, digest_at, keeps_digest, no_digest}
 use Rattle.private_store.specs.Private.{Post, view_step}
 use Rattle.private_store.specs.Kept.{IsViewKept, has_hand}
 use Rattle.job_region.specs.Region.{bytes_at as placed_bytes}
@@ -27,22 +27,19 @@ use Rattle.node_table.specs.Row.{Row, Beside, copies_of, received_bytes, shape_o
 abbrev pub work_on : List WorkInFlight → ObjectId → Option WorkKind
 work_on works id = option_map (λ w. if w.writes then Write else Read) (find (λ w. same_id id w.id) works)
 
-abbrev pub is_plain : CopyState → Option Fetch → Bool
-is_plain Created fetch = is_none fetch
-is_plain Sealed fetch = is_none fetch
-is_plain Fetching fetch = option_map_or (λ f. is_locating f.phase) fetch false
-is_plain _ fetch = false
+-- whether Get of the copy is built: it isn't away without a fault
+abbrev pub is_plain : CopyState → Option Fault → Bool
+is_plain Away fault = is_some fault
+is_plain _ fault = true
 
 -- the view of a job: its row, what stands beside it, and contents
 abbrev pub seen : Row → Beside → Contents → View
 seen row beside contents = record { shape = shape_of row beside; order = row.order; contents = contents }
 
--- a copy as the events that are built make them: written, sealed, or on its way from an unknown source,
--- and not on the device
+-- a copy as the events that are built make them: Get of it is built, and it isn't on the device
 pub record IsPlain (copy : Copy) : Type 0 where
-  pub state : is_plain copy.state copy.fetch ≡ true
+  pub state : is_plain copy.state copy.fault ≡ true
   pub backed : copy.backed ≡ None
-  pub fault : copy.fault ≡ None
 
 -- the row shows these contents: they are what lies in its window, the digests that it keeps, and what was received
 pub record IsShown (row : Row) (beside : Beside) (contents : Contents) : Type 0 where

@@ -1,10 +1,8 @@
 //! Why a command can't be carried out.
 ghost use Rattle.std.specs.Prelude.{◌≡◌, if◌then◌else◌, Some, None, option_map};
 ghost use Rattle.obj_id.specs.declared.refusals.Refusal.TheVariants.{Absent, Granted};
-ghost use Rattle.node_table.specs.Checks.{write_check_of, write_check as write_check_lem, seal_check_of, seal_check as seal_check_lem, read_check_of, read_check as read_check_lem, lend_check_of, lend_check as lend_check_lem, fetch_check as fetch_check_lem, create_check as create_check_lem, unpin_check_of, unpin_check as unpin_check_lem, give_up_check_of, give_up_check as give_up_check_lem, delete_check as delete_check_lem, visible_state as visible_state_lem};
+ghost use Rattle.node_table.specs.Checks.{write_check_of, write_check as write_check_lem, seal_check_of, seal_check as seal_check_lem, read_check_of, read_check as read_check_lem, lend_check_of, lend_check as lend_check_lem, fetch_check as fetch_check_lem, create_check as create_check_lem, unpin_check_of, unpin_check as unpin_check_lem, give_up_check_of, give_up_check as give_up_check_lem, delete_check as delete_check_lem, visible_state as visible_state_lem, fault_at};
 ghost use Rattle.private_store.specs.Tables.{at};
-ghost use Rattle.private_store.specs.Shape.{Fetch};
-ghost use Rattle.node_table.specs.Kept.{Kept};
 ghost use Rattle.node_table.specs.Row.{copies_of};
 
 use crate::copies::Copies;
@@ -12,6 +10,7 @@ use crate::copy::RowCopy;
 use crate::row::JobRow;
 use obj_id::limits::{MOST_BYTES, MOST_COPIES};
 use obj_id::{CopyState, ObjectId, Refusal, TaskNo};
+use private_store::Fault;
 
 impl RowCopy {
     /// Why `len` bytes can't be written from the offset on: `Absent`, `AlreadySealed`, `OutOfBounds`.
@@ -192,14 +191,11 @@ impl Copies {
         None
     }
 
-    /// The number of the fetch that brings the object; 0 where none does.
-    pub fn fetch_of(&self, id: &ObjectId) -> u64
-        ensures { (k : Kept) (f : Fetch) → at self.now id.now ≡ Some k → k.copy.fetch ≡ Some f → result ≡ f.number }
+    /// What the copy has to tell of its last restore, if there is a copy.
+    pub fn fault(&self, id: &ObjectId) -> Option<Fault>
+        ensures { result ≡ fault_at self.now id.now }
     {
-        let Some(copy) = self.get(id) else {
-            return 0;
-        };
-        copy.fetch_number().unwrap_or(0)
+        self.get(id)?.fault()
     }
 
     /// The state of the copy, if there is one. `Absent` if it is doomed.

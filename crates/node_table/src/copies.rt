@@ -1,10 +1,11 @@
 //! The copies of a job, by their ids.
 ghost use Rattle.std.specs.Option.{option_copied, option_map_or, option_and_then};
 ghost use Rattle.private_store.specs.Tables.{at, with_entry, without_entry};
-ghost use Rattle.node_table.specs.Entries.{changed, all_changed, each_changed, without_all};
-ghost use Rattle.node_table.specs.Kept.{released, left, sealed, spilling_if, unpinned, borrowed, given_up, doomed};
+ghost use Rattle.node_table.specs.Entries.{changed, all_changed, each_changed};
+ghost use Rattle.node_table.specs.Kept.{released, left, sealed, spilling_if, unpinned, borrowed, given_up, doomed, Kept, fault_told, unplaced, pulled};
 ghost use Rattle.private_store.specs.Copies.{is_created, in_scope};
-ghost use Rattle.private_store.specs.Commands.{without_borrower};
+ghost use Rattle.private_store.specs.Commands.{without_borrower, counted, chunk_count};
+ghost use Rattle.node_table.specs.Evicting.{has_secondary, evicted_one, all_evicted};
 ghost use Rattle.obj_id.specs.declared.refusals.Refusal.{Refusal};
 ghost use Rattle.obj_id.specs.declared.refusals.Refusal.TheVariants.{NoMemory};
 ghost use Rattle.node_table.specs.Checks.{release_check, borrow_check};
@@ -123,12 +124,50 @@ impl Copies {
         self.by_id.swap_remove(id);
     }
 
-    /// The copies of these ids go, as far as they are there. Takes no memory.
-    pub fn remove_all(&mut self, ids: &[ObjectId])
-        ensures { self.new ≡ without_all ids.now self.old }
+    /// Whether there is a copy of the id.
+    pub fn has(&self, id: &ObjectId) -> bool
+        ensures { result ≡ is_some (at self.now id.now) }
+    {
+        self.get(id).is_some()
+    }
+
+    /// Whether there is a copy of the id that a transfer made.
+    pub fn has_secondary(&self, id: &ObjectId) -> bool
+        ensures { result ≡ has_secondary self.now id.now }
+    {
+        match self.get(id) {
+            Some(copy) => !copy.kind().is_primary(),
+            None => false,
+        }
+    }
+
+    /// The copy has no place in the window any more, if there is one.
+    fn give_up_place(&mut self, id: &ObjectId)
+        ensures { self.new ≡ changed unplaced self.old id.now }
+    {
+        let Some(copy) = self.by_id.get_mut(id) else {
+            return;
+        };
+        copy.give_up_place();
+    }
+
+    /// The copy is evicted, if there is one: a secondary is removed, and a primary stays without a place.
+    fn evict(&mut self, id: &ObjectId)
+        ensures { self.new ≡ evicted_one self.old id.now }
+    {
+        if self.has_secondary(id) {
+            self.remove(id);
+        } else {
+            self.give_up_place(id);
+        }
+    }
+
+    /// The copies of these ids are evicted, as far as they are there. Takes no memory.
+    pub fn evict_all(&mut self, ids: &[ObjectId])
+        ensures { self.new ≡ all_evicted ids.now self.old }
     {
         for id in ids {
-            self.remove(id);
+            self.evict(id);
         }
     }
 
@@ -188,6 +227,28 @@ impl Copies {
             return;
         };
         copy.seal(digest);
+    }
+
+    /// The fault of the copy was told.
+    pub fn forget_fault(&mut self, id: &ObjectId)
+        ensures { self.new ≡ changed fault_told self.old id.now }
+    {
+        let Some(copy) = self.by_id.get_mut(id) else {
+            return;
+        };
+        copy.forget_fault();
+    }
+
+    /// The copy has a place at the offset, and if its source is known its bytes are asked for there: these chunks are
+    /// missing, which are all.
+    pub fn begin_pull(&mut self, id: &ObjectId, offset: u64, missing: Vec<u32>)
+        requires { (k : Kept) → at self.old id.now ≡ Some k → missing.items ≡ counted 0 (chunk_count k.copy.length) }
+        ensures { self.new ≡ changed (pulled offset) self.old id.now }
+    {
+        let Some(copy) = self.by_id.get_mut(id) else {
+            return;
+        };
+        copy.begin_pull(offset, missing);
     }
 
     /// The owner task keeps the copy no longer: it is doomed unless a task borrows it. Takes no memory.

@@ -1,15 +1,17 @@
 //! One copy of a row.
 ghost use Rattle.std.specs.Prelude.{◌≡◌, ◌≢◌, ◌+◌, ◌==◌, nat_le, if◌then◌else◌, true, false, Some, None, IfOk, IfErr, IfSome, IfNone, OnOk, OnErr, IsErrOf, IsOk, is_some, option_map};
+ghost use Rattle.std.specs.Option.{option_copied, option_map_or};
 ghost use Rattle.obj_id.specs.declared.refusals.Refusal.{Refusal};
 ghost use Rattle.obj_id.specs.declared.refusals.Refusal.TheVariants.{NoMemory};
 ghost use Rattle.obj_id.specs.Kinds.{is_primary};
 ghost use Rattle.private_store.specs.Copies.{extent_of, is_created, is_held, in_scope};
-ghost use Rattle.private_store.specs.Commands.{holds_of as holds_of_lem, without_borrower};
+ghost use Rattle.private_store.specs.Commands.{holds_of as holds_of_lem, without_borrower, counted, chunk_count};
 ghost use Rattle.private_store.specs.Extents.{rounded as rounded_lem};
 ghost use Rattle.node_table.specs.RoomPlans.{facts_of};
-ghost use Rattle.node_table.specs.Kept.{new_kept, fetched_kept, released, left, sealed, spilling, spilling_if, can_spill, unpinned, borrowed, given_up, doomed, scoped};
+ghost use Rattle.node_table.specs.Kept.{new_kept, fetched_kept, released, left, sealed, spilling, spilling_if, can_spill, unpinned, borrowed, given_up, doomed, scoped, fetch_of, fault_told, unplaced, is_unasked, pulled};
 ghost use Rattle.node_table.specs.Checks.{release_check_of as release_check, borrow_check_of};
 ghost use Rattle.node_table.specs.Scope.{farewell as farewell_of};
+ghost use Rattle.private_store.specs.Contents.{is_sized};
 ghost use Rattle.node_table.specs.Holding.{IsHeld, IsUnready, IsHoldRefused};
 ghost use Rattle.node_table.specs.Usages.{is_spilling as is_spilling_lem};
 ghost use Rattle.node_table.specs.Dropping.{is_over as is_over_lem};
@@ -19,7 +21,7 @@ use lru_evictor::CopyFacts;
 use obj_id::{CopyState, Digest, DirectoryMessage, Extent, Kind, ObjectId, Refusal, TaskNo, WorkKind};
 use object_state::ObjectCopy;
 use pins_holds::Pins;
-use private_store::rounded;
+use private_store::{Fault, rounded};
 use std::alloc::Global;
 use std::marker::Model;
 
@@ -43,7 +45,7 @@ impl Model for RowCopy {
 
     ghost view = { λ c. kept_of c.marks c.pins c.offset c.fetch c.granted };
 
-    ghost invariant = { λ c. Agrees c.marks c.pins c.fetch };
+    ghost invariant = { λ c. Agrees c.marks c.pins c.offset c.fetch };
 }
 
 impl RowCopy {
@@ -96,7 +98,8 @@ impl RowCopy {
 
     /// Where its bytes begin in the window, if it is resident.
     pub fn offset(&self) -> Option<u64>
-        ensures { result ≡ self.now.copy.offset }
+        ensures offset { result ≡ self.now.copy.offset }
+        ensures unasked { option_map_or (λ f. is_unasked f.phase) self.now.copy.fetch false ≡ true → result ≡ None }
     {
         self.offset
     }
@@ -126,11 +129,33 @@ impl RowCopy {
         self.marks.working().is_some()
     }
 
-    /// The number of the fetch that brings it, if it is on its way.
-    pub fn fetch_number(&self) -> Option<u64>
-        ensures { result ≡ option_map (λ f. f.number) self.now.copy.fetch }
+    /// The fetch that brings it, if it is on its way.
+    pub fn fetch(&self) -> Option<&FetchIn>
+        ensures { option_map fetch_of (option_copied result) ≡ self.now.copy.fetch }
     {
-        Some(self.fetch.as_ref()?.number())
+        self.fetch.as_ref()
+    }
+
+    /// The digest of its bytes: from the seal, or from the source that its fetch chose.
+    pub fn digest(&self) -> Option<Digest>
+        ensures digest { result ≡ self.now.digest }
+        ensures fetched { option_map_or (λ f. is_sized f.phase) self.now.copy.fetch false ≡ true → is_some result ≡ true }
+    {
+        self.marks.digest()
+    }
+
+    /// What the next Get is told of its last restore, if that failed and no Get was told since.
+    pub fn fault(&self) -> Option<Fault>
+        ensures { result ≡ self.now.copy.fault }
+    {
+        self.marks.fault()
+    }
+
+    /// Its fault was told.
+    pub fn forget_fault(&mut self)
+        ensures { self.new ≡ fault_told self.old }
+    {
+        self.marks.take_fault();
     }
 
     /// Whether its bytes are on the device.
@@ -333,6 +358,28 @@ impl RowCopy {
         ensures { self.new ≡ spilling self.old }
     {
         self.marks.begin_spill();
+    }
+
+    /// It has no place in the window any more, and is away if it is sealed and its bytes are on the device.
+    pub fn give_up_place(&mut self)
+        ensures { self.new ≡ unplaced self.old }
+    {
+        if self.marks.can_go_away() {
+            self.marks.mark_away();
+        }
+        self.offset = None;
+    }
+
+    /// It has a place at the offset, and if its source is known its bytes are asked for there: these chunks are missing,
+    /// which are all.
+    pub fn begin_pull(&mut self, offset: u64, missing: Vec<u32>)
+        requires { missing.items ≡ counted 0 (chunk_count self.old.copy.length) }
+        ensures { self.new ≡ pulled offset self.old }
+    {
+        if let Some(fetch) = self.fetch.as_mut() {
+            fetch.begin_with(missing);
+        }
+        self.offset = Some(offset);
     }
 
     /// A write of it is in flight, where it is a sealed primary that isn't on the device and has no work.

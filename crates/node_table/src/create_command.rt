@@ -11,19 +11,20 @@ ghost use Rattle.private_store.specs.Hands.{Hand};
 ghost use Rattle.spill_work.specs.Line.{same_job, IsSameFor};
 ghost use Rattle.node_table.specs.Asked.{HasAsked};
 ghost use Rattle.node_table.specs.Checks.{create_check as create_check_lem};
-ghost use Rattle.node_table.specs.Creating.{removals as removals_lem};
+ghost use Rattle.node_table.specs.Evicting.{removals as removals_lem};
+ghost use Rattle.node_table.specs.Kept.{Kept};
+ghost use Rattle.private_store.specs.Tables.{ById};
 ghost use Rattle.node_table.specs.Outcomes.{given_of};
-ghost use Rattle.node_table.specs.RoomPlans.{MakesPlace, AsksWrites};
+ghost use Rattle.node_table.specs.RoomPlans.{MakesPlace};
 ghost use Rattle.node_table.specs.Row.{Beside, beside_of, shape_of};
 ghost use Rattle.node_table.specs.Shown.{IsShown, TakesStep};
 
+use crate::copies::Copies;
 use crate::get_command::told;
 use crate::outcome::{Erase, Outcome};
-use crate::room::RoomPlan;
+use crate::room::MadeRoom;
 use crate::row::JobRow;
-use obj_id::{
-    DirectoryMessage, Items, JobNo, Kind, Message, ObjectId, Place, Refusal, Reply, WorkKind,
-};
+use obj_id::{DirectoryMessage, Items, Kind, Message, ObjectId, Place, Refusal, Reply};
 use spill_work::Works;
 use std::alloc::{AllocError, Global};
 
@@ -56,16 +57,11 @@ impl JobRow {
         if let Some(refusal) = self.create_check(id, len) {
             return told(alloc, refusal);
         }
-        match self.plan_room(alloc, works, len)? {
-            RoomPlan::Place(victims) => {
+        match self.room_for(alloc, id.job(), works, len)? {
+            MadeRoom::Place(victims) => {
                 self.create_in_place(alloc, node, id, kind, len, victims.as_slice())
             }
-            RoomPlan::Ask(ids) => self.ask_writes(alloc, id.job(), works, ids.as_slice()),
-            RoomPlan::TellFailedSpill => {
-                self.forget_failed_spill();
-                told(alloc, Refusal::DeviceFailed)
-            }
-            RoomPlan::Refuse(refusal) => told(alloc, refusal),
+            MadeRoom::Told(refusal) => told(alloc, refusal),
         }
     }
 
@@ -95,7 +91,7 @@ impl JobRow {
         if victims.len() > self.copies().len() {
             return told(alloc, Refusal::Full);
         }
-        let messages = removals(alloc, node, victims)?;
+        let messages = removals(alloc, node, self.copies(), victims)?;
         let Some(extent) = self.replace_copies(alloc, id, kind, len, victims)? else {
             return told(alloc, Refusal::Full);
         };
@@ -105,48 +101,23 @@ impl JobRow {
             erase: Erase::NoKey,
         })
     }
-
-    /// Asks for the job's writes of these copies, which is told `Pending`.
-    fn ask_writes(
-        &mut self,
-        alloc: Global,
-        job: JobNo,
-        works: &mut Works,
-        ids: &[ObjectId],
-    ) -> Result<Outcome, Refusal>
-        ensures ok { IfOk result (λ o. (node session : ℕ) (hands : List Hand) (bytes : ObjectId → List ℕ) (contents : Contents) → (id : ObjectId) (kind : Kind) (n : ℕ) → (id.job.0 == self.old.job) ≡ true → job ≡ record { 0 = self.old.job } → IsShown self.old (beside_of works.old hands bytes self.old.job) contents
-            → create_check_lem self.old id n ≡ None
-            → AsksWrites (make_room self.old.order (shape_of self.old (beside_of works.old hands bytes self.old.job)) n) (shape_of self.old (beside_of works.old hands bytes self.old.job)) ids.now
-            → TakesStep node self.old (beside_of works.old hands bytes self.old.job) contents (input.Call session (command.Create id kind n)) (given_of o) self.new (beside_of works.new hands bytes self.old.job)) }
-        ensures silent { IfOk result (λ o. o.messages ≡ []) }
-        ensures line { OnOk result (HasAsked works.old job works.new) }
-        ensures others { (other : JobNo) → same_job job other ≡ false → IsSameFor other works.old works.new }
-        ensures memory { (r : Refusal) → IsErrOf result r → r ≡ NoMemory }
-        ensures err { OnErr result (self.new ≡ self.old) }
-        ensures works { OnErr result (works.new ≡ works.old) }
-    {
-        // a plan asks for no more works than there may be
-        if !works.room_for(job, ids.len()) {
-            return told(alloc, Refusal::Busy);
-        }
-        works.ask_all(alloc, job, ids, WorkKind::Write)?;
-        self.spill_copies(ids);
-        told(alloc, Refusal::Pending)
-    }
 }
 
-/// What the directory is told of copies that are no longer at the node.
-fn removals(
+/// What the directory is told of evictions: that a secondary is no longer at the node.
+pub(crate) fn removals(
     alloc: Global,
     node: u32,
+    copies: &Copies,
     ids: &[ObjectId],
 ) -> Result<Items<(Place, Message)>, AllocError>
-    ensures { IfOk result (λ messages. messages ≡ removals_lem node ids.now) }
+    ensures { IfOk result (λ messages. messages ≡ removals_lem node copies.now ids.now) }
 {
     let mut messages = Items::new(alloc);
     for id in ids {
-        let message = Message::ToDirectory(DirectoryMessage::RemoveLocation(*id, node));
-        messages.push((Place::Directory, message))?;
+        if copies.has_secondary(id) {
+            let message = Message::ToDirectory(DirectoryMessage::RemoveLocation(*id, node));
+            messages.push((Place::Directory, message))?;
+        }
     }
     Ok(messages)
 }

@@ -1,14 +1,14 @@
 //! Get: a hold on a copy that is here, and else what brings it here.
-ghost use Rattle.std.specs.Prelude.{◌≡◌, ◌==◌, ℕ, ◌+◌, ◌≤◌, List, length, true, false, Some, None, IsOk, IfOk, IfSome, IfNone, OnOk, OnErr, IsErrOf};
+ghost use Rattle.std.specs.Prelude.{◌≡◌, [], ◌==◌, ℕ, ◌+◌, ◌≤◌, List, length, true, false, Some, None, IsOk, IfOk, IfSome, IfNone, OnOk, OnErr, IsErrOf};
 ghost use Rattle.std.specs.Option.{option_map_or};
 ghost use Rattle.obj_id.specs.declared.ids.JobNo.{JobNo};
 ghost use Rattle.obj_id.specs.declared.refusals.Refusal.{Refusal};
-ghost use Rattle.obj_id.specs.declared.refusals.Refusal.TheVariants.{NoMemory};
+ghost use Rattle.obj_id.specs.declared.refusals.Refusal.TheVariants.{NoMemory, Pending};
 ghost use Rattle.obj_id.specs.declared.commands.Command.TheVariants as command;
 ghost use Rattle.obj_id.specs.declared.commands.Reply.TheVariants as reply;
 ghost use Rattle.private_store.specs.declared.inputs.Input.TheVariants as input;
 ghost use Rattle.private_store.specs.Tables.{at};
-ghost use Rattle.private_store.specs.Kept.{is_fetching, is_remembered};
+ghost use Rattle.private_store.specs.Kept.{is_remembered};
 ghost use Rattle.private_store.specs.Contents.{Contents};
 ghost use Rattle.private_store.specs.Private.{to_directory};
 ghost use Rattle.obj_id.specs.declared.messages.DirectoryMessage.TheVariants.{Locate};
@@ -17,7 +17,7 @@ ghost use Rattle.spill_work.specs.Line.{same_job, IsSameFor};
 ghost use Rattle.node_table.specs.Asked.{HasAsked};
 ghost use Rattle.node_table.specs.Row.{Beside, beside_of};
 ghost use Rattle.node_table.specs.Checks.{copy_check, get_check, fetch_check as fetch_check_lem};
-ghost use Rattle.node_table.specs.Kept.{Kept, is_ready};
+ghost use Rattle.node_table.specs.Kept.{is_ready};
 ghost use Rattle.node_table.specs.Outcomes.{given_of};
 ghost use Rattle.node_table.specs.Shown.{IsShown, TakesStep, only};
 
@@ -38,7 +38,7 @@ impl JobRow {
         ensures none { IfOk result (λ o. IfNone o (option_map_or (λ k. is_ready k.copy) (at self.old.copies id.now) false ≡ false)) }
         ensures same { IfOk result (λ o. IfNone o (self.new ≡ self.old)) }
         ensures memory { (r : Refusal) → IsErrOf result r → r ≡ NoMemory }
-        ensures late { OnErr result (copy_check self.old.copies self.old.fetches_begun id.now ≡ None) }
+        ensures late { OnErr result (copy_check self.old id.now ≡ None) }
         ensures err { OnErr result (self.new ≡ self.old) }
     {
         match self.hold_copy(id, session) {
@@ -60,7 +60,7 @@ impl JobRow {
             → TakesStep node self.old beside contents (input.Call session (command.Get id.now)) (given_of o) self.new beside) }
         ensures few { IfOk result (λ o. length o.messages ≤ 1) }
         ensures memory { (r : Refusal) → IsErrOf result r → r ≡ NoMemory }
-        ensures late { OnErr result (copy_check self.old.copies self.old.fetches_begun id.now ≡ None) }
+        ensures late { OnErr result (copy_check self.old id.now ≡ None) }
         ensures err { OnErr result (self.new ≡ self.old) }
     {
         let begun = self.fetches_begun();
@@ -69,44 +69,31 @@ impl JobRow {
         }
         let messages = locate(alloc, node, *id, begun + 1)?;
         self.enter_fetch(alloc, id, begun + 1)?;
-        Ok(Outcome {
-            reply: Reply::Refused(Refusal::Pending),
-            messages,
-            erase: Erase::NoKey,
-        })
+        Ok(pending(messages))
     }
 }
 
 impl JobRow {
-    /// Get of an object that is on its way and whose source isn't known yet: it is asked for again, and
-    /// the answer is `Pending`. Changes nothing; the error is out of memory.
-    fn locate_again(&self, alloc: Global, node: u32, id: &ObjectId) -> Result<Outcome, Refusal>
-        requires { is_remembered self.now.ended_tasks id.now.task ≡ false }
-        ensures ok { IfOk result (λ o. (session : ℕ) (beside : Beside) (contents : Contents) → (id.now.job.0 == self.now.job) ≡ true → IsShown self.now beside contents
-            → (k : Kept) → at self.now.copies id.now ≡ Some k → k.copy.doomed ≡ false → is_fetching k.copy.state ≡ true
-            → TakesStep node self.now beside contents (input.Call session (command.Get id.now)) (given_of o) self.now beside) }
-        ensures few { IfOk result (λ o. length o.messages ≤ 1) }
-        ensures memory { (r : Refusal) → IsErrOf result r → r ≡ NoMemory }
-    {
-        let messages = locate(alloc, node, *id, self.copies().fetch_of(id))?;
-        Ok(Outcome {
-            reply: Reply::Refused(Refusal::Pending),
-            messages,
-            erase: Erase::NoKey,
-        })
-    }
-
-    /// Get of what isn't here as a sealed copy: what brings it here. `Absent` if it is doomed, `NotSealed`, `Pending`,
-    /// `TooMany`.
-    fn get_unsealed(&mut self, alloc: Global, node: u32, id: &ObjectId) -> Result<Outcome, Refusal>
+    /// Get of what isn't here as a sealed copy: what brings it here, or what its fetch or its restore came to. `Absent` if
+    /// it is doomed, `NotSealed`, `Pending`, `TooMany`, and as `get_fetching` and `get_away`.
+    fn get_unsealed(
+        &mut self,
+        alloc: Global,
+        node: u32,
+        works: &mut Works,
+        id: &ObjectId,
+    ) -> Result<Outcome, Refusal>
         requires alive { is_remembered self.old.ended_tasks id.now.task ≡ false }
         requires unready { option_map_or (λ k. is_ready k.copy) (at self.old.copies id.now) false ≡ false }
-        ensures ok { IfOk result (λ o. (session : ℕ) (beside : Beside) (contents : Contents) → (id.now.job.0 == self.old.job) ≡ true → IsShown self.old beside contents
-            → TakesStep node self.old beside contents (input.Call session (command.Get id.now)) (given_of o) self.new beside) }
-        ensures few { IfOk result (λ o. length o.messages ≤ 1) }
+        ensures ok { IfOk result (λ o. (session : ℕ) (hands : List Hand) (bytes : ObjectId → List ℕ) (contents : Contents) → (id.now.job.0 == self.old.job) ≡ true → IsShown self.old (beside_of works.old hands bytes self.old.job) contents
+            → TakesStep node self.old (beside_of works.old hands bytes self.old.job) contents (input.Call session (command.Get id.now)) (given_of o) self.new (beside_of works.new hands bytes self.old.job)) }
+        ensures few { IfOk result (λ o. length o.messages ≤ length self.old.copies + 1) }
+        ensures line { OnOk result (HasAsked works.old id.now.job works.new) }
+        ensures late { OnErr result (copy_check self.old id.now ≡ None) }
+        ensures others { (other : JobNo) → same_job id.now.job other ≡ false → IsSameFor other works.old works.new }
         ensures memory { (r : Refusal) → IsErrOf result r → r ≡ NoMemory }
-        ensures late { OnErr result (copy_check self.old.copies self.old.fetches_begun id.now ≡ None) }
         ensures err { OnErr result (self.new ≡ self.old) }
+        ensures works { OnErr result (works.new ≡ works.old) }
     {
         let state = match self.copies().visible_state(id) {
             Err(refusal) => return told(alloc, refusal),
@@ -114,17 +101,17 @@ impl JobRow {
             Ok(Some(state)) => state,
         };
         match state {
-            CopyState::Fetching => self.locate_again(alloc, node, id),
+            CopyState::Fetching => self.get_fetching(alloc, node, works, id),
             CopyState::Created => told(alloc, Refusal::NotSealed),
             CopyState::Restoring => told(alloc, Refusal::Pending),
-            // no event that is built puts a copy there
-            CopyState::Away => told(alloc, Refusal::Pending),
+            CopyState::Away => self.get_away(alloc, node, works, id),
             CopyState::Sealed => unreachable!(),
         }
     }
 
     /// Get: a hold on a copy that is here, and otherwise what brings it here. `Gone`, `Absent`, `NotSealed`, `Pending`,
-    /// `TooMany`. The error is out of memory, and then nothing has changed. The works that it asks for come last in the
+    /// `TooMany`; `BadSize` of an object that the window can't have; once after its restore failed `DeviceFailed` or
+    /// `Damaged`, and after its fetch failed `Absent` or `Damaged`, and then it isn't here any more. The error is out of memory, and then nothing has changed. The works that it asks for come last in the
     /// line, and those before them stay.
     /// It sends at most one message more than the job has copies.
     pub fn get(
@@ -151,7 +138,7 @@ impl JobRow {
         if let Some(reply) = self.get_sealed(session, id)? {
             return Ok(Outcome::only(alloc, reply));
         }
-        self.get_unsealed(alloc, node, id)
+        self.get_unsealed(alloc, node, works, id)
     }
 }
 
@@ -163,8 +150,19 @@ pub(crate) fn told(alloc: Global, refusal: Refusal) -> Result<Outcome, Refusal>
     Ok(Outcome::only(alloc, Reply::Refused(refusal)))
 }
 
+/// The answer `Pending`, and these messages.
+pub(crate) fn pending(messages: Items<(Place, Message)>) -> Outcome
+    ensures { given_of result ≡ record { reply = reply.Refused Pending; posts = messages; erased = [] } }
+{
+    Outcome {
+        reply: Reply::Refused(Refusal::Pending),
+        messages,
+        erase: Erase::NoKey,
+    }
+}
+
 /// The question where copies of the object are.
-fn locate(
+pub(crate) fn locate(
     alloc: Global,
     node: u32,
     id: ObjectId,

@@ -2,15 +2,19 @@
 //! sessions do to them. A row knows no other job.
 #![tactic(auto)]
 
+mod begin_pull;
 mod bytes_commands;
 mod checks;
 mod copies;
 mod copy;
 mod create_command;
+mod get_away;
 mod get_command;
+mod get_fetching;
 mod hold_commands;
 mod listing;
 mod outcome;
+mod restore;
 mod room;
 mod row;
 mod scope_commands;

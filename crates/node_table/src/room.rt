@@ -1,5 +1,10 @@
 //! How room is made in a row's window.
-ghost use Rattle.std.specs.Prelude.{◌≡◌, ℕ, List, IfOk};
+ghost use Rattle.std.specs.Prelude.{◌≡◌, ℕ, List, false, IfOk, OnOk, OnErr, IsErrOf};
+ghost use Rattle.obj_id.specs.declared.ids.JobNo.{JobNo};
+ghost use Rattle.obj_id.specs.declared.refusals.Refusal.TheVariants.{NoMemory};
+ghost use Rattle.spill_work.specs.Line.{same_job, IsSameFor};
+ghost use Rattle.node_table.specs.Asked.{HasAsked};
+ghost use Rattle.node_table.specs.MadeRooms.{IsMade, WaitsForPlace};
 ghost use Rattle.obj_id.specs.declared.refusals.Refusal.{Refusal};
 ghost use Rattle.obj_id.specs.declared.ids.ObjectId.{ObjectId};
 ghost use Rattle.private_store.specs.Room.{make_room};
@@ -8,12 +13,12 @@ ghost use Rattle.private_store.specs.Contents.{Contents};
 ghost use Rattle.lru_evictor.specs.Plans.{shown};
 ghost use Rattle.node_table.specs.Row.{beside_of, shape_of};
 ghost use Rattle.node_table.specs.Shown.{IsShown};
-ghost use Rattle.node_table.specs.RoomPlans.{IsPlanned, plan_by};
+ghost use Rattle.node_table.specs.RoomPlans.{AsksWrites, IsPlanned, plan_by};
 
 use crate::copies::Copies;
 use crate::row::JobRow;
 use lru_evictor::{CopyFacts, CopyLookup, DeviceRoom, Plan};
-use obj_id::{Items, JobNo, ObjectId, Refusal};
+use obj_id::{Items, JobNo, ObjectId, Refusal, WorkKind};
 use spill_work::Works;
 use std::alloc::Global;
 
@@ -30,6 +35,15 @@ pub(crate) enum RoomPlan {
     /// `Busy` where as many works are in flight as may be, `TooMany` where the job has too few numbers of
     /// works left.
     Refuse(Refusal),
+}
+
+/// What making room came to.
+#[derive(Drop)]
+pub(crate) enum MadeRoom {
+    /// There is a place once these copies are evicted, in this order and perhaps none. Nothing has changed yet.
+    Place(Items<ObjectId>),
+    /// There is none: this is to be told, and nothing else is to be done.
+    Told(Refusal),
 }
 
 impl CopyLookup for Copies {
@@ -75,6 +89,66 @@ impl JobRow {
         let order = self.use_order();
         let plan = order.plan(alloc, job, len, device, window, copies)?;
         Ok(room_plan(alloc, works.asked(job), self.spill_failed(), plan))
+    }
+}
+
+impl JobRow {
+    /// Room for an object of `len` bytes in the window of the row's job, as far as it can be made without an eviction:
+    /// the writes that it needs are asked for, and that a spill failed is told and forgotten. The error is out of
+    /// memory, and then nothing has changed. The works that it asks for come last in the line, and those before them
+    /// stay.
+    pub(crate) fn room_for(
+        &mut self,
+        alloc: Global,
+        job: JobNo,
+        works: &mut Works,
+        len: u32,
+    ) -> Result<MadeRoom, Refusal>
+        ensures ok { IfOk result (λ made. (hands : List Hand) (bytes : ObjectId → List ℕ) (contents : Contents) → job ≡ record { 0 = self.old.job } → IsShown self.old (beside_of works.old hands bytes self.old.job) contents
+            → IsMade made self.old (beside_of works.old hands bytes self.old.job) contents len self.new (beside_of works.new hands bytes self.old.job)) }
+        ensures place { IfOk result (λ made. WaitsForPlace made self.old works.old self.new works.new) }
+        ensures line { OnOk result (HasAsked works.old job works.new) }
+        ensures others { (other : JobNo) → same_job job other ≡ false → IsSameFor other works.old works.new }
+        ensures memory { (r : Refusal) → IsErrOf result r → r ≡ NoMemory }
+        ensures err { OnErr result (self.new ≡ self.old) }
+        ensures works { OnErr result (works.new ≡ works.old) }
+    {
+        match self.plan_room(alloc, works, len)? {
+            RoomPlan::Place(victims) => Ok(MadeRoom::Place(victims)),
+            RoomPlan::Ask(ids) => self.ask_writes(alloc, job, works, ids.as_slice()),
+            RoomPlan::TellFailedSpill => {
+                self.forget_failed_spill();
+                Ok(MadeRoom::Told(Refusal::DeviceFailed))
+            }
+            RoomPlan::Refuse(refusal) => Ok(MadeRoom::Told(refusal)),
+        }
+    }
+
+    /// Asks for the job's writes of these copies, which is told `Pending`.
+    fn ask_writes(
+        &mut self,
+        alloc: Global,
+        job: JobNo,
+        works: &mut Works,
+        ids: &[ObjectId],
+    ) -> Result<MadeRoom, Refusal>
+        ensures ok { IfOk result (λ made. (hands : List Hand) (bytes : ObjectId → List ℕ) (contents : Contents) (n : ℕ) → job ≡ record { 0 = self.old.job } → IsShown self.old (beside_of works.old hands bytes self.old.job) contents
+            → AsksWrites (make_room self.old.order (shape_of self.old (beside_of works.old hands bytes self.old.job)) n) (shape_of self.old (beside_of works.old hands bytes self.old.job)) ids.now
+            → IsMade made self.old (beside_of works.old hands bytes self.old.job) contents n self.new (beside_of works.new hands bytes self.old.job)) }
+        ensures place { IfOk result (λ made. WaitsForPlace made self.old works.old self.new works.new) }
+        ensures line { OnOk result (HasAsked works.old job works.new) }
+        ensures others { (other : JobNo) → same_job job other ≡ false → IsSameFor other works.old works.new }
+        ensures memory { (r : Refusal) → IsErrOf result r → r ≡ NoMemory }
+        ensures err { OnErr result (self.new ≡ self.old) }
+        ensures works { OnErr result (works.new ≡ works.old) }
+    {
+        // a plan asks for no more works than there may be
+        if !works.room_for(job, ids.len()) {
+            return Ok(MadeRoom::Told(Refusal::Busy));
+        }
+        works.ask_all(alloc, job, ids, WorkKind::Write)?;
+        self.spill_copies(ids);
+        Ok(MadeRoom::Told(Refusal::Pending))
     }
 }
 

@@ -8,19 +8,20 @@ ghost use Rattle.private_store.specs.Tables.{at, with_entry, is_among};
 ghost use Rattle.private_store.specs.Extents.{first, is_size};
 ghost use Rattle.private_store.specs.Copies.{extent_of};
 ghost use Rattle.private_store.specs.Contents.{overwritten};
+ghost use Rattle.private_store.specs.Commands.{counted, chunk_count};
 ghost use Rattle.job_region.specs.Region.{bytes_at as placed_bytes, extents_of};
 ghost use Rattle.std.specs.Option.{option_map_or};
 ghost use Rattle.private_store.specs.Copies.{is_created};
 ghost use Rattle.private_store.specs.Kept.{is_remembered};
 ghost use Rattle.lru_evictor.specs.Orders.{order_of, touched, last_used};
 ghost use Rattle.node_table.specs.Entries.{changed, all_changed, each_changed};
-ghost use Rattle.node_table.specs.Kept.{Kept, sealed, held, released, left, spilling_if, fetched_kept, unpinned, borrowed, given_up, doomed};
+ghost use Rattle.node_table.specs.Kept.{Kept, sealed, held, released, left, spilling_if, fetched_kept, unpinned, borrowed, given_up, doomed, fault_told, new_kept, waits_for_place, pulled};
 ghost use Rattle.node_table.specs.Checks.{release_check, borrow_check};
 ghost use Rattle.node_table.specs.Scope.{with_copy};
 ghost use Rattle.node_table.specs.Row.{Row, new_row, place_of, ArePlaced};
 ghost use Rattle.node_table.specs.Dropping.{dropped, settled_row, keys_settled, unheld_row};
 ghost use Rattle.node_table.specs.Holding.{IsUnreadyAt, IsHoldRefusedAt, IsRowHeld};
-ghost use Rattle.node_table.specs.Creating.{placed_without, IsReplaced};
+ghost use Rattle.node_table.specs.Evicting.{placed_without, without_missing, IsReplaced};
 
 use crate::copies::Copies;
 use crate::copy::RowCopy;
@@ -169,6 +170,13 @@ impl JobRow {
         self.copies.seal(id, digest);
     }
 
+    /// The fault of the copy was told.
+    pub(crate) fn forget_fault(&mut self, id: &ObjectId)
+        ensures { self.new ≡ record self.old { copies = changed fault_told self.old.copies id.now } }
+    {
+        self.copies.forget_fault(id);
+    }
+
     /// One more hold of the session on the copy, if it is there, sealed and not doomed, which is the most recently used
     /// now, and its length in bytes. `None` if it isn't. `TooMany` at 64 holds, `NoMemory` last; a refusal
     /// changes nothing. Looks the copy up once.
@@ -236,7 +244,7 @@ impl JobRow {
         Ok(())
     }
 
-    /// The victims go, and a copy to be written, of `len` bytes, takes the first place that there is then:
+    /// The victims are evicted, and a copy to be written, of `len` bytes, takes the first place that there is then:
     /// it is of zeros, and the most recently used. `None` where there is no place, and then nothing has
     /// changed, as after an error, which is out of memory.
     pub(crate) fn replace_copies(
@@ -252,7 +260,7 @@ impl JobRow {
         requires unlisted { is_among self.old.order id.now ≡ false }
         requires stays { is_among victims.now id.now ≡ false }
         ensures placed { ArePlaced self.old.window.placed (place_of self.old.copies) }
-        ensures some { IfOk result (λ o. IfSome o (λ e. IsReplaced self.old id.now kind len victims.now e self.new)) }
+        ensures some { IfOk result (λ o. IfSome o (λ e. IsReplaced self.old (Some id.now) id.now (new_kept kind len) len victims.now e self.new)) }
         ensures none { IfOk result (λ o. IfNone o (first (extents_of (placed_without self.old victims.now)) self.old.window.quota len ≡ None)) }
         ensures same { IfOk result (λ o. IfNone o (self.new ≡ self.old)) }
         ensures memory { (r : Refusal) → IsErrOf result r → r ≡ NoMemory }
@@ -275,8 +283,45 @@ impl JobRow {
                 Err(Refusal::NoMemory)
             }
             Ok(extent) => {
-                self.copies.remove_all(victims);
-                self.order.forget_all(self.job, victims);
+                self.copies.evict_all(victims);
+                forget_missing(&mut self.order, self.job, &self.copies, victims);
+                Ok(Some(extent))
+            }
+        }
+    }
+
+    /// The victims are evicted, and the copy of the id, which has no place, takes the first one for its `len` bytes that
+    /// there is then: of zeros, and if its source is known all chunks are missing. `None` where there is no place, and
+    /// then nothing has changed, as after an error, which is out of memory.
+    pub(crate) fn pull_copy(
+        &mut self,
+        alloc: Global,
+        id: &ObjectId,
+        len: u32,
+        victims: &[ObjectId],
+        missing: Vec<u32>,
+    ) -> Result<Option<Extent>, Refusal>
+        requires size { is_size self.old.window.quota len ≡ true }
+        requires waits { option_map_or (waits_for_place len) (at self.old.copies id.now) false ≡ true }
+        requires missing { missing.items ≡ counted 0 (chunk_count len) }
+        requires stays { is_among victims.now id.now ≡ false }
+        ensures placed { ArePlaced self.old.window.placed (place_of self.old.copies) }
+        ensures some { IfOk result (λ o. IfSome o (λ e. (k : Kept) → at self.old.copies id.now ≡ Some k → IsReplaced self.old None id.now (λ offset. pulled offset k) len victims.now e self.new)) }
+        ensures none { IfOk result (λ o. IfNone o (first (extents_of (placed_without self.old victims.now)) self.old.window.quota len ≡ None)) }
+        ensures same { IfOk result (λ o. IfNone o (self.new ≡ self.old)) }
+        ensures memory { (r : Refusal) → IsErrOf result r → r ≡ NoMemory }
+        ensures err { OnErr result (self.new ≡ self.old) }
+    {
+        let gone = extents_by_offset(alloc, &self.copies, victims)?;
+        if self.window.fits_without(&gone, len).is_none() {
+            return Ok(None);
+        }
+        match self.window.replace(alloc, &gone, len) {
+            Err(_) => Err(Refusal::NoMemory),
+            Ok(extent) => {
+                self.copies.begin_pull(id, extent.offset, missing);
+                self.copies.evict_all(victims);
+                forget_missing(&mut self.order, self.job, &self.copies, victims);
                 Ok(Some(extent))
             }
         }
@@ -397,4 +442,15 @@ fn first_bytes(bytes: &[u8], len: u32) -> &[u8]
     ensures { result.now ≡ take len bytes.now }
 {
     &bytes[..(len as usize).min(bytes.len())]
+}
+
+/// Those of these ids that have no copy leave the job's order of use. Takes no memory.
+fn forget_missing(order: &mut UseOrder, job: JobNo, copies: &Copies, ids: &[ObjectId])
+    ensures { order_of job.0 order.new ≡ without_missing copies.now ids.now (order_of job.0 order.old) }
+{
+    for id in ids {
+        if !copies.has(id) {
+            order.forget(job, *id);
+        }
+    }
 }

@@ -27,9 +27,10 @@ returns-clause-ok c session beside contents mine h =
     let passed = ap (λ n. fetch_check c.args.self.now.copies n) (sym begun) ∙ ap (λ t. fetch_check t c.fetches_begun-begun.result) (sym c.copies.ensures.copies) ∙ sym c.fetch_check.ensures ∙ c.in_default.is in
     let row = c.in_ok-enter_fetch.ensures.ok ∙ ap (λ n. entered c.args.self.now c.args.id.now (n + 1)) begun in
     let sent = c.in_ok-messages.ensures ∙ ap (λ n. to_directory (Locate c.args.id.now c.args.node (n + 1))) begun in
-    subst (λ r. TakesStep c.args.node c.args.self.now beside contents (input.Call session (command.Get c.args.id.now)) (record { reply = reply.Refused Pending; posts = c.in_ok-messages.messages; erased = [] }) r beside) (sym row)
+    subst (λ g. TakesStep c.args.node c.args.self.now beside contents (input.Call session (command.Get c.args.id.now)) g c.enter_fetch.new.self beside) (sym c.pending.ensures)
+    (subst (λ r. TakesStep c.args.node c.args.self.now beside contents (input.Call session (command.Get c.args.id.now)) (record { reply = reply.Refused Pending; posts = c.in_ok-messages.messages; erased = [] }) r beside) (sym row)
     (subst (λ ms. TakesStep c.args.node c.args.self.now beside contents (input.Call session (command.Get c.args.id.now)) (record { reply = reply.Refused Pending; posts = ms; erased = [] }) (entered c.args.self.now c.args.id.now (c.args.self.now.fetches_begun + 1)) beside) (sym sent)
-    (fetch_done c.args.node c.args.self.now beside contents session c.args.id.now mine c.requires.alive h c.requires.none passed))
+    (fetch_done c.args.node c.args.self.now beside contents session c.args.id.now mine c.requires.alive h c.requires.none passed)))
   where
     entered : Row → ObjectId → ℕ → Row
     entered row id number = record row { copies = with_entry row.copies id (fetched_kept number); order = last_used id row.order; fetches_begun = number }

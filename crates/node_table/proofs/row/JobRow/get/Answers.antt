@@ -18,8 +18,8 @@ returns-in-Some-clause-ok c hands bytes contents mine h =
 pub returns-clause-ok : goal.returns-clause-ok
 returns-clause-ok c =
     each_ok c.get_unsealed.result (λ o told hands bytes. subst (λ (row : Row). (contents : Contents) → (c.args.id.now.job.0 == row.job) ≡ true → IsShown row (beside_of c.args.works.now hands bytes row.job) contents
-    → TakesStep c.args.node row (beside_of c.args.works.now hands bytes row.job) contents (input.Call c.args.session (command.Get c.args.id.now)) (given_of o) c.get_unsealed.new.self (beside_of c.args.works.now hands bytes row.job))
-    (rw c.in_default.is at c.in_ok-reply.ensures.same) (told c.args.session (beside_of c.args.works.now hands bytes c.get_sealed.new.self.job))) c.get_unsealed.ensures.ok
+    → TakesStep c.args.node row (beside_of c.args.works.now hands bytes row.job) contents (input.Call c.args.session (command.Get c.args.id.now)) (given_of o) c.get_unsealed.new.self (beside_of c.get_unsealed.new.works hands bytes row.job))
+    (rw c.in_default.is at c.in_ok-reply.ensures.same) (told c.args.session hands bytes)) c.get_unsealed.ensures.ok
 
 pub returns-then-has_ended-clause-ok : goal.returns-then-has_ended-clause-ok
 returns-then-has_ended-clause-ok c =

@@ -1,13 +1,14 @@
-use Rattle.std.proofs.Common.{◌≡◌, ℕ, nat_eq, false, replicate, List, None, sym, ap, subst, ◌∙◌}
+use Rattle.std.proofs.Common.{◌≡◌, ℕ, nat_eq, false, replicate, List, Some, None, refl, sym, ap, subst, ◌∙◌}
 use Rattle.std.specs.Map.{lookup}
+use Rattle.std.specs.Option.{option_and_then}
+use Rattle.private_store.specs.Copies.{extent_of}
 use Rattle.obj_id.specs.declared.ids.ObjectId.{ObjectId}
 use Rattle.private_store.specs.Tables.{ById, at, with_entry, without_entry, is_among}
 use Rattle.private_store.specs.Extents.{first}
 use Rattle.private_store.proofs.Tests.{some_value}
 use Rattle.job_region.specs.Region.{Region, extents_of, put_in}
-use Rattle.lru_evictor.specs.Orders.{order_of, without_id, without_ids}
-use Rattle.node_table.specs.Creating.{placed_without, replaced}
-use Rattle.node_table.specs.Entries.{without_all}
+use Rattle.lru_evictor.specs.Orders.{order_of, without_id}
+use Rattle.node_table.specs.Evicting.{all_evicted, placed_without, replaced, without_missing}
 use Rattle.node_table.specs.Kept.{Kept, new_kept}
 use Rattle.node_table.specs.Row.{Row, place_of, ArePlaced}
 use Rattle.node_table.proofs.Changes.{put_back, of_err, of_ok}
@@ -63,13 +64,14 @@ invariant_of-self-in-Ok c =
     let left_then = left_sorted c.self.inside.copies c.args.victims.now c.self.inside.window.placed c.in_ok-gone.gone.items c.deref-2.result.now c.in_ok-gone.ensures.permutation c.deref-2.ensures.value in
     let offset = some_value c.in-Some.offset c.in-Ok.extent.offset
     (sym c.in-Some.is ∙ c.fits_without.ensures ∙ ap (λ ps. first (extents_of ps) c.self.inside.window.quota c.args.len) (left ∙ sym left_then) ∙ c.in-Ok.ensures.least) in
-    let copies = c.remove_all.ensures ∙ ap (without_all c.args.victims.now) (c.in_ok-insert.ensures.ok ∙ ap (with_entry c.self.inside.copies c.args.id.now) (c.created.ensures ∙ ap (new_kept c.args.kind c.args.len) offset)) in
+    let copies = c.evict_all.ensures ∙ ap (all_evicted c.args.victims.now) (c.in_ok-insert.ensures.ok ∙ ap (with_entry c.self.inside.copies c.args.id.now) (c.created.ensures ∙ ap (new_kept c.args.kind c.args.len) offset)) in
     let placed = ap (λ (w : Region). w.placed) c.in-Ok.ensures.placed
     ∙ (λ i. put_in (c.in-Ok.extent.offset, replicate (c.in-Ok.ensures.length i) 0) (left_then i)) in
     let fresh = ap (lookup (nat_eq c.in-Ok.extent.offset)) (sym left_then) ∙ c.in-Ok.ensures.fresh in
     subst (λ t. ArePlaced c.replace.new.self.placed (place_of t)) (sym copies)
-    (subst (λ ps. ArePlaced ps (place_of (without_all c.args.victims.now (with_entry c.self.inside.copies c.args.id.now (new_kept c.args.kind c.args.len c.in-Ok.extent.offset))))) (sym placed)
-    (replaced_placed c.self.inside.copies c.self.inside.window.placed c.self.invariant c.args.victims.now c.args.id.now c.args.kind c.args.len c.in-Ok.extent.offset none c.requires.stays fresh))
+    (subst (λ ps. ArePlaced ps (place_of (all_evicted c.args.victims.now (with_entry c.self.inside.copies c.args.id.now (new_kept c.args.kind c.args.len c.in-Ok.extent.offset))))) (sym placed)
+    (replaced_placed c.self.inside.copies c.self.inside.window.placed c.self.invariant c.args.victims.now c.args.id.now (new_kept c.args.kind c.args.len c.in-Ok.extent.offset) c.args.len c.in-Ok.extent.offset
+    (ap (option_and_then (λ (k : Kept). extent_of k.copy)) none) c.requires.stays refl fresh))
 
 pub returns-clause-some : goal.returns-clause-some
 returns-clause-some c =
@@ -77,16 +79,16 @@ returns-clause-some c =
     let left_then = left_sorted c.self.inside.copies c.args.victims.now c.self.inside.window.placed c.in_ok-gone.gone.items c.deref-2.result.now c.in_ok-gone.ensures.permutation c.deref-2.ensures.value in
     let offset = some_value c.in-Some.offset c.in-Ok.extent.offset
     (sym c.in-Some.is ∙ c.fits_without.ensures ∙ ap (λ ps. first (extents_of ps) c.self.inside.window.quota c.args.len) (left ∙ sym left_then) ∙ c.in-Ok.ensures.least) in
-    let copies = c.remove_all.ensures ∙ ap (without_all c.args.victims.now) (c.in_ok-insert.ensures.ok ∙ ap (with_entry c.self.inside.copies c.args.id.now) (c.created.ensures ∙ ap (new_kept c.args.kind c.args.len) offset)) in
+    let copies = c.evict_all.ensures ∙ ap (all_evicted c.args.victims.now) (c.in_ok-insert.ensures.ok ∙ ap (with_entry c.self.inside.copies c.args.id.now) (c.created.ensures ∙ ap (new_kept c.args.kind c.args.len) offset)) in
     let window = c.in-Ok.ensures.placed
     ∙ (λ i. region (put_in (c.in-Ok.extent.offset, replicate (c.in-Ok.ensures.length i) 0) (left_then i))) in
     let entered = of_ok c.enter.result c.enter.ensures.ok (sym c.is_err.ensures.value ∙ c.if-is_err.false) in
-    let order = c.forget_all.ensures.own ∙ ap (without_ids c.args.victims.now) entered.own in
+    let order = c.forget_missing.ensures ∙ (λ i. without_missing (copies i) c.args.victims.now (entered.own i)) in
     record {
       least = ap (λ (r : Row). first (extents_of (placed_without r c.args.victims.now)) r.window.quota c.args.len) (sym c.self.view_is)
           ∙ ap (λ ps. first (extents_of ps) c.self.inside.window.quota c.args.len) (sym left_then) ∙ c.in-Ok.ensures.least;
       length = c.in-Ok.ensures.length;
-      row = (λ i. row_of (window i) (copies i) (order i)) ∙ ap (λ (r : Row). replaced r c.args.id.now c.args.kind c.args.len c.in-Ok.extent.offset c.args.victims.now) c.self.view_is;
+      row = (λ i. row_of (window i) (copies i) (order i)) ∙ ap (λ (r : Row). replaced r (Some c.args.id.now) c.args.id.now (new_kept c.args.kind c.args.len c.in-Ok.extent.offset) c.args.len c.in-Ok.extent.offset c.args.victims.now) c.self.view_is;
       small = c.in-Ok.ensures.small;
       fresh = ap (λ (r : Row). lookup (nat_eq c.in-Ok.extent.offset) (placed_without r c.args.victims.now)) (sym c.self.view_is) ∙ ap (lookup (nat_eq c.in-Ok.extent.offset)) (sym left_then) ∙ c.in-Ok.ensures.fresh;
     }

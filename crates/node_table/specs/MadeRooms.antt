@@ -1,0 +1,40 @@
+-- What making room came to, for whatever step waits for it.
+use Rattle.std.specs.Prelude.{◌≡◌, ℕ, false, None, is_ok}
+use Rattle.obj_id.specs.declared.commands.Reply.{Reply}
+use Rattle.obj_id.specs.declared.commands.Reply.TheVariants as reply
+use Rattle.obj_id.specs.declared.refusals.Refusal.{Refusal}
+use Rattle.private_store.specs.declared.inputs.Input.{Input}
+use Rattle.private_store.specs.Shape.{Shape, Change}
+use Rattle.private_store.specs.Contents.{Contents, View, judge, bytes_brought, digest_brought, bytes_received}
+use Rattle.private_store.specs.Room.{make_room}
+use Rattle.private_store.specs.Change.{erasing, in_room}
+use Rattle.private_store.specs.Step.{step}
+use Rattle.spill_work.specs.Line.{WorkLine}
+use Rattle.node_table.specs.Row.{Row, Beside, shape_of}
+use Rattle.node_table.specs.RoomPlans.{MakesPlace}
+use Rattle.node_table.specs.Shown.{seen, only, TakesStep}
+use Rattle.node_table.specs.declared.room.MadeRoom.{MadeRoom}
+use Rattle.node_table.specs.declared.room.MadeRoom.TheVariants.{Place, Told}
+
+-- an input that brings no contents, as a Create or a Get
+pub record BringsNothing (node : ℕ) (before : View) (x : Input) : Type 0 where
+  pub bytes : (r : Reply ℕ) → bytes_brought before x (judge node before x) r ≡ None
+  pub digests : (r : Reply ℕ) → digest_brought node before x r ≡ None
+  pub received : bytes_received x ≡ None
+
+-- each step that waits for room for n bytes is told this, and that is all it does
+pub record TellsRoom (old : Row) (before : Beside) (contents : Contents) (n : ℕ) (r : Refusal) (new : Row) (after : Beside) : Type 0 where
+  pub tells : (node : ℕ) (x : Input) (f : Shape → ℕ → Change) → BringsNothing node (seen old before contents) x
+      → (is_ok (make_room old.order (shape_of old before) n).offset ≡ false
+      → step old.order (shape_of old before) (judge node (seen old before contents) x) ≡ erasing (shape_of old before) (in_room (make_room old.order (shape_of old before) n) f))
+      → TakesStep node old before contents x (only (reply.Refused r)) new after
+
+-- what was made is what room for n bytes does
+abbrev pub IsMade : MadeRoom → Row → Beside → Contents → ℕ → Row → Beside → Type 0
+IsMade (Place victims) old before contents n new after = MakesPlace (make_room old.order (shape_of old before) n) (shape_of old before) n victims
+IsMade (Told refusal) old before contents n new after = TellsRoom old before contents n refusal new after
+
+-- where there is a place nothing has changed yet
+abbrev pub WaitsForPlace : MadeRoom → Row → WorkLine → Row → WorkLine → Type 0
+WaitsForPlace (Place victims) old before new after = (new ≡ old) × (after ≡ before)
+WaitsForPlace (Told refusal) old before new after = Unit {0}

@@ -1,0 +1,159 @@
+//! The bytes of an object are asked for at their source.
+ghost use Rattle.std.specs.Prelude.{◌≡◌, ◌==◌, ℕ, ◌+◌, ◌≤◌, List, length, true, false, Ok, Some, None, IfOk, OnOk, OnErr, IsErrOf};
+ghost use Rattle.obj_id.specs.declared.ids.JobNo.{JobNo};
+ghost use Rattle.obj_id.specs.declared.refusals.Refusal.{Refusal};
+ghost use Rattle.obj_id.specs.declared.refusals.Refusal.TheVariants.{NoMemory};
+ghost use Rattle.obj_id.specs.declared.commands.CopyState.TheVariants.{Fetching};
+ghost use Rattle.obj_id.specs.declared.commands.Command.TheVariants as command;
+ghost use Rattle.private_store.specs.declared.inputs.Input.TheVariants as input;
+ghost use Rattle.private_store.specs.Tables.{at};
+ghost use Rattle.private_store.specs.Kept.{is_remembered};
+ghost use Rattle.private_store.specs.Hands.{Hand};
+ghost use Rattle.private_store.specs.Contents.{Contents};
+ghost use Rattle.spill_work.specs.Line.{same_job, IsSameFor};
+ghost use Rattle.node_table.specs.Asked.{HasAsked};
+ghost use Rattle.node_table.specs.Checks.{can_pull_at, visible_state};
+ghost use Rattle.node_table.specs.Outcomes.{given_of};
+ghost use Rattle.std.specs.Option.{option_map_or};
+ghost use Rattle.std.specs.Prelude.{◌∷◌, [], unwrap_or};
+ghost use Rattle.obj_id.specs.declared.messages.PeerMessage.TheVariants.{Pull};
+ghost use Rattle.private_store.specs.Tables.{is_among as is_among_lem};
+ghost use Rattle.private_store.specs.Commands.{counted, chunk_count};
+ghost use Rattle.private_store.specs.Contents.{no_digest};
+ghost use Rattle.private_store.specs.Private.{to_peer};
+ghost use Rattle.private_store.specs.Room.{make_room};
+ghost use Rattle.private_store.specs.Shape.{Fetch, sized};
+ghost use Rattle.node_table.specs.Kept.{Kept, is_unasked, waits_for_place};
+ghost use Rattle.node_table.specs.RoomPlans.{MakesPlace};
+ghost use Rattle.node_table.specs.Row.{Beside, beside_of, shape_of};
+ghost use Rattle.node_table.specs.Shown.{IsShown, TakesStep};
+
+use crate::copy::RowCopy;
+use crate::create_command::removals;
+use crate::get_command::{pending, told};
+use crate::outcome::Outcome;
+use crate::room::MadeRoom;
+use crate::row::JobRow;
+use fetch_core::{Stage, all_chunks};
+use obj_id::{Items, Message, ObjectId, PeerMessage, Place, Refusal};
+use spill_work::Works;
+use std::alloc::{AllocError, Global};
+
+impl JobRow {
+    /// Get of an object whose source is known, and that the window may have: a row that is shown has none yet (`IsPlain`),
+    /// and the answer `Pending` stands for the pull to come.
+    pub(crate) fn begin_pull(
+        &mut self,
+        alloc: Global,
+        node: u32,
+        works: &mut Works,
+        id: &ObjectId,
+    ) -> Result<Outcome, Refusal>
+        requires alive { is_remembered self.old.ended_tasks id.now.task ≡ false }
+        requires visible { visible_state (at self.old.copies id.now) ≡ Ok (Some Fetching) }
+        requires sized { can_pull_at self.old id.now ≡ true }
+        ensures ok { IfOk result (λ o. (session : ℕ) (hands : List Hand) (bytes : ObjectId → List ℕ) (contents : Contents) → (id.now.job.0 == self.old.job) ≡ true → IsShown self.old (beside_of works.old hands bytes self.old.job) contents
+            → TakesStep node self.old (beside_of works.old hands bytes self.old.job) contents (input.Call session (command.Get id.now)) (given_of o) self.new (beside_of works.new hands bytes self.old.job)) }
+        ensures few { IfOk result (λ o. length o.messages ≤ length self.old.copies + 1) }
+        ensures line { OnOk result (HasAsked works.old id.now.job works.new) }
+        ensures others { (other : JobNo) → same_job id.now.job other ≡ false → IsSameFor other works.old works.new }
+        ensures memory { (r : Refusal) → IsErrOf result r → r ≡ NoMemory }
+        ensures err { OnErr result (self.new ≡ self.old) }
+        ensures works { OnErr result (works.new ≡ works.old) }
+    {
+        let Some(copy) = self.copies().get(id) else {
+            unreachable!()
+        };
+        // that it has no place yet is what the proof needs
+        let _place = copy.offset();
+        let len = copy.length();
+        match self.room_for(alloc, id.job(), works, len)? {
+            MadeRoom::Place(victims) => {
+                self.pull_in_place(alloc, node, id, len, victims.as_slice())
+            }
+            MadeRoom::Told(refusal) => told(alloc, refusal),
+        }
+    }
+
+    /// The place is taken where the victims were, which the directory is told of, and the bytes are asked for.
+    fn pull_in_place(
+        &mut self,
+        alloc: Global,
+        node: u32,
+        id: &ObjectId,
+        len: u32,
+        victims: &[ObjectId],
+    ) -> Result<Outcome, Refusal>
+        requires alive { is_remembered self.old.ended_tasks id.now.task ≡ false }
+        requires visible { visible_state (at self.old.copies id.now) ≡ Ok (Some Fetching) }
+        requires sized { can_pull_at self.old id.now ≡ true }
+        requires waits { option_map_or (waits_for_place len) (at self.old.copies id.now) false ≡ true }
+        ensures ok { IfOk result (λ o. (session : ℕ) (beside : Beside) (contents : Contents) → (id.now.job.0 == self.old.job) ≡ true → IsShown self.old beside contents
+            → MakesPlace (make_room self.old.order (shape_of self.old beside) len) (shape_of self.old beside) len victims.now
+            → TakesStep node self.old beside contents (input.Call session (command.Get id.now)) (given_of o) self.new beside) }
+        ensures few { IfOk result (λ o. length o.messages ≤ length self.old.copies + 1) }
+        ensures memory { (r : Refusal) → IsErrOf result r → r ≡ NoMemory }
+        ensures err { OnErr result (self.new ≡ self.old) }
+    {
+        // a copy that is on its way is no victim, and each victim is another copy
+        if is_among(victims, id) {
+            return told(alloc, Refusal::Pending);
+        }
+        if victims.len() > self.copies().len() {
+            return told(alloc, Refusal::Full);
+        }
+        let mut messages = removals(alloc, node, self.copies(), victims)?;
+        messages.push(self.question(alloc, id)?)?;
+        let missing = all_chunks(alloc, len)?;
+        let Some(_extent) = self.pull_copy(alloc, id, len, victims, missing)? else {
+            return told(alloc, Refusal::Full);
+        };
+        Ok(pending(messages))
+    }
+
+    /// The question for all chunks of the object, at the source of its fetch.
+    fn question(&self, alloc: Global, id: &ObjectId) -> Result<(Place, Message), AllocError>
+        requires visible { visible_state (at self.now.copies id.now) ≡ Ok (Some Fetching) }
+        requires sized { can_pull_at self.now id.now ≡ true }
+        ensures { IfOk result (λ message. (k : Kept) (f : Fetch) (source : ℕ) → at self.now.copies id.now ≡ Some k → k.copy.fetch ≡ Some f → f.phase ≡ sized source
+            → message ≡ to_peer source (Pull id.now f.number k.copy.length (unwrap_or k.digest no_digest) (counted 0 (chunk_count k.copy.length)))) }
+    {
+        let Some(copy) = self.copies().get(id) else {
+            unreachable!()
+        };
+        question_of(alloc, *id, copy)
+    }
+}
+
+/// Whether the id is one of these.
+fn is_among(ids: &[ObjectId], id: &ObjectId) -> bool
+    ensures { result ≡ is_among_lem ids.now id.now }
+{
+    ids.contains(id)
+}
+
+/// The question for all chunks of the object, at the source of its fetch.
+fn question_of(alloc: Global, id: ObjectId, copy: &RowCopy) -> Result<(Place, Message), AllocError>
+    requires { option_map_or (λ f. is_unasked f.phase) copy.now.copy.fetch false ≡ true }
+    ensures { IfOk result (λ message. (f : Fetch) (source : ℕ) → copy.now.copy.fetch ≡ Some f → f.phase ≡ sized source
+        → message ≡ to_peer source (Pull id f.number copy.now.copy.length (unwrap_or copy.now.digest no_digest) (counted 0 (chunk_count copy.now.copy.length)))) }
+{
+    let Some(fetch) = copy.fetch() else {
+        unreachable!()
+    };
+    let Stage::Sized(source) = fetch.stage() else {
+        unreachable!()
+    };
+    let Some(digest) = copy.digest() else {
+        unreachable!()
+    };
+    let indexes = all_chunks(alloc, copy.length())?;
+    let message = Message::ToPeer(PeerMessage::Pull {
+        id,
+        number: fetch.number(),
+        length: copy.length(),
+        digest,
+        indexes: Items::from_vec(indexes),
+    });
+    Ok((Place::Node(source), message))
+}

@@ -1,0 +1,69 @@
+//! Get of a copy that is on the device alone.
+ghost use Rattle.std.specs.Prelude.{◌≡◌, ◌==◌, ℕ, ◌+◌, ◌≤◌, List, length, true, false, Ok, Some, None, IfOk, OnOk, OnErr, IsErrOf};
+ghost use Rattle.obj_id.specs.declared.ids.JobNo.{JobNo};
+ghost use Rattle.obj_id.specs.declared.refusals.Refusal.{Refusal};
+ghost use Rattle.obj_id.specs.declared.refusals.Refusal.TheVariants.{NoMemory};
+ghost use Rattle.obj_id.specs.declared.commands.CopyState.TheVariants.{Away};
+ghost use Rattle.obj_id.specs.declared.commands.Command.TheVariants as command;
+ghost use Rattle.private_store.specs.declared.inputs.Input.TheVariants as input;
+ghost use Rattle.private_store.specs.Tables.{at};
+ghost use Rattle.private_store.specs.Kept.{is_remembered};
+ghost use Rattle.private_store.specs.Hands.{Hand};
+ghost use Rattle.private_store.specs.Contents.{Contents};
+ghost use Rattle.spill_work.specs.Line.{same_job, IsSameFor};
+ghost use Rattle.node_table.specs.Asked.{HasAsked};
+ghost use Rattle.node_table.specs.Checks.{visible_state, copy_check};
+ghost use Rattle.node_table.specs.Outcomes.{given_of};
+ghost use Rattle.node_table.specs.Row.{beside_of};
+ghost use Rattle.node_table.specs.Shown.{IsShown, TakesStep};
+ghost use Rattle.private_store.specs.Commands.{refusal_of as refusal_of_lem};
+
+use crate::get_command::told;
+use crate::outcome::Outcome;
+use crate::row::JobRow;
+use obj_id::{ObjectId, Refusal};
+use private_store::Fault;
+use spill_work::Works;
+use std::alloc::Global;
+
+impl JobRow {
+    /// Get of a copy that is away: what its last restore came to is told, once; otherwise it is read back. `DeviceFailed`,
+    /// `Damaged`, and as `restore`.
+    pub(crate) fn get_away(
+        &mut self,
+        alloc: Global,
+        node: u32,
+        works: &mut Works,
+        id: &ObjectId,
+    ) -> Result<Outcome, Refusal>
+        requires alive { is_remembered self.old.ended_tasks id.now.task ≡ false }
+        requires visible { visible_state (at self.old.copies id.now) ≡ Ok (Some Away) }
+        ensures ok { IfOk result (λ o. (session : ℕ) (hands : List Hand) (bytes : ObjectId → List ℕ) (contents : Contents) → (id.now.job.0 == self.old.job) ≡ true → IsShown self.old (beside_of works.old hands bytes self.old.job) contents
+            → TakesStep node self.old (beside_of works.old hands bytes self.old.job) contents (input.Call session (command.Get id.now)) (given_of o) self.new (beside_of works.new hands bytes self.old.job)) }
+        ensures few { IfOk result (λ o. length o.messages ≤ length self.old.copies + 1) }
+        ensures line { OnOk result (HasAsked works.old id.now.job works.new) }
+        ensures late { OnErr result (copy_check self.old id.now ≡ None) }
+        ensures others { (other : JobNo) → same_job id.now.job other ≡ false → IsSameFor other works.old works.new }
+        ensures memory { (r : Refusal) → IsErrOf result r → r ≡ NoMemory }
+        ensures err { OnErr result (self.new ≡ self.old) }
+        ensures works { OnErr result (works.new ≡ works.old) }
+    {
+        match self.copies().fault(id) {
+            Some(fault) => {
+                self.forget_fault(id);
+                told(alloc, refusal_of(fault))
+            }
+            None => self.restore(alloc, node, works, id),
+        }
+    }
+}
+
+/// What is told of a fault.
+fn refusal_of(fault: Fault) -> Refusal
+    ensures { result ≡ refusal_of_lem fault }
+{
+    match fault {
+        Fault::DeviceFailed => Refusal::DeviceFailed,
+        Fault::Damaged => Refusal::Damaged,
+    }
+}

@@ -1,0 +1,153 @@
+//! Get of a copy that is on its way.
+ghost use Rattle.std.specs.Prelude.{◌≡◌, ◌==◌, ℕ, ◌+◌, ◌≤◌, List, length, true, false, Ok, Some, None, IfOk, OnOk, OnErr, IsErrOf, IsSome, ◌∷◌, [], unwrap_or};
+ghost use Rattle.obj_id.specs.declared.ids.JobNo.{JobNo};
+ghost use Rattle.obj_id.specs.declared.refusals.Refusal.{Refusal};
+ghost use Rattle.obj_id.specs.declared.refusals.Refusal.TheVariants.{NoMemory};
+ghost use Rattle.obj_id.specs.declared.commands.CopyState.TheVariants.{Fetching};
+ghost use Rattle.obj_id.specs.declared.commands.Command.TheVariants as command;
+ghost use Rattle.private_store.specs.declared.inputs.Input.TheVariants as input;
+ghost use Rattle.private_store.specs.Tables.{at};
+ghost use Rattle.private_store.specs.Kept.{is_remembered};
+ghost use Rattle.private_store.specs.Hands.{Hand};
+ghost use Rattle.private_store.specs.Contents.{Contents};
+ghost use Rattle.spill_work.specs.Line.{same_job, IsSameFor};
+ghost use Rattle.node_table.specs.Asked.{HasAsked};
+ghost use Rattle.node_table.specs.Checks.{visible_state, copy_check, IsInPhase};
+ghost use Rattle.node_table.specs.Outcomes.{given_of};
+ghost use Rattle.node_table.specs.Row.{Beside, beside_of};
+ghost use Rattle.node_table.specs.Shown.{IsShown, TakesStep};
+ghost use Rattle.obj_id.specs.declared.messages.PeerMessage.TheVariants.{Pull};
+ghost use Rattle.private_store.specs.Shape.{sized, pulling, failed};
+ghost use Rattle.private_store.specs.Commands.{fetch_refusal};
+ghost use Rattle.private_store.specs.Contents.{no_digest};
+ghost use Rattle.private_store.specs.Private.{to_peer};
+ghost use Rattle.fetch_core.specs.Fetching.{missing_of};
+ghost use Rattle.node_table.specs.Kept.{Kept, fetch_of};
+
+use crate::copy::RowCopy;
+use crate::get_command::{locate, pending, told};
+use crate::outcome::Outcome;
+use crate::row::JobRow;
+use fetch_core::{FetchIn, Stage};
+use obj_id::{Items, Message, ObjectId, PeerMessage, Place, Refusal, Reply};
+use private_store::FetchFault;
+use spill_work::Works;
+use std::alloc::{AllocError, Global};
+
+impl JobRow {
+    /// Get of an object that is on its way: its fetch goes one step on, and the answer is `Pending`. What it came to if it
+    /// failed, `Absent` or `Damaged`, and then the copy is removed; and as `get_sized`.
+    pub(crate) fn get_fetching(
+        &mut self,
+        alloc: Global,
+        node: u32,
+        works: &mut Works,
+        id: &ObjectId,
+    ) -> Result<Outcome, Refusal>
+        requires alive { is_remembered self.old.ended_tasks id.now.task ≡ false }
+        requires visible { visible_state (at self.old.copies id.now) ≡ Ok (Some Fetching) }
+        ensures ok { IfOk result (λ o. (session : ℕ) (hands : List Hand) (bytes : ObjectId → List ℕ) (contents : Contents) → (id.now.job.0 == self.old.job) ≡ true → IsShown self.old (beside_of works.old hands bytes self.old.job) contents
+            → TakesStep node self.old (beside_of works.old hands bytes self.old.job) contents (input.Call session (command.Get id.now)) (given_of o) self.new (beside_of works.new hands bytes self.old.job)) }
+        ensures few { IfOk result (λ o. length o.messages ≤ length self.old.copies + 1) }
+        ensures line { OnOk result (HasAsked works.old id.now.job works.new) }
+        ensures late { OnErr result (copy_check self.old id.now ≡ None) }
+        ensures others { (other : JobNo) → same_job id.now.job other ≡ false → IsSameFor other works.old works.new }
+        ensures memory { (r : Refusal) → IsErrOf result r → r ≡ NoMemory }
+        ensures err { OnErr result (self.new ≡ self.old) }
+        ensures works { OnErr result (works.new ≡ works.old) }
+    {
+        let Some(copy) = self.copies().get(id) else {
+            unreachable!()
+        };
+        let Some(fetch) = copy.fetch() else {
+            return told(alloc, Refusal::Absent);
+        };
+        let len = copy.length();
+        match fetch.stage() {
+            Stage::Locating => Ok(pending(locate(alloc, node, *id, fetch.number())?)),
+            Stage::Pulling(source) => Ok(pending(pull(alloc, *id, copy, fetch, source)?)),
+            Stage::Sized(_) => self.get_sized(alloc, node, works, id, len),
+            Stage::Failed(fault) => Ok(self.tell_failed(alloc, id, fault)),
+        }
+    }
+
+    /// Get of an object of `len` bytes whose source is known: its bytes are asked for. `BadSize` if the window can't have
+    /// it, and as `begin_pull`.
+    fn get_sized(
+        &mut self,
+        alloc: Global,
+        node: u32,
+        works: &mut Works,
+        id: &ObjectId,
+        len: u32,
+    ) -> Result<Outcome, Refusal>
+        requires alive { is_remembered self.old.ended_tasks id.now.task ≡ false }
+        requires visible { visible_state (at self.old.copies id.now) ≡ Ok (Some Fetching) }
+        requires sized { (k : Kept) → at self.old.copies id.now ≡ Some k → (source : ℕ) × IsInPhase k.copy (sized source) }
+        requires length { (k : Kept) → at self.old.copies id.now ≡ Some k → len ≡ k.copy.length }
+        ensures ok { IfOk result (λ o. (session : ℕ) (hands : List Hand) (bytes : ObjectId → List ℕ) (contents : Contents) → (id.now.job.0 == self.old.job) ≡ true → IsShown self.old (beside_of works.old hands bytes self.old.job) contents
+            → TakesStep node self.old (beside_of works.old hands bytes self.old.job) contents (input.Call session (command.Get id.now)) (given_of o) self.new (beside_of works.new hands bytes self.old.job)) }
+        ensures few { IfOk result (λ o. length o.messages ≤ length self.old.copies + 1) }
+        ensures line { OnOk result (HasAsked works.old id.now.job works.new) }
+        ensures late { OnErr result (copy_check self.old id.now ≡ None) }
+        ensures others { (other : JobNo) → same_job id.now.job other ≡ false → IsSameFor other works.old works.new }
+        ensures memory { (r : Refusal) → IsErrOf result r → r ≡ NoMemory }
+        ensures err { OnErr result (self.new ≡ self.old) }
+        ensures works { OnErr result (works.new ≡ works.old) }
+    {
+        if !self.window().may_have(len) {
+            return told(alloc, Refusal::BadSize);
+        }
+        self.begin_pull(alloc, node, works, id)
+    }
+
+    /// Get of an object whose fetch failed: what it came to is told, and the copy is removed.
+    fn tell_failed(&mut self, alloc: Global, id: &ObjectId, fault: FetchFault) -> Outcome
+        requires alive { is_remembered self.old.ended_tasks id.now.task ≡ false }
+        requires visible { visible_state (at self.old.copies id.now) ≡ Ok (Some Fetching) }
+        requires failed { (k : Kept) → at self.old.copies id.now ≡ Some k → IsInPhase k.copy (failed fault) }
+        ensures step { (node session : ℕ) (beside : Beside) (contents : Contents) → (id.now.job.0 == self.old.job) ≡ true → IsShown self.old beside contents
+            → TakesStep node self.old beside contents (input.Call session (command.Get id.now)) (given_of result) self.new beside }
+        ensures silent { result.messages ≡ [] }
+    {
+        self.drop_copy(id);
+        Outcome::only(alloc, Reply::Refused(refusal_of(fault)))
+    }
+}
+
+/// What is told of a fetch that failed.
+fn refusal_of(fault: FetchFault) -> Refusal
+    ensures { result ≡ fetch_refusal fault }
+{
+    match fault {
+        FetchFault::Absent => Refusal::Absent,
+        FetchFault::Damaged => Refusal::Damaged,
+    }
+}
+
+/// The question for the chunks that are still missing, at the source.
+fn pull(
+    alloc: Global,
+    id: ObjectId,
+    copy: &RowCopy,
+    fetch: &FetchIn,
+    source: u32,
+) -> Result<Items<(Place, Message)>, AllocError>
+    requires own { copy.now.copy.fetch ≡ Some (fetch_of fetch.now) }
+    requires pulled { fetch.now.phase ≡ pulling source (missing_of fetch.now.phase) }
+    ensures { IfOk result (λ messages. messages ≡ to_peer source (Pull id fetch.now.number copy.now.copy.length (unwrap_or copy.now.digest no_digest) (missing_of fetch.now.phase)) ∷ []) }
+{
+    let Some(digest) = copy.digest() else {
+        unreachable!()
+    };
+    let mut indexes = Vec::new(alloc);
+    indexes.extend_from_slice(fetch.missing())?;
+    let message = Message::ToPeer(PeerMessage::Pull {
+        id,
+        number: fetch.number(),
+        length: copy.length(),
+        digest,
+        indexes: Items::from_vec(indexes),
+    });
+    Outcome::one_message(alloc, Place::Node(source), message)
+}
