@@ -27,6 +27,7 @@ pub mod Fetching
 pub mod Faults
 pub mod Creating
 pub mod Asking
+pub mod EndingKeys
 pub mod Lending
 pub mod Listed
 pub mod Late
