@@ -1,5 +1,5 @@
 -- What the end of a job leaves: nothing of the job, and the others as they were.
-use Rattle.std.proofs.Common.{◌≡◌, ℕ, ◌==◌, Bool, true, false, not, cond, ◌||◌, List, [], ◌∷◌, ◌++◌, filter, map, Option, Some, None, is_some, refl, sym, ap, subst, ◌∙◌, arith, T}
+use Rattle.std.proofs.Common.{◌≡◌, ℕ, ◌==◌, Bool, true, false, not, cond, ◌||◌, List, [], ◌∷◌, ◌++◌, filter, Some, None, is_some, refl, sym, ap, subst, ◌∙◌, arith, T}
 use Rattle.std.specs.Prelude.{nat_le}
 use Rattle.std.specs.List.{list_all, list_any}
 use Rattle.std.specs.Map.{keys_of, lookup, remove_entry}
@@ -15,20 +15,23 @@ use Rattle.private_store.specs.declared.inputs.Judged.TheVariants as judged
 use Rattle.private_store.specs.declared.schedules.Event.TheVariants as event
 use Rattle.private_store.specs.Jobs.{same_job}
 use Rattle.private_store.specs.Shape.{ended}
+use Rattle.private_store.specs.Tables.{ids_of}
+use Rattle.obj_id.specs.declared.works.DeviceKey.{DeviceKey}
 use Rattle.private_store.specs.Change.{sending, erasing}
 use Rattle.private_store.specs.Events.{end_job_here, over}
 use Rattle.private_store.specs.Step.{step}
 use Rattle.private_store.specs.Contents.{Contents, View}
-use Rattle.private_store.specs.Private.{view_step, outcome, to_directory, key_of, no_contents}
+use Rattle.private_store.specs.Private.{view_step, outcome, to_directory, no_contents}
 use Rattle.private_store.specs.Shared.{job_is}
 use Rattle.private_store.proofs.Checks.{checked-nil, checked-false}
-use Rattle.private_store.proofs.Tests.{both, both_left, both_right, true_false}
+use Rattle.private_store.proofs.Tests.{both, both_left, both_right}
 use Rattle.spill_work.specs.Line.{WorkLine, Drops}
 use Rattle.job_admission.specs.Admissions.{Admissions, live_at, lives_of, finished}
 use Rattle.node_table.specs.Row.{Row}
 use Rattle.node_table.specs.Shown.{seen, Given, IsShown}
 use Rattle.node_table.proofs.CopyTables.{sorted-copies}
-use Rattle.node_table.proofs.Creating.{unbacked}
+use Rattle.node_table.specs.Ending.{keys_backed}
+use Rattle.node_table.proofs.EndingKeys.{keys-backed}
 use Rattle.node_core.proofs.Others.{other_view, not_same}
 use Rattle.node_core.specs.Hosted.{Hosted, AreHosted, IsRowView, IsBare, IsViewBy, Shows, bare, alone}
 use Rattle.node_core.specs.Steps.{answered}
@@ -103,12 +106,12 @@ module _ (number : ℕ) (row : Row) (line : WorkLine) (job : ℕ) (contents : Co
   unfolding sending
   end_view = ap (λ o. o.view) end_step ∙ ap (λ ids. record { shape = over v.shape; order = ids ++ []; contents = no_contents }) (none_left row.order)
 
-  pub end_told : IsStepOf number v input.End (record { reply = reply.Ok; posts = to_directory (EndJob number); erased = [] })
+  pub end_told : (erased : List DeviceKey) → erased ≡ keys_backed row (ids_of row.copies) → IsStepOf number v input.End (record { reply = reply.Ok; posts = to_directory (EndJob number); erased = erased })
   unfolding sending
-  end_told = record {
+  end_told erased keys = record {
     reply = sym (ap (λ o. o.reply) end_step);
     posts = sym (ap (λ o. o.posts) end_step);
-    erased = sym (ap (λ o. o.erased) end_step ∙ ap (map (key_of row.job)) (unbacked row.copies [] (subst T (sorted-copies row.copies) (subst T (sym h.kept.kept.shape.by_id) tt)) (λ id k found. (h.plain id k found).backed)));
+    erased = keys ∙ keys-backed row row.copies (subst T (sorted-copies row.copies) (subst T (sym h.kept.kept.shape.by_id) tt)) (λ q k found. found) ∙ sym (ap (λ o. o.erased) end_step);
   }
 
 -- ---- the step
@@ -116,7 +119,8 @@ module _ (number : ℕ) (row : Row) (line : WorkLine) (job : ℕ) (contents : Co
 module _ (number : ℕ) (a b : Admissions) (line after_line : WorkLine) (job : JobNo) (old new : List (JobNo × Row))
     (kept : AreHosted a old) (is_live : is_some (live_at a job) ≡ true) (is : b ≡ finished a job) (drops : Drops line job after_line)
     (updated : (q : JobNo) → lookup (same_job q) new ≡ cond (same_job job q) None (lookup (same_job q) old))
-    (lives : lives_of b.live ≡ filter (λ live. not (job_is job.0 live)) (lives_of a.live)) where
+    (lives : lives_of b.live ≡ filter (λ live. not (job_is job.0 live)) (lives_of a.live))
+    (own_row : Row) (found : lookup (same_job job) old ≡ Some own_row) (erased : List DeviceKey) (keys : erased ≡ keys_backed own_row (ids_of own_row.copies)) where
   abbrev before : Hosted
   before = record { number = number; admissions = a; works = line; hands = []; rows = old }
 
@@ -129,23 +133,16 @@ module _ (number : ℕ) (a b : Admissions) (line after_line : WorkLine) (job : J
   not_above : nat_le job.0 a.greatest ≡ true
   not_above = low_found a.greatest job (keys_of a.live) listed kept.within
 
-  found : (row : Row) × (lookup (same_job job) old ≡ Some row)
-  found = by (lookup (same_job job) old) refl (is_some-lookup (same_job job) old ∙ ap (list_any (same_job job)) kept.jobs ∙ listed)
-    where
-      by : (o : Option Row) → lookup (same_job job) old ≡ o → is_some (lookup (same_job job) old) ≡ true → (row : Row) × (lookup (same_job job) old ≡ Some row)
-      by (Some row) e h = (row, e)
-      by None e h = true_false (sym (ap is_some e) ∙ h)
-
-  row_view : (view : View) → Shows before job.0 view → IsRowView found.0 line job.0 view
-  row_view view h = subst (IsViewBy a.greatest line job.0 view) found.1 h.by_row
+  row_view : (view : View) → Shows before job.0 view → IsRowView own_row line job.0 view
+  row_view view h = subst (IsViewBy a.greatest line job.0 view) found h.by_row
 
   shows_at : (q : ℕ) (view : View) → IsViewBy a.greatest after_line q view (lookup (same_job (record { 0 = q })) new) → Shows after q view
   shows_at q view h = record { by_row = subst (λ (c : Admissions). IsViewBy c.greatest after_line q view (lookup (same_job (record { 0 = q })) new)) (sym is) h }
 
-  left_bare : (view : View) → IsRowView found.0 line job.0 view → IsBare a.greatest after_line job.0 (view_step number view input.End).view
+  left_bare : (view : View) → IsRowView own_row line job.0 view → IsBare a.greatest after_line job.0 (view_step number view input.End).view
   left_bare view r = record {
     life = ended;
-    is = ap (λ w. (view_step number w input.End).view) (view_is found.0 line job.0 view r) ∙ end_view number found.0 line job.0 view.contents r.shown ∙ ap (λ n. bare n ended) r.own;
+    is = ap (λ w. (view_step number w input.End).view) (view_is own_row line job.0 view r) ∙ end_view number own_row line job.0 view.contents r.shown ∙ ap (λ n. bare n ended) r.own;
     dead = refl;
     fresh = λ above. absurd (grind (arith, nat_tests, not_above, above));
     works = drops.own_works;
@@ -173,7 +170,7 @@ module _ (number : ℕ) (a b : Admissions) (line after_line : WorkLine) (job : J
       by false e = other_shows q view e h
 
   abbrev pub given : Given
-  given = record { reply = reply.Ok; posts = to_directory (EndJob number); erased = [] }
+  given = record { reply = reply.Ok; posts = to_directory (EndJob number); erased = erased }
 
   pub end_steps : StepsOne before (event.JobEnd job) given after
   end_steps = record {
@@ -181,7 +178,7 @@ module _ (number : ℕ) (a b : Admissions) (line after_line : WorkLine) (job : J
     views = views;
     told = λ view h.
         let r = row_view view h in
-        subst (λ w. IsStepOf number w input.End given) (sym (view_is found.0 line job.0 view r)) (end_told number found.0 line job.0 view.contents r.shown);
+        subst (λ w. IsStepOf number w input.End given) (sym (view_is own_row line job.0 view r)) (end_told number own_row line job.0 view.contents r.shown erased keys);
     operator = sym (ap (λ t. answered (cond t None (Some NotAdmitted))) is_live);
     admissions = is;
     lives = lives;
@@ -189,3 +186,8 @@ module _ (number : ℕ) (a b : Admissions) (line after_line : WorkLine) (job : J
     none = refl;
     none_new = refl;
   }
+
+-- a live job has a row
+pub has_row : (a : Admissions) (rows : List (JobNo × Row)) (job : JobNo) → AreHosted a rows → true ≡ is_some (live_at a job) → lookup (same_job job) rows ≡ None → true ≡ false
+has_row a rows job kept is_live none =
+    is_live ∙ is_some-lookup (same_job job) a.live ∙ ap (list_any (same_job job)) (sym kept.jobs) ∙ sym (is_some-lookup (same_job job) rows) ∙ ap is_some none

@@ -227,7 +227,8 @@ impl Node {
         }
     }
 
-    /// The operator ends a job: nothing is left of it here, and the directory is told.
+    /// The operator ends a job: nothing is left of it here, the directory is told, and the device keys of its copies are to
+    /// be erased.
     fn end_job(&mut self, job: JobNo) -> Result<node_table::Outcome, Refusal>
         ensures ok { IfOk result (λ o. StepsOne self.old (event.JobEnd job) (row_given_of o) self.new) }
         ensures few { IfOk result (λ o. length o.messages ≤ 1) }
@@ -239,6 +240,10 @@ impl Node {
             let reply = Reply::Refused(Refusal::NotAdmitted);
             return Ok(node_table::Outcome::only(self.alloc, reply));
         }
+        let Some(row) = self.rows.get(&job) else {
+            unreachable!()
+        };
+        let erase = row.device_keys(self.alloc)?;
         let message = Message::ToDirectory(DirectoryMessage::EndJob(self.number));
         let messages = node_table::Outcome::one_message(self.alloc, Place::Directory, message)?;
         let Ok(()) = self.admission.finish_job(job) else {
@@ -249,7 +254,7 @@ impl Node {
         Ok(node_table::Outcome {
             reply: Reply::Ok,
             messages,
-            erase: Erase::NoKey,
+            erase,
         })
     }
 }

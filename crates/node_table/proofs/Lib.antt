@@ -32,6 +32,7 @@ pub mod Rooms
 pub mod Pulling
 pub mod Creating
 pub mod Asking
+pub mod EndingKeys
 pub mod Lending
 pub mod Listed
 pub mod Late

@@ -14,3 +14,4 @@ pub mod Dropping
 pub mod Holding
 pub mod Asked
 pub mod Late
+pub mod Ending

@@ -77,7 +77,7 @@ impl JobRow {
 }
 
 /// The key comes last, if there is one. There is room for it.
-fn push_key(keys: &mut Vec<DeviceKey>, key: Option<DeviceKey>)
+pub(crate) fn push_key(keys: &mut Vec<DeviceKey>, key: Option<DeviceKey>)
     requires { vec_len keys.old < vec_capacity keys.old }
     ensures items { keys.new.items ≡ keys.old.items ++ option_to_list key }
     ensures len { vec_len keys.new ≤ vec_len keys.old + 1 }

@@ -8,6 +8,7 @@ mod checks;
 mod copies;
 mod copy;
 mod create_command;
+mod ending;
 mod get_away;
 mod get_command;
 mod get_fetching;
