@@ -1,4 +1,5 @@
 pub mod CommandLine
 pub mod Endings
 pub mod Lines
+pub mod Orders
 pub mod Runs
