@@ -3,3 +3,4 @@ pub mod Endings
 pub mod Lines
 pub mod Orders
 pub mod Runs
+pub mod Servings

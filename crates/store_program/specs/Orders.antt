@@ -8,6 +8,8 @@ use Rattle.private_store.specs.declared.schedules.Event.TheVariants as event
 use Rattle.private_store.specs.declared.schedules.Step.TheVariants as «step»
 use Rattle.schedule_text.specs.declared.line.Line.TheVariants as line
 use Rattle.schedule_text.specs.Reading.{IsLine}
+use Rattle.store_program.specs.declared.operator.Change.{Change}
+use Rattle.store_program.specs.declared.operator.Change.TheVariants as change
 use Rattle.store_program.specs.declared.operator.Order.{Order}
 use Rattle.store_program.specs.declared.operator.Order.TheVariants as order
 
@@ -18,7 +20,10 @@ pub record IsAdmission (nodes : ℕ) (text : List ℕ) (node : ℕ) (job : JobNo
   pub split : text ≡ admission ++ 32 ∷ encode_lower key.0
   pub spelled : IsLine nodes admission (line.Step («step».At node (event.Admit job quota unspelled)))
 
+abbrev pub IsChange : ℕ → List ℕ → ℕ → Change → Type 0
+IsChange nodes text node (change.Admit job quota key) = IsAdmission nodes text node job quota key
+IsChange nodes text node (change.End job) = IsLine nodes text (line.Step («step».At node (event.JobEnd job)))
+
 abbrev pub IsOrder : ℕ → List ℕ → Order → Type 0
-IsOrder nodes text (order.Admit node job quota key) = IsAdmission nodes text node job quota key
-IsOrder nodes text (order.End node job) = IsLine nodes text (line.Step («step».At node (event.JobEnd job)))
+IsOrder nodes text (order.Change node c) = IsChange nodes text node c
 IsOrder nodes text order.Close = text ≡ codes "close"

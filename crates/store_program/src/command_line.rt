@@ -86,9 +86,9 @@ fn serve_command<'a>(alloc: Global) -> Result<Command<'a>, AllocError> {
         .arg(nodes_option(alloc).required(true))?
         .arg(memory_option(alloc).required(true))?
         .arg(
-            path_option(alloc, "spill")
-                .value_name("DIR")
-                .help("Node K spills into the folder DIR/K, which is made if it is missing"),
+            path_option(alloc, "spill").value_name("DIR").help(
+                "Node K spills into the folder DIR/K, which is made if it is missing",
+            ),
         )
 }
 

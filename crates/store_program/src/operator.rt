@@ -8,13 +8,20 @@ use private_store::{Event, Step};
 use schedule_text::{Line, read_line};
 use std::alloc::{AllocError, Global};
 
+/// What is to become of a job at a node.
+#[derive(Clone, Copy, Debug, PartialEq, Eq)]
+pub enum Change {
+    /// It is admitted.
+    Admit(JobNo, Quota, JobKey),
+    /// It is ended.
+    End(JobNo),
+}
+
 /// What an operator's line asks for.
 #[derive(Clone, Copy, Debug, PartialEq, Eq)]
 pub enum Order {
-    /// A job is admitted at the node of this number.
-    Admit(u32, JobNo, Quota, JobKey),
-    /// A job is ended at the node of this number.
-    End(u32, JobNo),
+    /// A change at the node of this number.
+    Change(u32, Change),
     /// No more sessions are taken.
     Close,
 }
@@ -28,7 +35,9 @@ pub fn read_order(alloc: Global, text: &str, nodes: u32) -> Result<Option<Order>
         return Ok(Some(Order::Close));
     }
     match read_line(alloc, text, nodes)? {
-        Some(Line::Step(Step::At(node, Event::JobEnd(job)))) => Ok(Some(Order::End(node, job))),
+        Some(Line::Step(Step::At(node, Event::JobEnd(job)))) => {
+            Ok(Some(Order::Change(node, Change::End(job))))
+        }
         Some(_) => Ok(None),
         None => read_admission(alloc, text, nodes),
     }
@@ -46,7 +55,7 @@ fn read_admission(alloc: Global, text: &str, nodes: u32) -> Result<Option<Order>
     };
     match read_line(alloc, admission, nodes)? {
         Some(Line::Step(Step::At(node, Event::Admit(job, quota, _)))) => {
-            Ok(Some(Order::Admit(node, job, quota, key)))
+            Ok(Some(Order::Change(node, Change::Admit(job, quota, key))))
         }
         _ => Ok(None),
     }

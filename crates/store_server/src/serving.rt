@@ -4,9 +4,7 @@ ghost use Rattle.world_core.specs.Worlds.{is_shape};
 
 use session_threads::{Cluster, Listening, listen};
 use std::alloc::Global;
-use std::fs;
 use std::fs::Files;
-use std::io;
 use std::io::{BufRead, BufReader, Read, Write};
 use std::marker::Brand;
 use std::net::Net;
@@ -15,6 +13,7 @@ use std::sync::ledger::{Blank, Ledger};
 use std::sync::{Arc, Wait};
 use std::thread::Threads;
 use std::time::Clock;
+use std::{fs, io};
 use store_program::{Fault, Serving, serve_text, write_report};
 
 /// The socket of a node.
