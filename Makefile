@@ -32,8 +32,12 @@ faults:
 	    grep "^test result" crates/$$crate/faults.log; rm crates/$$crate/faults.log; \
 	done; done
 
+# Sessions of two jobs over the sockets of a built program.
+sessions: build
+	tests/sessions
+
 # Measures a built program (see bench/growth --help).
 bench: build
 	bench/growth
 
-.PHONY: test check build run faults bench
+.PHONY: test check build run sessions faults bench

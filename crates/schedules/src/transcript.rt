@@ -5,13 +5,15 @@ ghost use Rattle.schedules.specs.Transcripts.{Transcribes};
 
 use std::alloc::{AllocError, Global};
 use std::fmt::Write as _;
-use store_program::{read_shape, run_text, status_of, status_of_error};
+use store_program::{Task, read_task, run_text, status_of, status_of_error};
 use world_core::Shape;
 
 /// What a process with these words prints when it is given the schedule, and what it says at its end.
 pub fn told(alloc: Global, words: &[String], schedule: &[u8]) -> Result<Vec<u8>, AllocError> {
-    match read_shape(alloc, words) {
-        Ok(shape) => transcript(alloc, shape, schedule),
+    match read_task(alloc, words) {
+        Ok(Task::Run(shape)) => transcript(alloc, shape, schedule),
+        // sessions aren't schedules
+        Ok(Task::Serve(_)) => Ok(Vec::new(alloc)),
         Err(error) => {
             let status = status_of_error(&error);
             Ok(format!(in alloc; "{error}status {status}\n")?.into_bytes())

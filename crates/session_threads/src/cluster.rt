@@ -14,8 +14,7 @@ pub struct Report {
     pub entries: u64,
     /// Receipts that the operator and the sessions were given.
     pub receipts: u64,
-    /// Last receipts of sessions that their node's journal doesn't have. Nobody looks for them before listeners do, so it
-    /// is 0 until then.
+    /// Those of them that were looked for and that their node's journal doesn't have: 0 in a right run.
     pub disagreeing: u64,
     /// Messages that nobody was given.
     pub lost: u64,
@@ -66,8 +65,15 @@ impl<L: Ledger> Cluster<L> {
         self.nodes.get(number as usize)
     }
 
-    /// Closes all nodes, waits for the open sessions to end, and says what was counted.
-    pub fn close<R: Wait>(&self, rt: &R) -> Report {
+    /// Shuts all nodes: who waits for another answer is answered Pending, and no listener takes a stream any more.
+    pub fn shut<R: Wait>(&self, rt: &R) {
+        for node in &self.nodes {
+            node.shut(rt);
+        }
+    }
+
+    /// Waits for the open sessions to end, and says what was counted.
+    pub fn report<R: Wait>(&self, rt: &R) -> Report {
         let mut report = Report {
             entries: 0,
             receipts: 0,
@@ -76,7 +82,7 @@ impl<L: Ledger> Cluster<L> {
             erase_failures: 0,
         };
         for node in &self.nodes {
-            let (entries, tally) = node.close(rt);
+            let (entries, tally) = node.counted(rt);
             report.entries = report.entries.saturating_add(entries);
             report.receipts = report.receipts.saturating_add(tally.receipts);
             report.disagreeing = report.disagreeing.saturating_add(tally.disagreeing);

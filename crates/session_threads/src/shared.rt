@@ -24,7 +24,7 @@ use std::sync::{Condvar, Mutex, Wait};
 pub(crate) struct Tally {
     /// Receipts that the node's own actors were given.
     pub receipts: u64,
-    /// Last receipts of sessions that the journal doesn't have.
+    /// Those of them that were looked for and that the journal doesn't have.
     pub disagreeing: u64,
     /// Messages that nobody was given.
     pub lost: u64,
@@ -36,9 +36,9 @@ pub(crate) struct Tally {
 #[derive(Drop)]
 pub struct SharedNode<L: Ledger> {
     kept: Mutex<Kept<L>>,
-    // an answer may have become another one, or the node is closed
+    // an answer may have become another one, or the node is shut
     changed: Condvar,
-    closed: AtomicBool,
+    shut: AtomicBool,
     tally: Mutex<Tally>,
     // sessions that haven't ended
     open: Mutex<u64>,
@@ -63,7 +63,7 @@ impl<L: Ledger> SharedNode<L> {
         SharedNode {
             kept: Mutex::new(Kept::new(alloc, number, memory, seat)),
             changed: Condvar::new(),
-            closed: AtomicBool::new(false),
+            shut: AtomicBool::new(false),
             tally: Mutex::new(Tally {
                 receipts: 0,
                 disagreeing: 0,
@@ -95,7 +95,7 @@ impl<L: Ledger> SharedNode<L> {
         (reply, receipt)
     }
 
-    /// The same, tried again while the answer is Pending and the node isn't closed. Each try is an entry; the answer and the
+    /// The same, tried again while the answer is Pending and the node isn't shut. Each try is an entry; the answer and the
     /// receipt are those of the last.
     pub fn call_wait<R: Wait>(
         &self,
@@ -112,7 +112,7 @@ impl<L: Ledger> SharedNode<L> {
             let stepped = step_call(&mut *kept, job, session, command_of(&awaited));
             self.count(rt, &stepped);
             let is_pending = matches!(&stepped.reply, Reply::Refused(Refusal::Pending));
-            if !is_pending || self.closed.load(Ordering::SeqCst) {
+            if !is_pending || self.is_shut() {
                 let Stepped { reply, receipt, .. } = stepped;
                 return (reply, receipt);
             }
@@ -173,8 +173,8 @@ impl<L: Ledger> SharedNode<L> {
         }
     }
 
-    /// Looks for the entry of a session's last receipt, and counts it if the journal doesn't have it.
-    pub(crate) fn check<R: Wait>(&self, rt: &R, receipt: &Receipt<L>) {
+    /// Looks for the entry of a receipt that was given by this node, and counts it if the journal doesn't have it.
+    pub fn check<R: Wait>(&self, rt: &R, receipt: &Receipt<L>) {
         let stands = self.kept.lock(rt).stands(receipt);
         if !stands {
             let mut tally = self.tally.lock(rt);
@@ -197,19 +197,22 @@ impl<L: Ledger> SharedNode<L> {
         self.ended.notify_all();
     }
 
-    /// Whether the node is closed.
-    pub(crate) fn is_closed(&self) -> bool {
-        self.closed.load(Ordering::SeqCst)
+    /// Whether the node is shut.
+    pub(crate) fn is_shut(&self) -> bool {
+        self.shut.load(Ordering::SeqCst)
     }
 
-    /// Closes the node: who waits for another answer is answered Pending. Then waits for the open sessions to end, and gives
-    /// the number of entries and what was counted.
-    pub(crate) fn close<R: Wait>(&self, rt: &R) -> (u64, Tally) {
+    /// Shuts the node: who waits for another answer is answered Pending, and no listener takes a stream any more.
+    pub(crate) fn shut<R: Wait>(&self, rt: &R) {
         let kept = self.kept.lock(rt);
         // under the lock, so that nobody is between its last try and its wait
-        self.closed.store(true, Ordering::SeqCst);
+        self.shut.store(true, Ordering::SeqCst);
         drop(kept);
         self.changed.notify_all();
+    }
+
+    /// Waits for the open sessions to end, and gives the number of entries and what was counted.
+    pub(crate) fn counted<R: Wait>(&self, rt: &R) -> (u64, Tally) {
         let open = self
             .ended
             .wait_while(rt, self.open.lock(rt), |open| *open > 0);

@@ -10,7 +10,7 @@ use Rattle.private_store.specs.declared.schedules.Traced.{Traced}
 use Rattle.schedule_text.specs.Reading.{is_skipped}
 use Rattle.world_core.specs.Worlds.{Hosting, IsAfter}
 use Rattle.store_program.specs.declared.fault.Fault.{Fault}
-use Rattle.store_program.specs.declared.fault.Fault.TheVariants.{NotAStep, Input, Output, NoMemory}
+use Rattle.store_program.specs.declared.fault.Fault.TheVariants.{NotAStep, Input, Output, Socket, NoMemory}
 use Rattle.store_program.specs.Lines.{Spells, with_feed, history_of, input_of, output_of}
 use Rattle.store_program.specs.Runs.{RunsStep, RunsLine, StopsRun, IsReadingFault, Progress, IsWorldly, IsOutput, Ran}
 use Rattle.private_store.proofs.KnownBytes.{Appends-none, Appends-then, Appends-kept, Consumes-none, Consumes-then, Consumes-all}
@@ -56,6 +56,7 @@ module _ (nodes memory number : ℕ) (world : Hosting) (a r b w : Option (List �
     pub reading_failed : (fault : Fault) → IsReadingFault fault → Ran nodes memory a r1 b w (Err fault)
     reading_failed (NotAStep n) is = absurd is
     reading_failed Output is = absurd is
+    reading_failed Socket is = absurd is
     reading_failed Input is =
         record {
           lines = so_far.lines;
@@ -101,6 +102,7 @@ module _ (nodes memory number : ℕ) (world : Hosting) (a r b w : Option (List �
           ends = (stops.0 ∙ sym so_far.counted, stops.1);
         }
     line_stopped w1 Input stops = absurd stops
+    line_stopped w1 Socket stops = absurd stops
     line_stopped w1 Output stops =
         record {
           lines = so_far.lines;
@@ -144,6 +146,7 @@ IsOutput-kept b w w1 text (Ok u) p q = Appends-kept b w w1 text p q
 IsOutput-kept b w w1 text (Err (NotAStep n)) p q = Appends-kept b w w1 text p q
 IsOutput-kept b w w1 text (Err Input) p q = Appends-kept b w w1 text p q
 IsOutput-kept b w w1 text (Err Output) p q = tt
+IsOutput-kept b w w1 text (Err Socket) p q = Appends-kept b w w1 text p q
 IsOutput-kept b w w1 text (Err NoMemory) p q = Appends-kept b w w1 text p q
 
 module _ (nodes memory : ℕ) (a r b w w1 : Option (List ℕ)) (result : Result ⊤ Fault) (ran : Ran nodes memory a r b w result) where

@@ -7,6 +7,8 @@ use Rattle.clap.specs.declared.error.kind.ErrorKind.{ErrorKind}
 use Rattle.clap.specs.declared.error.kind.ErrorKind.TheVariants.{DisplayHelp, DisplayVersion}
 use Rattle.world_core.specs.declared.Shape.{Shape}
 use Rattle.world_core.specs.Worlds.{is_shape}
+use Rattle.store_program.specs.declared.command_line.Task.{Task}
+use Rattle.store_program.specs.declared.command_line.Task.TheVariants.{Run, Serve}
 
 -- the text that was given for the option, or its default, is the number in decimal digits
 pub record IsOption (found : Found) (name : List ℕ) (number : ℕ) : Type 0 where
@@ -19,6 +21,11 @@ pub record Asks (found : Found) (shape : Shape) : Type 0 where
   pub in_range : is_shape shape ≡ true
   pub nodes : IsOption found (codes "nodes") shape.nodes
   pub memory : IsOption found (codes "memory") shape.memory
+
+-- the shape of the nodes that a task has
+abbrev pub shape_of : Task → Shape
+shape_of (Run shape) = shape
+shape_of (Serve serving) = serving.shape
 
 -- 0 after help or the version, 2 after a mistake
 pub record IsStatusOfError (kind : ErrorKind) (status : ℕ) : Type 0 where

@@ -1,4 +1,6 @@
 pub mod CommandLine
 pub mod Endings
 pub mod Lines
+pub mod Orders
 pub mod Runs
+pub mod Servings

@@ -8,7 +8,7 @@ use Rattle.schedule_text.specs.Prefixes.{prefix_of}
 use Rattle.schedule_text.specs.Printing.{line_text}
 use Rattle.world_core.specs.Worlds.{Hosting, IsAfter}
 use Rattle.store_program.specs.declared.fault.Fault.{Fault}
-use Rattle.store_program.specs.declared.fault.Fault.TheVariants.{NotAStep, Input, Output, NoMemory}
+use Rattle.store_program.specs.declared.fault.Fault.TheVariants.{NotAStep, Input, Output, Socket, NoMemory}
 use Rattle.store_program.specs.Lines.{Heard, AreHeard, IsAnswered, IsNoLine, with_feed, with_answered, history_of, input_of, output_of, printed}
 
 -- the world takes the step, and the line is that of its answer
@@ -28,6 +28,7 @@ abbrev pub StopsStep : Option (List ℕ) → Option (List ℕ) → Fault → Typ
 StopsStep written_old written_new (NotAStep n) = ⊥
 StopsStep written_old written_new Input = ⊥
 StopsStep written_old written_new Output = ⊤
+StopsStep written_old written_new Socket = ⊥
 StopsStep written_old written_new NoMemory = Keeps written_old written_new
 
 -- a whole line is read, its step taken, and its answer written
@@ -43,6 +44,7 @@ abbrev pub StopsRun : ℕ → ℕ → List ℕ → Option (List ℕ) → Option 
 StopsRun nodes number bytes written_old written_new (NotAStep n) = (n ≡ number) × IsNoLine nodes bytes × Keeps written_old written_new
 StopsRun nodes number bytes written_old written_new Input = ⊥
 StopsRun nodes number bytes written_old written_new Output = ⊤
+StopsRun nodes number bytes written_old written_new Socket = ⊥
 StopsRun nodes number bytes written_old written_new NoMemory = Keeps written_old written_new
 
 -- reading fails for the input, or out of memory
@@ -50,6 +52,7 @@ abbrev pub IsReadingFault : Fault → Type 0
 IsReadingFault (NotAStep n) = ⊥
 IsReadingFault Input = ⊤
 IsReadingFault Output = ⊥
+IsReadingFault Socket = ⊥
 IsReadingFault NoMemory = ⊤
 
 -- a run so far
@@ -74,6 +77,7 @@ EndsAt nodes number bytes read_old input (Ok u) = IfSome read_old (λ all. all �
 EndsAt nodes number bytes read_old input (Err (NotAStep n)) = (n ≡ number) × IsNoLine nodes bytes
 EndsAt nodes number bytes read_old input (Err Input) = ⊤
 EndsAt nodes number bytes read_old input (Err Output) = ⊤
+EndsAt nodes number bytes read_old input (Err Socket) = ⊥
 EndsAt nodes number bytes read_old input (Err NoMemory) = ⊤
 
 -- what a run wrote; if the output failed, nobody knows
@@ -81,6 +85,7 @@ abbrev pub IsOutput : Option (List ℕ) → Option (List ℕ) → List ℕ → R
 IsOutput written_old written_new text (Err Output) = ⊤
 IsOutput written_old written_new text (Err (NotAStep n)) = Appends written_old written_new text
 IsOutput written_old written_new text (Err Input) = Appends written_old written_new text
+IsOutput written_old written_new text (Err Socket) = Appends written_old written_new text
 IsOutput written_old written_new text (Err NoMemory) = Appends written_old written_new text
 IsOutput written_old written_new text (Ok u) = Appends written_old written_new text
 

@@ -2,7 +2,7 @@
 ghost use Rattle.std.specs.Prelude.{◌≡◌, true, IfOk, IfSome};
 ghost use Rattle.clap.specs.Words.{found_of, kind_of};
 ghost use Rattle.world_core.specs.Worlds.{is_shape};
-ghost use Rattle.store_program.specs.CommandLine.{Asks, IsStatusOfError};
+ghost use Rattle.store_program.specs.CommandLine.{Asks, shape_of, IsStatusOfError};
 
 use clap::builder::ValueParser;
 use clap::error::ErrorKind;
@@ -11,21 +11,52 @@ use obj_id::limits::{LARGEST_MEMORY, MOST_NODES};
 use std::alloc::{AllocError, Global};
 use world_core::Shape;
 
-/// The shape of the world that the words, the program's name first, ask a run of. Otherwise the error has what there is
-/// to print: help, the version, or what is wrong with the words.
-pub fn read_shape<'a>(alloc: Global, words: &'a [String]) -> Result<Shape, Error>
-    ensures { IfOk result (λ shape. is_shape shape ≡ true) }
+/// What the words of a command line ask for.
+#[derive(Clone, Copy, Debug)]
+pub enum Task<'a> {
+    /// A run of the schedule on standard input.
+    Run(Shape),
+    /// Nodes that serve sessions.
+    Serve(Serving<'a>),
+}
+
+/// What nodes that serve are to be.
+#[derive(Clone, Copy, Debug)]
+pub struct Serving<'a> {
+    /// How many nodes there are, and the memory of each.
+    pub shape: Shape,
+    /// Node K listens on the Unix socket of this path, a full stop and K.
+    pub socket: &'a str,
+    /// Node K spills into the folder K of this one.
+    pub spill: &'a str,
+}
+
+/// What the words, the program's name first, ask for. Otherwise the error has what there is to print: help, the version, or
+/// what is wrong with the words.
+pub fn read_task<'a>(alloc: Global, words: &'a [String]) -> Result<Task<'a>, Error>
+    ensures { IfOk result (λ task. is_shape (shape_of task) ≡ true) }
 {
-    let mut command = Command::new(alloc, "store")
+    let mut command = store_command(alloc)?;
+    let matches = command.try_get_matches_from_mut(words)?;
+    if let Some(serve) = matches.subcommand_matches("serve") {
+        if let Some(serving) = serving_asked(serve) {
+            return Ok(Task::Serve(serving));
+        }
+    }
+    match matches.subcommand_matches("run").and_then(shape_asked) {
+        Some(shape) => Ok(Task::Run(shape)),
+        None => Err(command.error(ErrorKind::MissingSubcommand, "a command is missing")?),
+    }
+}
+
+/// `store`, with its commands.
+fn store_command<'a>(alloc: Global) -> Result<Command<'a>, AllocError> {
+    Command::new(alloc, "store")
         .bin_name("store")?
         .version("0.1.0")
         .about("The shared, immutable object store of a node, used by many jobs at once")
-        .subcommand(run_command(alloc)?)?;
-    let matches = command.try_get_matches_from_mut(words)?;
-    match matches.subcommand_matches("run").and_then(shape_asked) {
-        Some(shape) => Ok(shape),
-        None => Err(command.error(ErrorKind::MissingSubcommand, "a command is missing")?),
-    }
+        .subcommand(run_command(alloc)?)?
+        .subcommand(serve_command(alloc)?)
 }
 
 /// The status of a process whose words ask for no run: 0 after help or the version, 2 after a mistake.
@@ -37,32 +68,78 @@ pub fn status_of_error(error: &Error) -> u8
 
 /// `run`, with its options.
 fn run_command<'a>(alloc: Global) -> Result<Command<'a>, AllocError> {
-    let nodes = Arg::new(alloc, "nodes")
+    Command::new(alloc, "run")
+        .about("Runs the schedule on standard input, and prints a line for each step")
+        .arg(nodes_option(alloc).default_value("1"))?
+        .arg(memory_option(alloc).default_value("1048576"))
+}
+
+/// `serve`, with its options.
+fn serve_command<'a>(alloc: Global) -> Result<Command<'a>, AllocError> {
+    Command::new(alloc, "serve")
+        .about("Serves sessions on Unix sockets; nothing is spilled or fetched yet")
+        .arg(
+            path_option(alloc, "socket")
+                .value_name("PATH")
+                .help("Node K listens on the Unix socket PATH.K"),
+        )?
+        .arg(nodes_option(alloc).required(true))?
+        .arg(memory_option(alloc).required(true))?
+        .arg(
+            path_option(alloc, "spill").value_name("DIR").help(
+                "Node K spills into the folder DIR/K, which is made if it is missing",
+            ),
+        )
+}
+
+/// An option that is needed, and whose value is a path.
+fn path_option<'a>(alloc: Global, name: &'a str) -> Arg<'a> {
+    Arg::new(alloc, name)
+        .long(name)
+        .action(ArgAction::Set)
+        .required(true)
+}
+
+/// `--nodes`.
+fn nodes_option<'a>(alloc: Global) -> Arg<'a> {
+    Arg::new(alloc, "nodes")
         .long("nodes")
         .value_name("N")
         .action(ArgAction::Set)
         .value_parser(ValueParser::unsigned(1, u64::from(MOST_NODES)))
-        .default_value("1")
-        .help("How many nodes the cluster has, 1 to 8");
-    let memory = Arg::new(alloc, "memory")
+        .help("How many nodes the cluster has, 1 to 8")
+}
+
+/// `--memory`.
+fn memory_option<'a>(alloc: Global) -> Arg<'a> {
+    Arg::new(alloc, "memory")
         .long("memory")
         .value_name("BYTES")
         .action(ArgAction::Set)
         .value_parser(ValueParser::unsigned(0, LARGEST_MEMORY))
-        .default_value("1048576")
-        .help("The bytes of each node's memory, 0 to 17179869184");
-    Command::new(alloc, "run")
-        .about("Runs the schedule on standard input, and prints a line for each step")
-        .arg(nodes)?
-        .arg(memory)
+        .help("The bytes of each node's memory, 0 to 17179869184")
 }
 
-/// The shape that the options of `run` ask for, if their numbers are in range.
-fn shape_asked(run: &ArgMatches) -> Option<Shape>
-    ensures { IfSome result (Asks (found_of run.now)) }
+/// What the options of `serve` ask for, if they are all there and their numbers in range.
+fn serving_asked<'a>(options: &ArgMatches<'a>) -> Option<Serving<'a>>
+    ensures { IfSome result (λ serving. Asks (found_of options.now) serving.shape) }
 {
-    let nodes = run.get_one::<u32>("nodes")?;
-    let memory = run.get_one::<u64>("memory")?;
+    let shape = shape_asked(options)?;
+    let socket = options.get_str("socket")?;
+    let spill = options.get_str("spill")?;
+    Some(Serving {
+        shape,
+        socket,
+        spill,
+    })
+}
+
+/// The shape that the options of `run` or `serve` ask for, if their numbers are in range.
+fn shape_asked(options: &ArgMatches) -> Option<Shape>
+    ensures { IfSome result (Asks (found_of options.now)) }
+{
+    let nodes = options.get_one::<u32>("nodes")?;
+    let memory = options.get_one::<u64>("memory")?;
     if 1 <= nodes && nodes <= MOST_NODES && memory <= LARGEST_MEMORY {
         Some(Shape { nodes, memory })
     } else {

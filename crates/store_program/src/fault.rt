@@ -15,6 +15,8 @@ pub enum Fault {
     Input,
     /// The output can't be written.
     Output,
+    /// A socket can't be served.
+    Socket,
     /// Out of memory outside a step.
     NoMemory,
 }
@@ -31,6 +33,7 @@ impl Display for Fault {
             Fault::NotAStep(line) => write!(f, "store: line {line}: not a step"),
             Fault::Input => f.write_str("store: input failed"),
             Fault::Output => f.write_str("store: output failed"),
+            Fault::Socket => f.write_str("store: socket failed"),
             Fault::NoMemory => f.write_str("store: no memory"),
         }
     }

@@ -6,8 +6,12 @@
 mod command_line;
 mod fault;
 mod lines;
+mod operator;
 mod run;
+mod serving;
 
-pub use command_line::{read_shape, status_of_error};
+pub use command_line::{Serving, Task, read_task, status_of_error};
 pub use fault::{Fault, status_of};
+pub use operator::{Order, read_order};
 pub use run::run_text;
+pub use serving::{serve_text, write_report};

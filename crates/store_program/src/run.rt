@@ -67,7 +67,7 @@ fn run_lines<R: BufRead, W: Write>(
 }
 
 /// Reads a line with its line feed, the last one perhaps without, unless the input is at its end.
-fn next_line<R: BufRead>(reader: &mut R, line: &mut Vec<u8>) -> Result<bool, Fault>
+pub(crate) fn next_line<R: BufRead>(reader: &mut R, line: &mut Vec<u8>) -> Result<bool, Fault>
     ensures consumed { Consumes (R.remaining reader.old) (R.remaining reader.new) line.new.items }
     ensures one { StopsAt line.new.items 10 }
     ensures end { IfOk result (λ is_line. is_line ≡ false → IsAtEnd (R.remaining reader.old)) }

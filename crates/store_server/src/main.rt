@@ -4,22 +4,28 @@
 ghost use Rattle.std.specs.Prelude.{◌≡◌, true};
 ghost use Rattle.world_core.specs.Worlds.{is_shape};
 
+mod serving;
+
+use serving::serve;
 use std::io::{BufReader, BufWriter};
 use std::process::ExitCode;
 use std::{env, io};
-use store_program::{Fault, read_shape, run_text, status_of, status_of_error};
+use store_program::{Fault, Task, read_task, run_text, status_of, status_of_error};
 use world_core::Shape;
 
 fn main(rt: HostRuntime) -> io::Result<ExitCode> {
     let words: Vec<String> = env::args(&rt)?.collect(rt.alloc())?;
-    let shape = match read_shape(rt.alloc(), words.as_slice()) {
-        Ok(shape) => shape,
+    let task = match read_task(rt.alloc(), words.as_slice()) {
+        Ok(task) => task,
         Err(error) => {
             error.print(&rt)?;
             return Ok(ExitCode::from(status_of_error(&error)));
         }
     };
-    let outcome = run(&rt, shape);
+    let outcome = match task {
+        Task::Run(shape) => run(&rt, shape),
+        Task::Serve(serving) => serve(rt, rt.alloc(), serving, rt.reader(), io::writer(&rt)),
+    };
     if let Err(fault) = outcome {
         rt.eprintln(fault)?;
     }

@@ -1,0 +1,102 @@
+//! Listeners, and the sessions of the streams that they accept.
+use crate::{Session, SharedNode};
+use session_engine::serve;
+use std::alloc::{AllocError, Global};
+use std::net::Shutdown;
+use std::os::fd::OwnedFd;
+use std::os::unix::net::{UnixListener, UnixStream};
+use std::sync::ledger::Ledger;
+use std::sync::{Arc, Wait};
+use std::thread::{JoinHandle, Threads};
+use std::time::{Clock, Duration};
+use std::{io, thread};
+
+/// How long a listener rests after it failed to accept, in milliseconds: while no descriptor is left it would fail again at
+/// once.
+const REST: u64 = 10;
+
+/// A listener that accepts streams in a thread.
+#[derive(Drop)]
+pub struct Listening {
+    // the listener's own socket: once it is shut down nothing is accepted any more
+    socket: UnixStream,
+    thread: JoinHandle<()>,
+}
+
+impl Listening {
+    /// Accepts no stream any more, and waits for the listener's thread, if the node is shut. The sessions go on.
+    pub fn end<R: Threads>(self, rt: &R) -> io::Result<()> {
+        let Listening { socket, thread } = self;
+        socket.shutdown(Shutdown::Both)?;
+        thread.join(rt);
+        Ok(())
+    }
+}
+
+/// Serves each stream that the listener accepts, in a thread of its own, until the node is shut and the listener ended.
+///
+/// A stream that can't be accepted, or for which there is no memory or no thread, is closed, and the others are served.
+pub fn listen<L: Ledger + Send + Sync + 'static, R: Threads + Wait + Clock + Copy + Send + 'static>(
+    rt: R,
+    alloc: Global,
+    node: Arc<SharedNode<L>>,
+    listener: UnixListener,
+) -> io::Result<Listening> {
+    let socket = UnixStream::from(OwnedFd::from(listener.try_clone()?));
+    let job = move || accept_all(rt, alloc, &node, &listener);
+    let thread = thread::spawn(&rt, job)?;
+    Ok(Listening { socket, thread })
+}
+
+/// Accepts streams until the node is shut and the listener's socket with it.
+fn accept_all<L: Ledger + Send + Sync + 'static, R: Threads + Wait + Clock + Copy + Send + 'static>(
+    rt: R,
+    alloc: Global,
+    node: &Arc<SharedNode<L>>,
+    listener: &UnixListener,
+) {
+    for stream in listener.incoming() {
+        if node.is_shut() {
+            return;
+        }
+        match stream {
+            Ok(stream) => {
+                let _ = start_session(rt, alloc, node, stream);
+            }
+            Err(_) => thread::sleep(&rt, Duration::from_millis(REST)),
+        }
+    }
+}
+
+/// Serves a stream in a thread of its own.
+fn start_session<L: Ledger + Send + Sync + 'static, R: Threads + Wait + Copy + Send + 'static>(
+    rt: R,
+    alloc: Global,
+    node: &Arc<SharedNode<L>>,
+    stream: UnixStream,
+) -> Result<(), AllocError> {
+    let theirs = Arc::try_clone(node)?;
+    node.open_session(&rt);
+    let job = move || serve_stream(&rt, alloc, &*theirs, &stream);
+    if thread::spawn(&rt, job).is_err() {
+        node.end_session(&rt);
+    }
+    Ok(())
+}
+
+/// Serves a session over the stream, to its end.
+fn serve_stream<L: Ledger, R: Wait>(
+    rt: &R,
+    alloc: Global,
+    node: &SharedNode<L>,
+    stream: &UnixStream,
+) {
+    let mut session = Session::new(rt, node);
+    let mut reader = stream;
+    let mut writer = stream;
+    // a fault of a client ends this session alone
+    let _ = serve(alloc, &mut reader, &mut writer, &mut session);
+    session.check();
+    let _ = stream.shutdown(Shutdown::Both);
+    node.end_session(rt);
+}

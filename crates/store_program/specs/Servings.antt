@@ -1,0 +1,115 @@
+-- The operator's lines that were carried out, and what was printed for them.
+use Rattle.std.specs.Prelude.{◌≡◌, ℕ, suc, false, true, Bool, List, [], ◌∷◌, ◌++◌, length, Option, IfSome, Result, Ok, Err, codes, ⊤, ◌⊎◌}
+use Rattle.std.specs.Io.KnownBytes.{Appends, Consumes, Keeps}
+use Rattle.obj_id.specs.declared.commands.Reply.{Reply}
+use Rattle.private_store.specs.declared.schedules.StepAnswer.TheVariants.{Told}
+use Rattle.schedule_text.specs.declared.prefixes.Prefix.TheVariants.{Operator}
+use Rattle.schedule_text.specs.Printing.{line_text}
+use Rattle.store_program.specs.declared.fault.Fault.{Fault}
+use Rattle.store_program.specs.declared.fault.Fault.TheVariants.{NotAStep, Input, Output, Socket, NoMemory}
+use Rattle.store_program.specs.declared.operator.Change.{Change}
+use Rattle.store_program.specs.declared.operator.Order.TheVariants as order
+use Rattle.store_program.specs.Lines.{with_feed}
+use Rattle.store_program.specs.Orders.{IsOrder}
+
+-- a line, without its line feed, and the answer to it
+pub record Obeyed : Type 0 where
+  pub text : List ℕ
+  pub node : ℕ
+  pub change : Change
+  pub reply : Reply (List ℕ)
+
+-- the bytes of a line that was answered
+abbrev pub answer_text : Obeyed → List ℕ
+answer_text o = line_text (Operator o.node) (Told o.reply)
+
+-- of lines that stand newest first: each spells its change
+abbrev pub AreObeyed : ℕ → List Obeyed → Type 0
+AreObeyed nodes [] = ⊤
+AreObeyed nodes (o ∷ lines) = IsOrder nodes o.text (order.Change o.node o.change) × AreObeyed nodes lines
+
+-- the bytes that were read
+abbrev pub orders_of : List Obeyed → List ℕ
+orders_of [] = []
+orders_of (o ∷ lines) = orders_of lines ++ with_feed o.text
+
+-- the bytes that were written
+abbrev pub answers_of : List Obeyed → List ℕ
+answers_of [] = []
+answers_of (o ∷ lines) = answers_of lines ++ answer_text o
+
+-- an answer is written
+pub record Replies (node : ℕ) (written_old written_new : Option (List ℕ)) : Type 0 where
+  pub reply : Reply (List ℕ)
+  pub written : Appends written_old written_new (line_text (Operator node) (Told reply))
+
+-- a line is carried out, and its answer written
+pub record Obeys (nodes : ℕ) (bytes : List ℕ) (written_old written_new : Option (List ℕ)) : Type 0 where
+  pub obeyed : Obeyed
+  pub is_text : bytes ≡ with_feed obeyed.text
+  pub spelled : IsOrder nodes obeyed.text (order.Change obeyed.node obeyed.change)
+  pub written : Appends written_old written_new (answer_text obeyed)
+
+-- the bytes of `close`
+abbrev pub close_line : List ℕ
+close_line = with_feed (codes "close")
+
+-- a line after which it goes on, or doesn't
+abbrev pub ServesLine : ℕ → List ℕ → Option (List ℕ) → Option (List ℕ) → Bool → Type 0
+ServesLine nodes bytes written_old written_new true = Obeys nodes bytes written_old written_new
+ServesLine nodes bytes written_old written_new false = (bytes ≡ close_line) × Keeps written_old written_new
+
+-- an answer that isn't written, but perhaps a part if the output failed
+abbrev pub StopsReply : Option (List ℕ) → Option (List ℕ) → Fault → Type 0
+StopsReply written_old written_new (NotAStep n) = ⊥
+StopsReply written_old written_new Input = ⊥
+StopsReply written_old written_new Output = ⊤
+StopsReply written_old written_new Socket = ⊥
+StopsReply written_old written_new NoMemory = Keeps written_old written_new
+
+-- a line at which the serving stops: nothing is written, unless the output failed
+abbrev pub StopsOrder : ℕ → Option (List ℕ) → Option (List ℕ) → Fault → Type 0
+StopsOrder number written_old written_new (NotAStep n) = (n ≡ number) × Keeps written_old written_new
+StopsOrder number written_old written_new Input = ⊥
+StopsOrder number written_old written_new Output = ⊤
+StopsOrder number written_old written_new Socket = ⊥
+StopsOrder number written_old written_new NoMemory = Keeps written_old written_new
+
+-- the serving so far
+pub record Serving (nodes number : ℕ) (read_old read_new written_old written_new : Option (List ℕ)) : Type 0 where
+  -- newest first
+  pub lines : List Obeyed
+  -- the number of the next line
+  pub counted : suc (length lines) ≡ number
+  pub obeyed : AreObeyed nodes lines
+  pub consumed : Consumes read_old read_new (orders_of lines)
+  pub written : Appends written_old written_new (answers_of lines)
+
+-- it ends without a fault at `close`, or once the lines are the whole input; a fault for a line tells its number
+abbrev pub ServingEnds : ℕ → Option (List ℕ) → List ℕ → List ℕ → Result ⊤ Fault → Type 0
+ServingEnds number read_old input rest (Ok u) = (rest ≡ close_line) ⊎ IfSome read_old (λ all. all ≡ input)
+ServingEnds number read_old input rest (Err (NotAStep n)) = n ≡ number
+ServingEnds number read_old input rest (Err Input) = ⊤
+ServingEnds number read_old input rest (Err Output) = ⊤
+ServingEnds number read_old input rest (Err Socket) = ⊥
+ServingEnds number read_old input rest (Err NoMemory) = ⊤
+
+-- what was written; if the output failed, nobody knows
+abbrev pub IsWritten : Option (List ℕ) → Option (List ℕ) → List ℕ → Result ⊤ Fault → Type 0
+IsWritten written_old written_new text (Ok u) = Appends written_old written_new text
+IsWritten written_old written_new text (Err (NotAStep n)) = Appends written_old written_new text
+IsWritten written_old written_new text (Err Input) = Appends written_old written_new text
+IsWritten written_old written_new text (Err Output) = ⊤
+IsWritten written_old written_new text (Err Socket) = ⊥
+IsWritten written_old written_new text (Err NoMemory) = Appends written_old written_new text
+
+-- the whole of it
+pub record Served (nodes : ℕ) (read_old read_new written_old written_new : Option (List ℕ)) (result : Result ⊤ Fault) : Type 0 where
+  -- newest first
+  pub lines : List Obeyed
+  -- what was read of the line after them
+  pub rest : List ℕ
+  pub obeyed : AreObeyed nodes lines
+  pub consumed : Consumes read_old read_new (orders_of lines ++ rest)
+  pub written : IsWritten written_old written_new (answers_of lines) result
+  pub ends : ServingEnds (suc (length lines)) read_old (orders_of lines) rest result

@@ -1,0 +1,166 @@
+//! A cluster that serves, as its operator has it.
+ghost use Rattle.std.specs.Prelude.{◌≡◌, IfOk, OnOk, IfErr, IfSome};
+ghost use Rattle.std.specs.Io.KnownBytes.{Appends};
+ghost use Rattle.private_store.specs.declared.schedules.StepAnswer.TheVariants.{Told};
+ghost use Rattle.schedule_text.specs.declared.prefixes.Prefix.TheVariants.{Operator};
+ghost use Rattle.schedule_text.specs.Printing.{line_text};
+ghost use Rattle.store_program.specs.declared.fault.Fault.TheVariants.{Output};
+ghost use Rattle.store_program.specs.Orders.{IsOrder};
+ghost use Rattle.store_program.specs.Servings.{Served, ServesLine, StopsOrder, Replies, StopsReply};
+
+use crate::Fault;
+use crate::operator::{Change, Order, read_order};
+use crate::run::next_line;
+use bytes::Bytes;
+use obj_id::Reply;
+use private_store::StepAnswer;
+use schedule_text::{Prefix, answer_line};
+use session_threads::{Cluster, Report, SharedNode};
+use std::alloc::{AllocError, Global};
+use std::io::{BufRead, Write};
+use std::str;
+use std::sync::Wait;
+use std::sync::ledger::Ledger;
+
+/// Carries out the operator's lines that the reader gives, up to `close` or the end of the input, and writes a line for each
+/// but `close`.
+///
+/// What was read is those lines, each of which spells a change at a node, and `close` if it came; what was written is the
+/// answers' lines, in that order. `NotAStep` has the number of the first line, counted from 1, that is none of the operator's,
+/// or that lacks its line feed.
+pub fn serve_text<L: Ledger, R: Wait, I: BufRead, O: Write>(
+    rt: &R,
+    alloc: Global,
+    cluster: &Cluster<L>,
+    nodes: u32,
+    reader: &mut I,
+    writer: &mut O,
+) -> Result<(), Fault>
+    ensures { Served nodes (I.remaining reader.old) (I.remaining reader.new) (O.contents writer.old) (O.contents writer.new) result }
+{
+    let mut line = Vec::new(alloc);
+    for number in 1..u64::MAX {
+        match next_line(reader, &mut line) {
+            Err(fault) => return Err(fault),
+            Ok(false) => return Ok(()),
+            Ok(true) => {}
+        }
+        match serve_line(rt, alloc, cluster, nodes, number, &line, writer) {
+            Err(fault) => return Err(fault),
+            Ok(false) => return Ok(()),
+            Ok(true) => {}
+        }
+    }
+    // more lines than there are numbers
+    Err(Fault::Input)
+}
+
+/// Carries out the line of this number, and writes its answer; false if it is `close`. `NotAStep` also if the cluster has no
+/// such node.
+fn serve_line<L: Ledger, R: Wait, O: Write>(
+    rt: &R,
+    alloc: Global,
+    cluster: &Cluster<L>,
+    nodes: u32,
+    number: u64,
+    line: &[u8],
+    writer: &mut O,
+) -> Result<bool, Fault>
+    ensures ok { IfOk result (ServesLine nodes line.now (O.contents writer.old) (O.contents writer.new)) }
+    ensures err { IfErr result (StopsOrder number (O.contents writer.old) (O.contents writer.new)) }
+{
+    let Some((b'\n', text)) = line.split_last() else {
+        return Err(Fault::NotAStep(number))
+    };
+    match hear_order(alloc, text, nodes) {
+        Err(AllocError) => Err(Fault::NoMemory),
+        Ok(None) => Err(Fault::NotAStep(number)),
+        Ok(Some(Order::Close)) => Ok(false),
+        Ok(Some(Order::Change(node, change))) => match cluster.node(node) {
+            None => Err(Fault::NotAStep(number)),
+            Some(shared) => match answer_change(rt, alloc, &**shared, node, change, writer) {
+                Err(fault) => Err(fault),
+                Ok(()) => Ok(true),
+            },
+        },
+    }
+}
+
+/// What a line asks for.
+fn hear_order(alloc: Global, text: &[u8], nodes: u32) -> Result<Option<Order>, AllocError>
+    ensures { IfOk result (λ found. IfSome found (IsOrder nodes text.now)) }
+{
+    match str::from_utf8(text) {
+        Ok(text) => read_order(alloc, text, nodes),
+        Err(_) => Ok(None),
+    }
+}
+
+/// Makes a change at the node of this number, looks for its receipt, and writes the line of the answer.
+fn answer_change<L: Ledger, R: Wait, O: Write>(
+    rt: &R,
+    alloc: Global,
+    shared: &SharedNode<L>,
+    node: u32,
+    change: Change,
+    writer: &mut O,
+) -> Result<(), Fault>
+    ensures ok { OnOk result (Replies node (O.contents writer.old) (O.contents writer.new)) }
+    ensures err { IfErr result (StopsReply (O.contents writer.old) (O.contents writer.new)) }
+{
+    let (reply, receipt) = match change {
+        Change::Admit(job, quota, key) => shared.admit(rt, job, quota, key),
+        Change::End(job) => shared.end_job(rt, job),
+    };
+    if let Some(receipt) = &receipt {
+        shared.check(rt, receipt);
+    }
+    write_answer(alloc, node, reply, writer)
+}
+
+/// Writes the line of an answer to the operator, and hands it over.
+fn write_answer<O: Write>(
+    alloc: Global,
+    node: u32,
+    reply: Reply<Bytes>,
+    writer: &mut O,
+) -> Result<(), Fault>
+    ensures ok { OnOk result (Appends (O.contents writer.old) (O.contents writer.new) (line_text (Operator node) (Told reply))) }
+    ensures err { IfErr result (StopsReply (O.contents writer.old) (O.contents writer.new)) }
+{
+    let Ok(line) = answer_line(alloc, Prefix::Operator(node), &StepAnswer::Told(reply)) else {
+        return Err(Fault::NoMemory)
+    };
+    hand_over(line.as_bytes(), writer)
+}
+
+/// Writes bytes, and hands them over.
+fn hand_over<O: Write>(bytes: &[u8], writer: &mut O) -> Result<(), Fault>
+    ensures ok { OnOk result (Appends (O.contents writer.old) (O.contents writer.new) bytes.now) }
+    ensures err { IfErr result (λ fault. fault ≡ Output) }
+{
+    if writer.write_all(bytes).is_err() {
+        return Err(Fault::Output);
+    }
+    match writer.flush() {
+        Ok(()) => Ok(()),
+        Err(_) => Err(Fault::Output),
+    }
+}
+
+/// Writes the line of a report, and hands it over.
+pub fn write_report<O: Write>(alloc: Global, report: &Report, writer: &mut O) -> Result<(), Fault> {
+    let Report {
+        entries,
+        receipts,
+        disagreeing,
+        lost,
+        erase_failures,
+    } = report;
+    let Ok(line) = format!(in alloc;
+        "report {entries} {receipts} {disagreeing} {lost} {erase_failures}\n"
+    ) else {
+        return Err(Fault::NoMemory)
+    };
+    hand_over(line.as_bytes(), writer)
+}
