@@ -60,10 +60,8 @@ pub(crate) fn carry_out(
         Command::Read(id, offset, len) => row.read(alloc, session, id, *offset, *len)?,
         Command::List => row.list(alloc, Items::new(alloc))?,
         Command::Usage => row.tell_usage(works),
-        Command::EndTask(_)
-        | Command::Grant(..)
-        | Command::Withdraw(..)
-        | Command::Peek(..) => unreachable!(),
+        Command::EndTask(_) | Command::Grant(..) | Command::Withdraw(..) | Command::Peek(..) =>
+            unreachable!(),
     };
     Ok(Outcome::only(alloc, reply))
 }

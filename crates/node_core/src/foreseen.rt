@@ -59,10 +59,7 @@ impl Node {
                 Some(row) => row.copy_count() + 1,
                 None => 0,
             },
-            Command::Seal(_)
-            | Command::Unpin(..)
-            | Command::GiveUp(..)
-            | Command::Delete(_) => 1,
+            Command::Seal(_) | Command::Unpin(..) | Command::GiveUp(..) | Command::Delete(_) => 1,
             _ => 0,
         }
     }

@@ -18,7 +18,9 @@ ghost use Rattle.node_table.specs.Dropping.{is_over as is_over_lem};
 
 use fetch_core::FetchIn;
 use lru_evictor::CopyFacts;
-use obj_id::{CopyState, Digest, DirectoryMessage, Extent, Kind, ObjectId, Refusal, TaskNo, WorkKind};
+use obj_id::{
+    CopyState, Digest, DirectoryMessage, Extent, Kind, ObjectId, Refusal, TaskNo, WorkKind,
+};
 use object_state::ObjectCopy;
 use pins_holds::Pins;
 use private_store::{Fault, rounded};
