@@ -7,5 +7,5 @@ mod Ending
 mod Asking
 mod Entering
 pub mod Never
-mod AllJobs
+pub mod AllJobs
 mod Late

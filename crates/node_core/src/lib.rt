@@ -23,10 +23,12 @@ ghost use Rattle.node_core.specs.OneJob.{StepsOne};
 ghost use Rattle.node_core.specs.Outcomes.{given_of};
 ghost use Rattle.node_core.specs.Foreseen.{most_by_command, most_messages, IsAsForeseen};
 
+mod built;
 mod calls;
 mod foreseen;
 mod outcome;
 
+pub use built::{is_built, is_built_command};
 use bytes::Bytes;
 pub use foreseen::Foreseen;
 use indexmap::IndexMap;

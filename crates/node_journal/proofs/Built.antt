@@ -18,24 +18,12 @@ use Rattle.private_store.specs.Trace.{ends, hands_by}
 use Rattle.node_core.specs.Built.{is_built}
 use Rattle.node_core.specs.OneJob.{input_of}
 use Rattle.node_core.specs.Steps.{job_of_event}
+use Rattle.node_core.proofs.AllJobs.{own_of}
 
 -- ---- the own input
 
 abbrev pub of_job : ℕ → Option Input → Option JobInput
 of_job job o = option_map (λ x. record { job = job; input = x }) o
-
-abbrev pub own_of : Event → Reply (List ℕ) → Option JobInput
-own_of e told = of_job (job_of_event e) (input_of e told)
-
-pub due_is : (before : Before) (e : Event) (told : Reply (List ℕ)) → is_built e ≡ true → own_due before (Own e) told ≡ own_of e told
-due_is before (event.Admit job quota key) reply.Ok built = refl
-due_is before (event.Admit job quota key) _ built = refl
-due_is before (event.JobEnd job) reply.Ok built = refl
-due_is before (event.JobEnd job) _ built = refl
-due_is before (event.Call job session c) told built = refl
-due_is before (event.Requota job quota) told built = absurd cc
-due_is before event.Take told built = absurd cc
-due_is before (event.Finish job number a) told built = absurd cc
 
 pub here_is : (before : Before) (e : Event) (told : Reply (List ℕ)) → is_built e ≡ true → ((job : ℕ) (x : Input) → own_of e told ≡ Some (record { job = job; input = x }) → wants_memory told ≡ false) → own_here before (Own e) told ≡ own_of e told
 here_is before (event.Admit job quota key) reply.Ok built never = refl
@@ -63,47 +51,6 @@ own_inputs own job (Some x) = by (own == job)
     by : (b : Bool) → map (λ (y : JobInput). y.input) (cond b (record { job = own; input = x } ∷ []) []) ≡ if_own b (Some x)
     by true = refl
     by false = refl
-
--- ---- no note, and no hand
-
-record IsQuiet (before : Before) (e : Event) : Type 0 where
-  notes : notes_of before e ≡ []
-  hands : hands_by [] e ≡ []
-
-quiet : (before : Before) (e : Event) → is_built e ≡ true → before.hands ≡ [] → IsQuiet before e
-quiet before (event.Admit job quota key) built none = record { notes = refl; hands = refl }
-quiet before (event.JobEnd job) built none = record {
-  notes = ap (λ hands. option_map_or (λ test. map withdrawn_here (hands_ended test hands)) (ends (event.JobEnd job)) []) none;
-  hands = refl;
-}
-quiet before (event.Call job session (command.Create id kind n)) built none = record { notes = refl; hands = refl }
-quiet before (event.Call job session (command.Write id offset bytes)) built none = record { notes = refl; hands = refl }
-quiet before (event.Call job session (command.Seal id)) built none = record { notes = refl; hands = refl }
-quiet before (event.Call job session (command.Get id)) built none = record { notes = refl; hands = refl }
-quiet before (event.Call job session (command.Read id offset n)) built none = record { notes = refl; hands = refl }
-quiet before (event.Call job session (command.Release id)) built none = record { notes = refl; hands = refl }
-quiet before (event.Call job session command.List) built none = record { notes = refl; hands = refl }
-quiet before (event.Call job session command.Usage) built none = record { notes = refl; hands = refl }
-quiet before (event.Call job session command.Leave) built none = record { notes = refl; hands = refl }
-quiet before (event.Call job session (command.Unpin id task)) built none = absurd cc
-quiet before (event.Call job session (command.Borrow id task)) built none = absurd cc
-quiet before (event.Call job session (command.GiveUp id task)) built none = absurd cc
-quiet before (event.Call job session (command.Delete id)) built none = absurd cc
-quiet before (event.Call job session (command.EndTask task)) built none = absurd cc
-quiet before (event.Call job session (command.Grant id target)) built none = absurd cc
-quiet before (event.Call job session (command.Withdraw id target)) built none = absurd cc
-quiet before (event.Call job session (command.Peek id offset n)) built none = absurd cc
-quiet before (event.Requota job quota) built none = absurd cc
-quiet before event.Take built none = absurd cc
-quiet before (event.Finish job number a) built none = absurd cc
-
-pub no_notes : (before : Before) (e : Event) (told : Reply (List ℕ)) → is_built e ≡ true → before.hands ≡ [] → notes_here before (Own e) told ≡ []
-no_notes before e reply.Ok built none = (quiet before e built none).notes
-no_notes before e _ built none = refl
-
-pub no_hands : (before : Before) (e : Event) (told : Reply (List ℕ)) → is_built e ≡ true → before.hands ≡ [] → hands_after [] (Own e) told ≡ []
-no_hands before e reply.Ok built none = (quiet before e built none).hands
-no_hands before e _ built none = refl
 
 -- ---- nothing of another job
 

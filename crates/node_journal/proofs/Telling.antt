@@ -29,7 +29,8 @@ use Rattle.node_core.specs.Foreseen.{IsAsForeseen, judged_of}
 use Rattle.node_journal.specs.declared.entries.Entry.{Entry}
 use Rattle.node_journal.specs.Replies.{unlisted, kept_reply}
 use Rattle.node_journal.specs.Journals.{entry_for, lines_of, AreDue, IsTold, Tells, is_call}
-use Rattle.node_journal.proofs.Built.{of_job, own_of, due_is, here_is, if_own, own_inputs, no_notes, no_hands, brings_none}
+use Rattle.node_core.proofs.AllJobs.{own_of, own_due-built, notes_here-built, hands_after-built}
+use Rattle.node_journal.proofs.Built.{of_job, here_is, if_own, own_inputs, brings_none}
 use Rattle.node_journal.proofs.Lists.{lines_of-snoc, replayed-snoc, due-snoc}
 
 -- ---- one entry more
@@ -48,7 +49,7 @@ module _ (old new : Hosted) (e : Event) (given : Given) (number : ℕ) (built : 
     told_is : (x : Input) → input_of e given.reply ≡ Some x → IsStepOf old.number (v (job_of_event e)) x given
     told_is x is =
         subst (λ o. IsGiven old.number v (of_job (job_of_event e) o) given) is
-        (subst (λ o. IsGiven old.number v o given) (due_is before e given.reply built) from.told)
+        (subst (λ o. IsGiven old.number v o given) (own_due-built before e given.reply built) from.told)
 
     -- the answer to an input is never that there is no memory
     never : (x : Input) → input_of e given.reply ≡ Some x → wants_memory given.reply ≡ false
@@ -56,7 +57,7 @@ module _ (old new : Hosted) (e : Event) (given : Given) (number : ℕ) (built : 
 
     inputs_are : (job : ℕ) → inputs_to before (Own e) given.reply job ≡ if_own (job_of_event e == job) (input_of e given.reply)
     inputs_are job =
-        ap (only_of job) ((λ i. option_to_list (here_is before e given.reply built never_here i) ++ no_notes before e given.reply built none i)
+        ap (only_of job) ((λ i. option_to_list (here_is before e given.reply built never_here i) ++ notes_here-built before e given.reply built none i)
         ∙ append-nil (option_to_list (own_of e given.reply)))
         ∙ own_inputs (job_of_event e) job (input_of e given.reply)
       where
@@ -166,7 +167,7 @@ module _ (old new : Hosted) (e : Event) (given : Given) (number : ℕ) (built : 
     call_never_wants h = ∥∥₁_elim h (Bool-set _ _) (λ t. by_call (never t.views t.shown))
 
   pub none_stands : new.hands ≡ []
-  none_stands = steps.hands ∙ ap (λ hands. hands_after hands (Own e) given.reply) none ∙ no_hands (before_of old (λ job. view_of (no_store job))) e given.reply built none
+  none_stands = steps.hands ∙ ap (λ hands. hands_after hands (Own e) given.reply) none ∙ hands_after-built e given.reply built
 
 -- ---- a node in which nothing has happened
 

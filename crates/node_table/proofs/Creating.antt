@@ -45,10 +45,6 @@ use Rattle.node_table.proofs.CopyTables.{at-copies, at-copies_none}
 use Rattle.node_table.proofs.Fetching.{length-map, nothing_found}
 use Rattle.node_table.proofs.Stepping.{stays}
 
--- no key is erased where no copy was on the device
-pub unbacked : (es : ById Kept) (after : ById Copy) → T (is_sorted id_cmp es) → ((q : ObjectId) (k : Kept) → at es q ≡ Some k → k.copy.backed ≡ None) → keys_gone (copies_of es) after ≡ []
-unbacked es after sorted h = none_erased es after sorted (λ q k found gone. h q k found)
-
 module _ (node : ℕ) (row : Row) (beside : Beside) (contents : Contents) (session : ℕ) (id : ObjectId) (kind : Kind) (n : ℕ) (mine : (id.job.0 == row.job) ≡ true) (h : IsShown row beside contents) where
   abbrev s : Shape
   s = shape_of row beside

@@ -1,10 +1,9 @@
 //! A session at a node.
-ghost use Rattle.std.specs.Prelude.{◌≡◌};
-ghost use Rattle.node_core.specs.Built.{is_built_command};
 
 use crate::SharedNode;
 use crate::frames::framed;
 use bytes::Bytes;
+use node_core::is_built_command;
 use node_journal::Receipt;
 use obj_id::{Command, JobKey, JobNo, Refusal, Reply};
 use private_store::Awaited;
@@ -38,28 +37,6 @@ impl<'a, L: Ledger, R: Wait> Session<'a, L, R> {
     }
 }
 
-/// Whether the command is built.
-fn is_built(command: &Command<Bytes>) -> bool
-    ensures { result ≡ is_built_command command.now }
-{
-    match command {
-        Command::Create(..) => true,
-        Command::Write(..) => true,
-        Command::Seal(_) => true,
-        Command::Get(_) => true,
-        Command::Read(..) => true,
-        Command::Release(_) => true,
-        Command::Unpin(..) => true,
-        Command::Borrow(..) => true,
-        Command::GiveUp(..) => true,
-        Command::Delete(_) => true,
-        Command::List => true,
-        Command::Usage => true,
-        Command::Leave => true,
-        _ => false,
-    }
-}
-
 /// After each answer the last receipt is of this job, session, command and reply, or the reply is `NoMemory`. A command that
 /// isn't built is answered `Malformed`, and makes no step.
 impl<'a, L: Ledger, R: Wait> Gate for Session<'a, L, R> {
@@ -73,7 +50,7 @@ impl<'a, L: Ledger, R: Wait> Gate for Session<'a, L, R> {
     }
 
     fn call(&mut self, job: JobNo, session: u32, command: Command<Bytes>) -> Reply<Bytes> {
-        if !is_built(&command) {
+        if !is_built_command(&command) {
             return Reply::Refused(Refusal::Malformed);
         }
         let (reply, receipt) = self.node.call(self.rt, job, session, command);
