@@ -12,7 +12,7 @@ use Rattle.private_store.specs.declared.inputs.Input.TheVariants as input
 use Rattle.private_store.specs.declared.inputs.Judged.TheVariants as judged
 use Rattle.private_store.specs.declared.schedules.Event.TheVariants as event
 use Rattle.private_store.specs.Jobs.{same_job}
-use Rattle.private_store.specs.Shape.{Life, Shape, Change}
+use Rattle.private_store.specs.Shape.{Life, Shape}
 use Rattle.private_store.specs.Change.{refused, erasing}
 use Rattle.private_store.specs.Events.{is_live}
 use Rattle.private_store.specs.Step.{step, commanded}

@@ -1,8 +1,6 @@
 -- A built event at a node at which no hand stands is an input of its own job alone.
 use Rattle.std.proofs.Common.{◌≡◌, ℕ, Bool, true, false, cond, ◌==◌, List, [], ◌∷◌, map, Option, Some, None, option_to_list, refl, sym, ap, ◌∙◌}
 use Rattle.std.specs.Prelude.{option_map}
-use Rattle.std.specs.Option.{option_map_or}
-use Rattle.obj_id.specs.declared.commands.Command.TheVariants as command
 use Rattle.obj_id.specs.declared.commands.Reply.{Reply}
 use Rattle.obj_id.specs.declared.commands.Reply.TheVariants as reply
 use Rattle.private_store.specs.declared.inputs.Input.{Input}
@@ -12,12 +10,9 @@ use Rattle.private_store.specs.declared.schedules.Event.TheVariants as event
 use Rattle.private_store.specs.declared.schedules.NodeEvent.TheVariants.{Own}
 use Rattle.private_store.specs.Answers.{wants_memory, brings_within}
 use Rattle.private_store.specs.Contents.{View, judge}
-use Rattle.private_store.specs.Hands.{hands_ended}
-use Rattle.private_store.specs.NodeInputs.{JobInput, Before, own_here, own_due, notes_of, notes_here, hands_after, only_of, withdrawn_here}
-use Rattle.private_store.specs.Trace.{ends, hands_by}
+use Rattle.private_store.specs.NodeInputs.{JobInput, Before, own_here, only_of}
 use Rattle.node_core.specs.Built.{is_built}
 use Rattle.node_core.specs.OneJob.{input_of}
-use Rattle.node_core.specs.Steps.{job_of_event}
 use Rattle.node_core.proofs.AllJobs.{own_of}
 
 -- ---- the own input

@@ -1,10 +1,9 @@
 -- A row takes Create where a place is made for the new copy, or there is one.
-use Rattle.std.proofs.Common.{◌≡◌, ℕ, Bool, true, false, not, ◌||◌, cond, ◌==◌, nat_eq, nat_le, inl, inr, List, [], ◌∷◌, ◌++◌, length, Option, Some, None, is_some, option_map, refl, sym, ap, subst, ◌∙◌, T}
+use Rattle.std.proofs.Common.{◌≡◌, ℕ, Bool, true, false, not, ◌||◌, cond, ◌==◌, nat_eq, nat_le, inl, inr, List, [], ◌∷◌, ◌++◌, length, Option, Some, None, is_some, option_map, refl, sym, ap, subst, ◌∙◌}
 use Rattle.std.specs.Prelude.{if◌then◌else◌}
 use Rattle.std.specs.List.{list_any}
 use Rattle.std.specs.Option.{option_map_or, option_and_then}
 use Rattle.std.specs.Map.{lookup}
-use Rattle.std.specs.FinMap.Entries.{is_sorted}
 use Rattle.obj_id.specs.declared.ids.ObjectId.{ObjectId}
 use Rattle.obj_id.specs.declared.works.WorkKind.TheVariants.{Write, Read}
 use Rattle.obj_id.specs.declared.commands.Kind.{Kind}
@@ -12,17 +11,17 @@ use Rattle.obj_id.specs.declared.commands.Command.TheVariants as command
 use Rattle.obj_id.specs.declared.commands.Reply.TheVariants as reply
 use Rattle.obj_id.specs.declared.refusals.Refusal.{Refusal}
 use Rattle.obj_id.specs.declared.refusals.Refusal.TheVariants.{BadSize, Gone, Exists, TooMany}
-use Rattle.obj_id.specs.Ids.{id_cmp, id_eq, same_id}
+use Rattle.obj_id.specs.Ids.{id_eq, same_id}
 use Rattle.obj_id.proofs.SameIds.{same_id-flip, same_id-id_eq}
 use Rattle.private_store.specs.declared.inputs.Input.{Input}
 use Rattle.private_store.specs.declared.inputs.Input.TheVariants as input
 use Rattle.private_store.specs.Limits.{most_copies}
-use Rattle.private_store.specs.Tables.{ById, at, is_among}
+use Rattle.private_store.specs.Tables.{at, is_among}
 use Rattle.private_store.specs.Extents.{rounded, first, is_size}
 use Rattle.private_store.specs.Shape.{Copy, Shape, Change}
 use Rattle.private_store.specs.Copies.{extent_of, is_evictable}
 use Rattle.private_store.specs.Room.{make_room}
-use Rattle.private_store.specs.Change.{erasing, in_room, keys_gone, has_ended}
+use Rattle.private_store.specs.Change.{erasing, in_room, has_ended}
 use Rattle.private_store.specs.Kept.{has_hand, is_remembered}
 use Rattle.std.proofs.lemmas.Bool.{eqb-true}
 use Rattle.private_store.specs.Commands.{create, created, is_length}
@@ -37,7 +36,6 @@ use Rattle.node_table.specs.Checks.{create_check}
 use Rattle.node_table.specs.Evicting.{placed_without, replaced, removals}
 use Rattle.node_table.specs.MadeRooms.{BringsNothing}
 use Rattle.node_table.proofs.Rooms.{each_among, no_victim, placed_done}
-use Rattle.node_table.proofs.Evicting.{none_erased}
 use Rattle.node_table.specs.RoomPlans.{MakesPlace}
 use Rattle.node_table.specs.Shown.{seen, work_on, IsShown, only, TakesStep}
 use Rattle.node_table.proofs.ByChecks.{unless_refused, first-check, called, own}

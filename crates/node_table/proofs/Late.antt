@@ -35,7 +35,7 @@ use Rattle.node_table.specs.Kept.{Kept}
 use Rattle.node_table.specs.Row.{Row, Beside, shape_of}
 use Rattle.node_table.specs.Checks.{create_check, seal_check, unpin_check, row_borrow_check, give_up_check, delete_check, read_check, fetch_check, hold_check_of, get_check_of, copy_check, get_check, phase_check, get_check_by}
 use Rattle.node_table.specs.Late.{is_planned, may_grow}
-use Rattle.node_table.specs.Shown.{seen, is_plain, IsShown}
+use Rattle.node_table.specs.Shown.{seen, IsShown}
 use Rattle.node_table.proofs.Stepping.{change}
 use Rattle.node_table.proofs.Scoping.{unpin_ok, borrow_ok, give_up_ok, delete_ok}
 use Rattle.obj_id.specs.declared.ids.TaskNo.{TaskNo}

@@ -1,6 +1,5 @@
 -- A row takes Release.
-use Rattle.std.proofs.Common.{◌≡◌, ℕ, ◌-◌, Bool, true, false, cond, ◌==◌, ◌&&◌, [], map, Option, Some, None, is_some, option_map, refl, sym, ap, subst, ◌∙◌}
-use Rattle.std.specs.Prelude.{option_to_list}
+use Rattle.std.proofs.Common.{◌≡◌, ℕ, ◌-◌, true, cond, ◌==◌, [], Some, None, option_map, refl, sym, ap, ◌∙◌}
 use Rattle.std.specs.Option.{option_map_or}
 use Rattle.obj_id.specs.declared.ids.ObjectId.{ObjectId}
 use Rattle.obj_id.specs.declared.refusals.Refusal.{Refusal}
@@ -11,30 +10,19 @@ use Rattle.private_store.specs.declared.inputs.Input.{Input}
 use Rattle.private_store.specs.declared.inputs.Input.TheVariants as input
 use Rattle.private_store.specs.Tables.{at}
 use Rattle.private_store.specs.Shape.{Copy, Shape, Change}
-use Rattle.private_store.specs.Copies.{is_held, is_granted, is_working, is_idle}
-use Rattle.private_store.specs.Room.{set_copy, drop_copy}
-use Rattle.private_store.specs.Change.{refused, done, erasing, settled, keys_gone}
+use Rattle.private_store.specs.Room.{set_copy}
+use Rattle.private_store.specs.Change.{refused, done, erasing, settled}
 use Rattle.private_store.specs.Commands.{release, holds_of, with_holds}
-use Rattle.private_store.specs.Contents.{Contents, judge}
-use Rattle.private_store.specs.Private.{key_of}
-use Rattle.private_store.specs.Step.{step}
+use Rattle.private_store.specs.Contents.{Contents}
 use Rattle.private_store.proofs.Checks.{checked-nil}
-use Rattle.private_store.proofs.Rows.{at-put_here}
-use Rattle.private_store.proofs.Tests.{T_true}
-use Rattle.lru_evictor.proofs.Reorders.{reordered-unused}
-use Rattle.node_table.specs.Entries.{changed}
 use Rattle.node_table.specs.Kept.{Kept, released}
-use Rattle.node_table.specs.Row.{Row, Beside, copies_of, shape_of, place_of, ArePlaced}
-use Rattle.node_table.specs.Dropping.{dropped, is_over, settled_row, keys_settled}
+use Rattle.node_table.specs.Row.{Row, Beside, shape_of, place_of, ArePlaced}
+use Rattle.node_table.specs.Dropping.{settled_row, keys_settled}
 use Rattle.node_table.specs.Checks.{release_check}
-use Rattle.node_table.specs.Shown.{seen, IsPlain, IsShown, Given, only, TakesStep}
+use Rattle.node_table.specs.Shown.{IsPlain, IsShown, only, TakesStep}
 use Rattle.node_table.proofs.ByChecks.{unless_refused, first-check, in_table, called, own}
-use Rattle.node_table.proofs.CopyTables.{at-copies, at-copies_found, copies-changed}
+use Rattle.node_table.proofs.CopyTables.{at-copies, at-copies_found}
 use Rattle.node_table.proofs.Passed.{there}
-use Rattle.node_table.proofs.Changing.{there_still, bytes_stay, digests_stay, works_stay, plain_stay, listed_stay, keys_with, granted_stay}
-use Rattle.node_table.proofs.Changes.{changed-found}
-use Rattle.node_table.proofs.Described.{working-on, idle_same}
-use Rattle.node_table.proofs.Dropping.{change_left, moves_left, key_removed}
 use Rattle.node_table.proofs.Settling.{settles}
 use Rattle.node_table.proofs.Stepping.{stays}
 use Rattle.node_table.specs.Scope.{with_copy}

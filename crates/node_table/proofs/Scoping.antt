@@ -1,5 +1,5 @@
 -- A row takes the commands that say what keeps an object in scope: Unpin, Borrow, GiveUp and Delete.
-use Rattle.std.proofs.Common.{◌≡◌, ℕ, Bool, true, false, not, cond, ◌==◌, ◌&&◌, ◌||◌, nat_le, List, [], ◌∷◌, ◌++◌, length, flat_map, Option, Some, None, option_map, refl, sym, ap, subst, ◌∙◌, T}
+use Rattle.std.proofs.Common.{◌≡◌, ℕ, Bool, true, false, not, cond, ◌==◌, ◌&&◌, ◌||◌, nat_le, List, [], ◌∷◌, ◌++◌, length, flat_map, Option, Some, None, refl, sym, ap, ◌∙◌, T}
 use Rattle.std.specs.Prelude.{option_to_list}
 use Rattle.std.specs.Option.{option_map_or, option_and_then}
 use Rattle.std.specs.FinMap.Entries.{is_sorted, same_entries, is_sorted-put}
@@ -19,7 +19,7 @@ use Rattle.private_store.specs.declared.inputs.Input.TheVariants as input
 use Rattle.private_store.specs.Limits.{most_borrowers}
 use Rattle.private_store.specs.Tables.{ById, at, with_entry}
 use Rattle.private_store.specs.Shape.{Copy, Shape, Change, Sending, free, remove_location}
-use Rattle.private_store.specs.Copies.{extent_of, in_scope, is_granted, was_sealed}
+use Rattle.private_store.specs.Copies.{extent_of, in_scope, was_sealed}
 use Rattle.private_store.specs.Kept.{is_remembered}
 use Rattle.private_store.specs.Room.{set_copy}
 use Rattle.private_store.specs.Change.{refused, done, checked, erasing, settled, doom, doom_notice, has_ended}
@@ -27,19 +27,18 @@ use Rattle.private_store.specs.Change as changes
 use Rattle.private_store.specs.Commands.{unpin, borrow, give_up, delete, has_borrower, without_borrower}
 use Rattle.private_store.specs.Commands as commands
 use Rattle.private_store.specs.Contents.{Contents, View, keeps_digest}
-use Rattle.private_store.specs.Private.{Post, key_of, posts_of}
+use Rattle.private_store.specs.Private.{Post, posts_of}
 use Rattle.private_store.proofs.Checks.{checked-nil}
 use Rattle.private_store.proofs.Rows.{at-put, at-put_here}
 use Rattle.private_store.proofs.Tests.{T_true}
 use Rattle.node_table.specs.Checks.{unpin_check, unpin_check_of, borrow_check, borrow_check_of, row_borrow_check, give_up_check, give_up_check_of, delete_check}
-use Rattle.node_table.specs.Dropping.{settled_row, keys_settled, is_over, dropped}
+use Rattle.node_table.specs.Dropping.{settled_row, keys_settled}
 use Rattle.node_table.specs.Kept.{Kept, scoped, doomed, unpinned, borrowed, given_up}
-use Rattle.node_table.specs.Row.{Row, Beside, copies_of, shape_of, place_of, ArePlaced}
+use Rattle.node_table.specs.Row.{Row, Beside, shape_of, place_of, ArePlaced}
 use Rattle.node_table.specs.Scope.{farewell, farewell_at, posted, with_copy}
 use Rattle.node_table.specs.Shown.{seen, IsPlain, IsShown, only, TakesStep}
 use Rattle.node_table.proofs.ByChecks.{unless_refused, first-check, in_sight, called, own, sending-is}
-use Rattle.node_table.proofs.Changes.{changed-found}
-use Rattle.node_table.proofs.CopyTables.{at-copies, at-copies_found}
+use Rattle.node_table.proofs.CopyTables.{at-copies_found}
 use Rattle.node_table.proofs.Passed.{past, there}
 use Rattle.node_table.proofs.Settling.{IsMinor, BringsNothing, settled-stays, stays_so, settles}
 use Rattle.node_table.proofs.Stepping.{change, stays}

@@ -15,7 +15,7 @@ use Rattle.private_store.specs.Limits.{most_bytes, most_holds, most_copies, most
 use Rattle.private_store.specs.Tables.{ById, at}
 use Rattle.private_store.specs.Extents.{is_size}
 use Rattle.private_store.specs.Shape.{Copy, Fetch, Phase, locating, sized, pulling, failed}
-use Rattle.private_store.specs.Copies.{is_created, is_sealed}
+use Rattle.private_store.specs.Copies.{is_created}
 use Rattle.private_store.specs.Commands.{holds_of, all_holds, has_borrower, is_unsealed, refusal_of, fetch_refusal}
 use Rattle.private_store.specs.declared.faults.Fault.{Fault}
 use Rattle.private_store.specs.Kept.{is_remembered}

@@ -1,15 +1,11 @@
-use Rattle.std.proofs.Common.{false, sym, ap, subst, ◌∙◌}
-use Rattle.std.specs.Option.{option_map_or}
-use Rattle.private_store.specs.Tables.{at}
-use Rattle.private_store.specs.Copies.{in_scope}
-use Rattle.private_store.specs.Commands.{without_borrower}
+use Rattle.std.proofs.Common.{sym, ap, subst, ◌∙◌}
 use Rattle.obj_id.specs.declared.commands.Command.TheVariants as command
 use Rattle.obj_id.specs.declared.commands.Reply.TheVariants as reply
 use Rattle.private_store.specs.declared.inputs.Input.TheVariants as input
 use Rattle.node_table.specs.Checks.{delete_check}
 use Rattle.node_table.specs.Dropping.{settled_row, keys_settled}
 use Rattle.node_table.specs.Scope.{with_copy}
-use Rattle.node_table.specs.Kept.{Kept, doomed}
+use Rattle.node_table.specs.Kept.{doomed}
 use Rattle.node_table.specs.Row.{place_of, ArePlaced}
 use Rattle.node_table.specs.Shown.{TakesStep}
 use Rattle.node_table.proofs.Scoping.{delete_refused, delete_done_so}

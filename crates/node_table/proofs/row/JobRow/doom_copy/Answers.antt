@@ -1,4 +1,4 @@
-use Rattle.node_table.specs.Kept.{Kept, doomed}
+use Rattle.node_table.specs.Kept.{doomed}
 use Rattle.node_table.proofs.Places.{now_placed}
 use Rattle.node_table.proofs.Scoping.{doomed-place}
 use Rattle.node_table.proofs.row.JobRow.doom_copy.Goals as goal

@@ -1,4 +1,4 @@
-use Rattle.node_table.specs.Kept.{Kept, given_up}
+use Rattle.node_table.specs.Kept.{given_up}
 use Rattle.node_table.proofs.Places.{now_placed}
 use Rattle.node_table.proofs.Scoping.{given_up-place}
 use Rattle.node_table.proofs.row.JobRow.give_up_copy.Goals as goal

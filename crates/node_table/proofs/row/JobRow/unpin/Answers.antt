@@ -2,7 +2,6 @@ use Rattle.std.proofs.Common.{false, sym, ap, subst, ◌∙◌}
 use Rattle.std.specs.Option.{option_map_or}
 use Rattle.private_store.specs.Tables.{at}
 use Rattle.private_store.specs.Copies.{in_scope}
-use Rattle.private_store.specs.Commands.{without_borrower}
 use Rattle.obj_id.specs.declared.commands.Command.TheVariants as command
 use Rattle.obj_id.specs.declared.commands.Reply.TheVariants as reply
 use Rattle.private_store.specs.declared.inputs.Input.TheVariants as input

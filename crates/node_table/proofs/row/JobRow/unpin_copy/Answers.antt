@@ -1,4 +1,4 @@
-use Rattle.node_table.specs.Kept.{Kept, unpinned}
+use Rattle.node_table.specs.Kept.{unpinned}
 use Rattle.node_table.proofs.Places.{now_placed}
 use Rattle.node_table.proofs.Scoping.{unpinned-place}
 use Rattle.node_table.proofs.row.JobRow.unpin_copy.Goals as goal
