@@ -146,3 +146,18 @@ fn evictions_send_no_more_than_the_copies_that_are_there(rt: HostRuntime) -> Res
     ];
     check(&rt, rt.alloc(), &events)
 }
+
+#[test]
+fn what_no_task_keeps_is_told(rt: HostRuntime) -> Result<(), Fail> {
+    let events = [
+        due("admit 0 1 64 0", 0, 0, "begin", 64),
+        due("cmd 0 1 1 create t1.1 20", 0, 0, "create", 20),
+        due("cmd 0 1 1 seal t1.1", 1, 1, "seal", 0),
+        due("cmd 0 1 1 borrow t1.1 t2", 0, 0, "borrow", 0),
+        due("cmd 0 1 1 unpin t1.1 t1", 1, 0, "unpin", 0),
+        due("cmd 0 1 1 giveup t1.1 t2", 1, 1, "giveup", 0),
+        due("cmd 0 1 1 create t1.1 20", 0, 0, "create", 20),
+        due("cmd 0 1 1 delete t1.1", 1, 0, "delete", 0),
+    ];
+    check(&rt, rt.alloc(), &events)
+}
