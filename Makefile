@@ -36,8 +36,12 @@ faults:
 sessions: build
 	tests/sessions
 
+# The Python client at a built program.
+client-test: build
+	python3 clients/python/tests/test_client.py
+
 # Measures a built program (see bench/growth --help).
 bench: build
 	bench/growth
 
-.PHONY: test check build run sessions faults bench
+.PHONY: test check build run sessions client-test faults bench

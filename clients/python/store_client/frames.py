@@ -1,0 +1,93 @@
+"""Frames: a length of 4 bytes, a kind of 1, and the body. Numbers are big-endian."""
+
+from __future__ import annotations
+
+import enum
+import struct
+
+from .ids import ObjectId
+from .items import GrantedItem, Kind, OwnItem, State, Usage
+
+# the longest reply, in bytes after the length
+LONGEST_REPLY = 262_144
+
+# the most bytes that one Write or Read moves
+MOST_BYTES = 65_536
+
+
+class Command(enum.IntEnum):
+    """The kinds of the commands' frames."""
+
+    HELLO = 0x01
+    CREATE = 0x02
+    WRITE = 0x03
+    SEAL = 0x04
+    GET = 0x05
+    READ = 0x06
+    RELEASE = 0x07
+    UNPIN = 0x08
+    BORROW = 0x09
+    GIVE_UP = 0x0A
+    DELETE = 0x0B
+    END_TASK = 0x0C
+    GRANT = 0x0D
+    WITHDRAW = 0x0E
+    PEEK = 0x0F
+    LIST = 0x10
+    USAGE = 0x11
+    LEAVE = 0x12
+    GET_WAIT = 0x13
+    CREATE_WAIT = 0x14
+
+
+class Reply(enum.IntEnum):
+    """The kinds of the replies' frames."""
+
+    OK = 0x80
+    PLACED = 0x81
+    GOT = 0x82
+    BYTES = 0x83
+    LIST = 0x84
+    USAGE = 0x85
+    REFUSED = 0x8F
+
+
+def head(kind: int, length: int) -> bytes:
+    """What comes before a body of this many bytes."""
+    return struct.pack(">IB", 1 + length, kind)
+
+
+def frame(kind: int, body: bytes = b"") -> bytes:
+    """A whole frame."""
+    return head(kind, len(body)) + body
+
+
+def numbers(*values: int) -> bytes:
+    """Numbers of 4 bytes each."""
+    return struct.pack(f">{len(values)}I", *values)
+
+
+def read_list(body: bytes) -> tuple[list[OwnItem], list[GrantedItem]]:
+    """The job's own copies, and what others granted. `ValueError` or `struct.error` for what is no such body."""
+    (count,) = struct.unpack_from(">I", body, 0)
+    at = 4
+    own = []
+    for _ in range(count):
+        state, kind, length = struct.unpack_from(">BBI", body, at + 28)
+        own.append(OwnItem(ObjectId.from_bytes(body[at : at + 28]), State(state), Kind(kind), length))
+        at += 34
+    (count,) = struct.unpack_from(">I", body, at)
+    at += 4
+    granted = []
+    for _ in range(count):
+        length, depth = struct.unpack_from(">IB", body, at + 28)
+        granted.append(GrantedItem(ObjectId.from_bytes(body[at : at + 28]), length, depth))
+        at += 33
+    if at != len(body):
+        raise ValueError("bytes after the last item")
+    return own, granted
+
+
+def read_usage(body: bytes) -> Usage:
+    """Six numbers of 8 bytes. `struct.error` for what is no such body."""
+    return Usage(*struct.unpack(">6Q", body))

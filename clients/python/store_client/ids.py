@@ -1,0 +1,97 @@
+"""Tasks and objects, their bytes, and their texts."""
+
+from __future__ import annotations
+
+import re
+import struct
+from dataclasses import dataclass
+
+_NUMBERED = bytes(12)
+_SHORT_TASK = re.compile(r"t(0|[1-9][0-9]*)")
+_SHORT_OBJECT = re.compile(r"(?:(0|[1-9][0-9]*)/)?t(0|[1-9][0-9]*)\.(0|[1-9][0-9]*)")
+
+
+@dataclass(frozen=True, order=True)
+class Task:
+    """A task of a job: 20 bytes."""
+
+    value: bytes
+
+    def __post_init__(self) -> None:
+        if len(self.value) != 20:
+            raise ValueError("a task has 20 bytes")
+
+    @classmethod
+    def numbered(cls, number: int) -> Task:
+        """The task of this number, 0 to 18,446,744,073,709,551,615: its text is `tN`."""
+        if not 0 <= number < 2**64:
+            raise ValueError("a task's number has 64 bits")
+        return cls(_NUMBERED + struct.pack(">Q", number))
+
+    @classmethod
+    def parse(cls, text: str) -> Task:
+        """The task of a text: `tN`, or 40 lower-case hexadecimal digits."""
+        short = _SHORT_TASK.fullmatch(text)
+        if short:
+            return cls.numbered(int(short.group(1)))
+        return cls(_from_hex(text, 20, "task"))
+
+    def __str__(self) -> str:
+        if self.value.startswith(_NUMBERED):
+            return f"t{int.from_bytes(self.value[12:], 'big')}"
+        return self.value.hex()
+
+    def object(self, index: int, job: int) -> ObjectId:
+        """The job's object of this index, from 1, in the task."""
+        return ObjectId(self, job, index)
+
+
+@dataclass(frozen=True, order=True)
+class ObjectId:
+    """An object: its owner task, its job, and its index in the task. Ids are in order of their bytes."""
+
+    task: Task
+    job: int
+    index: int
+
+    def __post_init__(self) -> None:
+        for name, number in (("job", self.job), ("index", self.index)):
+            if not 1 <= number < 2**32:
+                raise ValueError(f"the {name} of an object is 1 to 4294967295")
+
+    @classmethod
+    def from_bytes(cls, value: bytes) -> ObjectId:
+        """The object of 28 bytes."""
+        if len(value) != 28:
+            raise ValueError("an id has 28 bytes")
+        job, index = struct.unpack(">II", value[20:])
+        return cls(Task(bytes(value[:20])), job, index)
+
+    @classmethod
+    def parse(cls, text: str, job: int) -> ObjectId:
+        """The object of a text, spoken by this job: `tN.I`, `J/tN.I`, or 56 lower-case hexadecimal digits."""
+        short = _SHORT_OBJECT.fullmatch(text)
+        if short:
+            owner, number, index = short.groups()
+            return cls(Task.numbered(int(number)), job if owner is None else int(owner), int(index))
+        return cls.from_bytes(_from_hex(text, 28, "id"))
+
+    def to_bytes(self) -> bytes:
+        """Its 28 bytes."""
+        return self.task.value + struct.pack(">II", self.job, self.index)
+
+    def text(self, job: int) -> str:
+        """Its text, spoken by this job: the short one if there is one."""
+        if not self.task.value.startswith(_NUMBERED):
+            return self.to_bytes().hex()
+        short = f"{self.task}.{self.index}"
+        return short if job == self.job else f"{self.job}/{short}"
+
+    def __str__(self) -> str:
+        return self.text(0)
+
+
+def _from_hex(text: str, length: int, what: str) -> bytes:
+    if not re.fullmatch(f"[0-9a-f]{{{2 * length}}}", text):
+        raise ValueError(f"{text!r} is no {what}")
+    return bytes.fromhex(text)
