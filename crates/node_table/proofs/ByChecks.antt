@@ -42,9 +42,6 @@ first-check store b r cs c rest d h = checked-if store b r cs c ∙ ap (cond b (
     by true = refl
     by false = refl
 
-pub last-check : (store : Shape) (c : Change) → checked store [] c ≡ unless_refused store None c
-last-check store c = checked-nil store c
-
 -- a live job's command of a session
 pub called : (row : Row) (beside : Beside) (session : ℕ) (c : Command ℕ) → step row.order (shape_of row beside) (judged.Call session c) ≡ erasing (shape_of row beside) (commanded row.order (shape_of row beside) session c)
 called row beside session c =

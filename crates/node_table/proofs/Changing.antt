@@ -60,10 +60,6 @@ keys_with es id copy = keys_none es (with_entry es id copy) (subst T (sym (all_w
 module _ (node : ℕ) (row : Row) (beside : Beside) (contents : Contents) (h : IsShown row beside contents) (x : Input)
     (id : ObjectId) (k : Kept) (found : at row.copies id ≡ Some k) (f : Kept → Kept)
     (keeps : (z : Kept) → ((f z).copy.offset ≡ z.copy.offset) × ((f z).copy.length ≡ z.copy.length)) where
-  -- the row with the copy changed, and this order of use
-  abbrev pub with_change : List ObjectId → Row
-  with_change order = record row { copies = changed f row.copies id; order = order }
-
   copies_is : copies_of (changed f row.copies id) ≡ with_entry (copies_of row.copies) id (f k).copy
   copies_is = copies-changed f row.copies id k found
 

@@ -30,7 +30,7 @@ use Rattle.lru_evictor.proofs.Reorders.{reordered-used}
 use Rattle.node_table.specs.Entries.{changed}
 use Rattle.node_table.specs.Kept.{Kept, held, is_ready}
 use Rattle.node_table.specs.Row.{Row, Beside, copies_of, shape_of}
-use Rattle.node_table.specs.Checks.{hold_check_of, fetch_check, get_check_by, get_check_of, copy_check, get_check, visible_state}
+use Rattle.node_table.specs.Checks.{hold_check_of, fetch_check, get_check_by, get_check_of, copy_check, visible_state}
 use Rattle.node_table.specs.Holding.{IsRowHeld, IsHoldRefusedAt}
 use Rattle.node_table.specs.Shown.{seen, IsPlain, IsShown, only, TakesStep}
 use Rattle.node_table.proofs.ByChecks.{unless_refused, first-check, called, own}
@@ -58,22 +58,6 @@ held_late row new id r e h =
     ∙ ap (λ b. cond b (Some Absent) (get_check_by row.window.quota h.kept h.kept.copy.state)) (not_true h.kept.copy.doomed (both_right (is_sealed h.kept.copy.state) _ h.ready))
     ∙ ap (get_check_by row.window.quota h.kept) (sealed_is h.kept.copy.state (both_left _ (not h.kept.copy.doomed) h.ready))
     ∙ h.late e
-
--- where there is no copy, what stands against its fetch
-pub absent_late : (row : Row) (id : ObjectId) → at row.copies id ≡ None → fetch_check row.copies row.fetches_begun ≡ None → copy_check row id ≡ None
-absent_late row id none passed =
-    ap (λ (o : Option Kept). elim o [ None ↦ fetch_check row.copies row.fetches_begun | Some kept ↦ get_check_of row.window.quota kept ]) none ∙ passed
-
--- what stands against a copy in this state
-pub state_late : (row : Row) (id : ObjectId) (k : Kept) (state : CopyState) → at row.copies id ≡ Some k → k.copy.doomed ≡ false → k.copy.state ≡ state → copy_check row id ≡ get_check_by row.window.quota k state
-state_late row id k state found stays is =
-    ap (λ (o : Option Kept). elim o [ None ↦ fetch_check row.copies row.fetches_begun | Some kept ↦ get_check_of row.window.quota kept ]) found
-    ∙ ap (λ b. cond b (Some Absent) (get_check_by row.window.quota k k.copy.state)) stays
-    ∙ ap (get_check_by row.window.quota k) is
-
--- an object whose task hasn't ended
-pub alive_late : (row : Row) (id : ObjectId) → is_remembered row.ended_tasks id.task ≡ false → copy_check row id ≡ None → get_check row id ≡ None
-alive_late row id alive passed = ap (λ b. cond b (Some Gone) (copy_check row id)) alive ∙ passed
 
 abbrev looked : Bool → Kept → Result (Option CopyState) Refusal
 looked doomed k = cond doomed (Err Absent) (Ok (Some k.copy.state))

@@ -1,6 +1,6 @@
 -- What is so of a copy whose command passed its checks.
-use Rattle.std.proofs.Common.{◌≡◌, ℕ, ◌+◌, ◌≤◌, nat_lt, Bool, true, false, not, cond, ◌==◌, Option, Some, None, is_some, refl, ap, ◌∙◌, arith}
-use Rattle.std.specs.Option.{option_map_or, option_and_then}
+use Rattle.std.proofs.Common.{◌≡◌, ℕ, ◌+◌, ◌≤◌, nat_lt, Bool, true, false, not, cond, ◌==◌, Option, Some, None, is_some, refl, ap, arith}
+use Rattle.std.specs.Option.{option_and_then}
 use Rattle.std.proofs.lemmas.Bool.Decides.{nat_tests}
 use Rattle.obj_id.specs.declared.ids.ObjectId.{ObjectId}
 use Rattle.obj_id.specs.declared.works.Extent.{Extent}
@@ -76,9 +76,6 @@ seal_passed copies id e =
     let seen = past k.0.copy.doomed Absent _ k.2 in
     let made = past (not (is_created k.0.copy.state)) AlreadySealed None seen.1 in
     record { copy = k.0; found = k.1; visible = seen.0; created = not_not (is_created k.0.copy.state) made.0 }
-
-pub may_seal : (copies : ById Kept) (id : ObjectId) → seal_check copies id ≡ None → option_map_or (λ k. is_created k.copy.state) (at copies id) true ≡ true
-may_seal copies id e = let w = seal_passed copies id e in ap (λ o. option_map_or (λ (k : Kept). is_created k.copy.state) o true) w.found ∙ w.created
 
 -- a copy that is resident has a place
 pub placed_at : (copy : Copy) → is_some copy.offset ≡ true → (e : Extent) × (extent_of copy ≡ Some e) × (e.length ≡ rounded copy.length)
