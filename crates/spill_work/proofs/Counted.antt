@@ -1,24 +1,19 @@
--- What a change of the line leaves of its numbers, and of those that nobody has taken.
-use Rattle.std.proofs.Common.{◌≡◌, ℕ, ◌+◌, ◌≤◌, suc, Bool, true, false, not, cond, List, [], ◌∷◌, ◌++◌, map, filter, length, Some, None, refl, sym, ap, subst, ◌∙◌, arith}
-use Rattle.std.specs.Prelude.{nat_le, ◌&&◌, ◌||◌, ◌==◌, if◌then◌else◌, find, slice_get, slice_index_or, OnOk, Ok}
+-- What a change of the line leaves of its numbers.
+use Rattle.std.proofs.Common.{◌≡◌, ℕ, ◌+◌, ◌≤◌, zero, suc, Bool, true, false, not, cond, List, [], ◌∷◌, ◌++◌, map, filter, length, Option, Some, None, unwrap_or, refl, sym, ap, subst, ◌∙◌, arith}
+use Rattle.std.specs.Prelude.{nat_le, ◌&&◌, ◌||◌, ◌==◌, if◌then◌else◌, OnOk, Ok}
 use Rattle.std.specs.declared.result.Result.{Result}
 use Rattle.std.specs.List.{list_all, list_any}
-use Rattle.std.specs.Option.{option_map}
+use Rattle.std.specs.Map.{lookup}
 use Rattle.std.proofs.lemmas.Bool.Decides.{nat_tests}
-use Rattle.std.proofs.lemmas.List.{map-append}
 use Rattle.obj_id.specs.declared.ids.JobNo.{JobNo}
 use Rattle.obj_id.specs.declared.ids.ObjectId.{ObjectId}
 use Rattle.obj_id.specs.declared.works.WorkKind.{WorkKind}
 use Rattle.private_store.proofs.Tests.{both, both_left, both_right, not_true, or_false_left, or_false_right, neither}
-use Rattle.spill_work.specs.declared.queue.Asked.{Asked}
 use Rattle.spill_work.specs.declared.queue.Queued.{Queued}
-use Rattle.spill_work.specs.Line.{same_job, is_of, is_at, asked_of, waiting, front_of, marked, numbered}
-use Rattle.spill_work.specs.Numbers.{is_asked_of, is_asked, last_of, is_numbered, are_numbered, AreNumbered}
+use Rattle.spill_work.specs.Line.{same_job, is_of, is_at, marked, numbered}
+use Rattle.spill_work.specs.Numbers.{last_of, AreFresh, entry_of, is_numbered, are_numbered, AreNumbered}
 use Rattle.spill_work.specs.Turns.{taken, marked_at}
-use Rattle.spill_work.proofs.Filters.{filter_append, filter_swap, filter_within, filter_of_all, filter_of_none, all_stay, all_weaker, all_passing, append_nothing, filter_changed, filter_map}
-
-abbrev untaken : Queued → Bool
-untaken w = not w.taken
+use Rattle.spill_work.proofs.Filters.{filter_append, filter_swap, filter_within, filter_of_all, filter_of_none, all_weaker, all_passing, append_nothing, filter_changed}
 
 -- ---- no two works of a job have one number
 
@@ -28,16 +23,6 @@ and_filter p q (x ∷ xs) = elim (p x) as (λ b. cond (b && q x) (x ∷ filter (
   | true ↦ ap (λ r. cond (q x) (x ∷ r) r) (and_filter p q xs)
   | false ↦ and_filter p q xs
 ]
-
-fewer : {X : Type 0} (p : X → Bool) (xs : List X) → length (filter p xs) ≤ length xs
-fewer p [] = omega arith
-fewer p (x ∷ xs) =
-    let rest = fewer p xs in
-    elim (p x) as (λ b. length (cond b (x ∷ filter p xs) (filter p xs)) ≤ length (x ∷ xs)) [ true ↦ omega arith | false ↦ omega arith ]
-
-length_map : {X Y : Type 0} (f : X → Y) (xs : List X) → length (map f xs) ≡ length xs
-length_map f [] = refl
-length_map f (x ∷ xs) = ap (λ n. suc n) (length_map f xs)
 
 same_test : (a b c : ℕ) → (a == b) ≡ true → (c == a) ≡ (c == b)
 same_test a b c h = grind (arith, nat_tests)
@@ -61,40 +46,12 @@ one_number last number (w ∷ ws) h =
       | false ↦ λ e. rest
     ]) refl
 
-module _ (works : List Queued) (used : List (JobNo × ℕ)) (wait : List Asked) (h : AreNumbered works used wait) where
+module _ (works : List Queued) (used : List (JobNo × ℕ)) (h : AreNumbered works used) where
   pub one_at : (job : JobNo) (number : ℕ) → length (filter (is_at job number) works) ≤ 1
   one_at job number = subst (λ ws. length ws ≤ 1) (sym (and_filter (is_of job) (is_numbered number) works)) (one_number (last_of used job) number (filter (is_of job) works) (h.numbers job))
 
-  pub one_asked : (job : JobNo) (number : ℕ) → length (filter (is_asked job number) wait) ≤ 1
-  one_asked job number =
-      let few = one_at job number in
-      let part = fewer untaken (filter (is_at job number) works) in
-      let asked : length (filter (is_asked job number) wait) ≡ length (filter untaken (filter (is_at job number) works)) =
-      ap (λ ws. length (filter (is_asked job number) ws)) h.queued
-      ∙ ap length (filter_map asked_of (is_asked job number) (filter untaken works))
-      ∙ length_map asked_of (filter (is_at job number) (filter untaken works))
-      ∙ ap length (filter_swap (is_at job number) untaken works) in
-      omega (arith, few, part, asked)
-
 pub from_ok : {T : Type 0} {E : Type 0} {P : Type 0} (r : Result T E) (x : T) → r ≡ Ok x → OnOk r P → P
 from_ok {P = P} r x e h = subst (λ r. OnOk r P) e h
-
--- ---- the first that waits
-
-pub front_is : (works : List Queued) → slice_get (waiting works) 0 ≡ front_of works
-front_is [] = refl
-front_is (w ∷ ws) = elim w.taken as (λ b. slice_get (map asked_of (cond (not b) (w ∷ filter untaken ws) (filter untaken ws))) 0 ≡ option_map asked_of (cond (not b) (Some w) (find untaken ws))) [
-  | true ↦ front_is ws
-  | false ↦ refl
-]
-
-pub first_read : (xs : List Asked) (x : Asked) → 1 ≤ length xs → x ≡ slice_index_or xs 0 x → Some x ≡ slice_get xs 0
-first_read [] x some is = absurd (omega arith)
-first_read (y ∷ ys) x some is = ap Some is
-
-pub none_read : (xs : List Asked) → length xs ≤ 0 → None ≡ slice_get xs 0
-none_read [] none = refl
-none_read (y ∷ ys) none = absurd (omega arith)
 
 -- ---- a work is taken
 
@@ -133,33 +90,11 @@ module _ (job : JobNo) (number : ℕ) where
   numbered_marked last (w ∷ ws) =
       (λ i. (nat_le (mark_asked w i).number last && not (any_marked (mark_asked w i).number ws i)) && numbered_marked last ws i)
 
-  untaken_marked : (ws : List Queued) → filter untaken (map (marked_at job number) ws) ≡ filter (λ w. not (is_at job number w)) (filter untaken ws)
-  untaken_marked [] = refl
-  untaken_marked (w ∷ ws) =
-      let rest = untaken_marked ws in
-      let left = filter (λ w. not (is_at job number w)) (filter untaken ws) in
-      (elim (is_at job number w) as (λ b. is_at job number w ≡ b
-      → cond (not (if b then taken w else w).taken) ((if b then taken w else w) ∷ filter untaken (map (marked_at job number) ws)) (filter untaken (map (marked_at job number) ws))
-      ≡ filter (λ w. not (is_at job number w)) (cond (not w.taken) (w ∷ filter untaken ws) (filter untaken ws))) [
-        | true ↦ λ e. elim w.taken as (λ t. filter untaken (map (marked_at job number) ws) ≡ filter (λ w. not (is_at job number w)) (cond (not t) (w ∷ filter untaken ws) (filter untaken ws))) [
-          | true ↦ rest
-          | false ↦ rest ∙ sym (ap (λ b. cond (not b) (w ∷ left) left) e)
-        ]
-        | false ↦ λ e. elim w.taken as (λ t. cond (not t) (w ∷ filter untaken (map (marked_at job number) ws)) (filter untaken (map (marked_at job number) ws))
-            ≡ filter (λ w. not (is_at job number w)) (cond (not t) (w ∷ filter untaken ws) (filter untaken ws))) [
-              | true ↦ rest
-              | false ↦ ap (λ r. w ∷ r) rest ∙ sym (ap (λ b. cond (not b) (w ∷ left) left) e)
-            ]
-      ]) refl
-
-  pub marked_kept : (works : List Queued) (used : List (JobNo × ℕ)) (wait : List Asked) → AreNumbered works used wait
-      → AreNumbered (map (marked_at job number) works) used (filter (λ a. not (is_asked job number a)) wait)
-  marked_kept works used wait h = record {
+  pub marked_kept : (works : List Queued) (used : List (JobNo × ℕ)) → AreNumbered works used → AreNumbered (map (marked_at job number) works) used
+  marked_kept works used h = record {
     numbers = λ k. ap (are_numbered (last_of used k)) (filter_changed (is_of k) (marked_at job number) (λ w. ap (λ a. same_job k a.job) (mark_asked w)) works)
         ∙ numbered_marked (last_of used k) (filter (is_of k) works) ∙ h.numbers k;
-    queued = ap (filter (λ a. not (is_asked job number a))) h.queued
-        ∙ filter_map asked_of (λ a. not (is_asked job number a)) (filter untaken works)
-        ∙ ap (map asked_of) (sym (untaken_marked works));
+    fresh = h.fresh;
   }
 
 -- ---- works leave
@@ -187,32 +122,28 @@ numbered_filter last p (w ∷ ws) h =
       | false ↦ rest
     ]
 
-module _ (job : JobNo) (number : ℕ) where
-  -- one that was taken is none of those that wait
-  taken_out : (w : Queued) → w.taken ≡ true → (ws : List Queued) → find (is_at job number) ws ≡ Some w → length (filter (is_at job number) ws) ≤ 1
-      → filter untaken (filter (λ w. not (is_at job number w)) ws) ≡ filter untaken ws
-  taken_out w is [] at one = refl
-  taken_out w is (x ∷ xs) at one =
-      let rest = taken_out w is xs in
-      (elim (is_at job number x) as (λ b. cond b (Some x) (find (is_at job number) xs) ≡ Some w → length (cond b (x ∷ filter (is_at job number) xs) (filter (is_at job number) xs)) ≤ 1
-      → filter untaken (cond (not b) (x ∷ filter (λ w. not (is_at job number w)) xs) (filter (λ w. not (is_at job number w)) xs)) ≡ cond (not x.taken) (x ∷ filter untaken xs) (filter untaken xs)) [
-        | true ↦ λ e n.
-            let same : x ≡ w = cc in
-            let gone : x.taken ≡ true = ap (λ (q : Queued). q.taken) same ∙ is in
-            ap (filter untaken) (all_stay (is_at job number) xs (less x (filter (is_at job number) xs) n)) ∙ sym (ap (λ t. cond (not t) (x ∷ filter untaken xs) (filter untaken xs)) gone)
-        | false ↦ λ e n. ap (λ r. cond (not x.taken) (x ∷ r) r) (rest e n)
-      ]) at one
-    where
-      less : (x : Queued) (ys : List Queued) → length (x ∷ ys) ≤ 1 → length ys ≤ 0
-      less x ys h = omega arith
+pub finished_kept : (job : JobNo) (number : ℕ) (works : List Queued) (used : List (JobNo × ℕ)) → AreNumbered works used → AreNumbered (filter (λ w. not (is_at job number w)) works) used
+finished_kept job number works used h = record {
+  numbers = λ k. ap (are_numbered (last_of used k)) (filter_swap (is_of k) (λ w. not (is_at job number w)) works)
+      ∙ numbered_filter (last_of used k) (λ w. not (is_at job number w)) (filter (is_of k) works) (h.numbers k);
+  fresh = h.fresh;
+}
 
-  pub finished_kept : (works : List Queued) (used : List (JobNo × ℕ)) (wait : List Asked) (w : Queued) → AreNumbered works used wait → find (is_at job number) works ≡ Some w → w.taken ≡ true
-      → AreNumbered (filter (λ w. not (is_at job number w)) works) used wait
-  finished_kept works used wait w h at is = record {
-    numbers = λ k. ap (are_numbered (last_of used k)) (filter_swap (is_of k) (λ w. not (is_at job number w)) works)
-        ∙ numbered_filter (last_of used k) (λ w. not (is_at job number w)) (filter (is_of k) works) (h.numbers k);
-    queued = h.queued ∙ ap (map asked_of) (sym (taken_out w is works at (one_at works used wait h job number)));
-  }
+-- ---- the numbers used
+
+equal_numbers : (a b : ℕ) → (a == b) ≡ true → a ≡ b
+equal_numbers a b x = grind (arith, nat_tests)
+
+one_job : (job k : JobNo) → same_job job k ≡ true → job ≡ k
+one_job job k same = ap (λ n. record { 0 = n }) (equal_numbers job.0 k.0 same)
+
+fresh_after : (job : JobNo) (old new : List (JobNo × ℕ)) (entry : Option ℕ) → lookup (same_job job) new ≡ entry → (unwrap_or entry 0 ≡ 0 → entry ≡ None)
+    → ((k : JobNo) → same_job job k ≡ false → lookup (same_job k) new ≡ lookup (same_job k) old) → AreFresh old → AreFresh new
+fresh_after job old new entry own some others h k none = (elim (same_job job k) as (λ b. same_job job k ≡ b → lookup (same_job k) new ≡ None) [
+  | true ↦ λ same. subst (λ j. unwrap_or (lookup (same_job j) new) 0 ≡ 0 → lookup (same_job j) new ≡ None) (one_job job k same)
+      (λ gone. own ∙ some (ap (λ o. unwrap_or o 0) (sym own) ∙ gone)) none
+  | false ↦ λ apart. others k apart ∙ h k (ap (λ o. unwrap_or o 0) (sym (others k apart)) ∙ none)
+]) refl
 
 other_job : (a b c : ℕ) → (a == b) ≡ false → (b == c) ≡ true → (a == c) ≡ false
 other_job a b c h k = grind (arith, nat_tests)
@@ -220,21 +151,72 @@ other_job a b c h k = grind (arith, nat_tests)
 same_jobs : (a b c : ℕ) → (a == b) ≡ true → not (a == c) ≡ true → not (b == c) ≡ true
 same_jobs a b c h k = grind (arith, nat_tests)
 
-pub dropped_kept : (job : JobNo) (works : List Queued) (old new : List (JobNo × ℕ)) (wait : List Asked) → AreNumbered works old wait
-    → ((k : JobNo) → same_job job k ≡ false → last_of new k ≡ last_of old k)
-    → AreNumbered (filter (λ w. not (is_of job w)) works) new (filter (λ a. not (is_asked_of job a)) wait)
-dropped_kept job works old new wait h others = record {
+pub dropped_kept : (job : JobNo) (works : List Queued) (old new : List (JobNo × ℕ)) → AreNumbered works old
+    → lookup (same_job job) new ≡ None → ((k : JobNo) → same_job job k ≡ false → lookup (same_job k) new ≡ lookup (same_job k) old)
+    → AreNumbered (filter (λ w. not (is_of job w)) works) new
+dropped_kept job works old new h own others = record {
   numbers = λ k. (elim (same_job job k) as (λ b. same_job job k ≡ b → are_numbered (last_of new k) (filter (is_of k) (filter (λ w. not (is_of job w)) works)) ≡ true) [
     | true ↦ λ same. ap (are_numbered (last_of new k)) (filter_of_none (is_of k) (filter (λ w. not (is_of job w)) works)
         (all_weaker (λ w. not (is_of job w)) (λ w. not (is_of k w)) (λ w f. same_jobs job.0 k.0 w.asked.job.0 same f) (filter (λ w. not (is_of job w)) works) (all_passing (λ w. not (is_of job w)) works)))
     | false ↦ λ apart.
         ap (are_numbered (last_of new k)) (filter_swap (is_of k) (λ w. not (is_of job w)) works ∙ filter_within (is_of k) (λ w. not (is_of job w)) (λ w of. ap not (other_job job.0 k.0 w.asked.job.0 apart of)) works)
-        ∙ ap (λ n. are_numbered n (filter (is_of k) works)) (others k apart) ∙ h.numbers k
+        ∙ ap (λ o. are_numbered (unwrap_or o 0) (filter (is_of k) works)) (others k apart) ∙ h.numbers k
   ]) refl;
-  queued = ap (filter (λ a. not (is_asked_of job a))) h.queued
-      ∙ filter_map asked_of (λ a. not (is_asked_of job a)) (filter untaken works)
-      ∙ ap (map asked_of) (filter_swap (λ w. not (is_of job w)) untaken works);
+  fresh = fresh_after job old new None own (λ _. refl) others h.fresh;
 }
+
+-- ---- the last work is taken back
+
+module _ (job : JobNo) (last : ℕ) where
+  before_last : (ws : List Queued) → list_all (is_of job) ws ≡ true → are_numbered (last + 1) ws ≡ true → are_numbered last (filter (λ w. not (is_at job (last + 1) w)) ws) ≡ true
+  before_last [] of h = refl
+  before_last (w ∷ ws) of h =
+      let others = list_any (is_numbered w.asked.number) ws in
+      let left = filter (λ w. not (is_at job (last + 1) w)) ws in
+      let head = both_left (nat_le w.asked.number (last + 1) && not others) (are_numbered (last + 1) ws) h in
+      let rest = before_last ws (both_right (is_of job w) (list_all (is_of job) ws) of) (both_right (nat_le w.asked.number (last + 1) && not others) (are_numbered (last + 1) ws) h) in
+      subst (λ b. are_numbered last (cond (not (b && w.asked.number == last + 1)) (w ∷ left) left) ≡ true) (sym (both_left (is_of job w) (list_all (is_of job) ws) of))
+      ((elim (w.asked.number == last + 1) as (λ b. (w.asked.number == last + 1) ≡ b → are_numbered last (cond (not b) (w ∷ left) left) ≡ true) [
+        | true ↦ λ _. rest
+        | false ↦ λ apart. both (nat_le w.asked.number last && not (list_any (is_numbered w.asked.number) left)) (are_numbered last left)
+            (both (nat_le w.asked.number last) (not (list_any (is_numbered w.asked.number) left)) (below w.asked.number last (both_left (nat_le w.asked.number (last + 1)) (not others) head) apart)
+            (ap not (any_filter w.asked.number (λ w. not (is_at job (last + 1) w)) ws (not_true others (both_right (nat_le w.asked.number (last + 1)) (not others) head))))) rest
+      ]) refl)
+    where
+      below : (a b : ℕ) → nat_le a (b + 1) ≡ true → (a == b + 1) ≡ false → nat_le a b ≡ true
+      below a b h k = grind (arith, nat_tests)
+
+  pub taken_back_kept : (works : List Queued) (old new : List (JobNo × ℕ)) → AreNumbered works old → last_of old job ≡ last + 1
+      → lookup (same_job job) new ≡ entry_of last → ((k : JobNo) → same_job job k ≡ false → lookup (same_job k) new ≡ lookup (same_job k) old)
+      → AreNumbered (filter (λ w. not (is_at job (last + 1) w)) works) new
+  taken_back_kept works old new h was own others =
+      let left = filter (λ w. not (is_at job (last + 1) w)) works in
+      record {
+        numbers = λ k. (elim (same_job job k) as (λ b. same_job job k ≡ b → are_numbered (last_of new k) (filter (is_of k) left) ≡ true) [
+          | true ↦ λ same. subst (λ j. are_numbered (last_of new j) (filter (is_of j) left) ≡ true) (one_job job k same)
+              (ap (λ o. are_numbered (unwrap_or o 0) (filter (is_of job) left)) own
+              ∙ ap (λ n. are_numbered n (filter (is_of job) left)) (entry_is last)
+              ∙ ap (are_numbered last) (filter_swap (is_of job) (λ w. not (is_at job (last + 1) w)) works)
+              ∙ before_last (filter (is_of job) works) (all_passing (is_of job) works) (ap (λ n. are_numbered n (filter (is_of job) works)) (sym was) ∙ h.numbers job))
+          | false ↦ λ apart.
+              ap (are_numbered (last_of new k)) (filter_swap (is_of k) (λ w. not (is_at job (last + 1) w)) works
+              ∙ filter_of_all (λ w. not (is_at job (last + 1) w)) (filter (is_of k) works)
+              (all_weaker (is_of k) (λ w. not (is_at job (last + 1) w)) (λ w of. ap (λ b. not (b && w.asked.number == last + 1)) (other_job job.0 k.0 w.asked.job.0 apart of)) (filter (is_of k) works) (all_passing (is_of k) works)))
+              ∙ ap (λ o. are_numbered (unwrap_or o 0) (filter (is_of k) works)) (others k apart) ∙ h.numbers k
+        ]) refl;
+        fresh = fresh_after job old new (entry_of last) own (fresh_entry last) others h.fresh;
+      }
+    where
+      not_none : (n : ℕ) → (suc n == 0) ≡ false
+      not_none n = grind (arith, nat_tests)
+
+      entry_is : (n : ℕ) → unwrap_or (entry_of n) 0 ≡ n
+      entry_is zero = refl
+      entry_is (suc n) = ap (λ b. unwrap_or (if b then None else Some (suc n)) 0) (not_none n)
+
+      fresh_entry : (n : ℕ) → unwrap_or (entry_of n) 0 ≡ 0 → entry_of n ≡ None
+      fresh_entry zero h = refl
+      fresh_entry (suc n) h = absurd (let last = entry_is (suc n) in omega (arith, h, last))
 
 -- ---- works come
 
@@ -245,10 +227,6 @@ module _ (job : JobNo) (kind : WorkKind) where
     where
       itself : (n : ℕ) → (n == n) ≡ true
       itself n = grind (arith, nat_tests)
-
-  all_wait : (last : ℕ) (ids : List ObjectId) → list_all untaken (numbered job kind last ids) ≡ true
-  all_wait last [] = refl
-  all_wait last (id ∷ ids) = all_wait (last + 1) ids
 
   none_before : (n last : ℕ) (ids : List ObjectId) → nat_le n last ≡ true → list_any (is_numbered n) (numbered job kind last ids) ≡ false
   none_before n last [] h = refl
@@ -297,32 +275,28 @@ module _ (job : JobNo) (kind : WorkKind) where
       still : (a b n : ℕ) → nat_le a b ≡ true → nat_le a (b + n) ≡ true
       still a b n h = grind (arith, nat_tests)
 
-  pub more_kept : (works : List Queued) (old new : List (JobNo × ℕ)) (wait : List Asked) (ids : List ObjectId) → AreNumbered works old wait
-      → last_of new job ≡ last_of old job + length ids → ((k : JobNo) → same_job job k ≡ false → last_of new k ≡ last_of old k)
-      → AreNumbered (works ++ numbered job kind (last_of old job) ids) new (wait ++ map asked_of (numbered job kind (last_of old job) ids))
-  more_kept works old new wait ids h own others =
+  pub more_kept : (works : List Queued) (old new : List (JobNo × ℕ)) (ids : List ObjectId) → AreNumbered works old
+      → lookup (same_job job) new ≡ Some (last_of old job + length ids) → 1 ≤ length ids
+      → ((k : JobNo) → same_job job k ≡ false → lookup (same_job k) new ≡ lookup (same_job k) old)
+      → AreNumbered (works ++ numbered job kind (last_of old job) ids) new
+  more_kept works old new ids h own some others =
       let last = last_of old job in
       let next = numbered job kind last ids in
       record {
         numbers = λ k. (elim (same_job job k) as (λ b. same_job job k ≡ b → are_numbered (last_of new k) (filter (is_of k) (works ++ next)) ≡ true) [
           | true ↦ λ same.
-              let equal : job ≡ k = ap (λ n. record { 0 = n }) (numbers job.0 k.0 same) in
+              let equal : job ≡ k = one_job job k same in
               subst (λ j. are_numbered (last_of new j) (filter (is_of j) (works ++ next)) ≡ true) equal
               (ap (are_numbered (last_of new job)) (filter_append (is_of job) works next ∙ ap (λ r. filter (is_of job) works ++ r) (filter_of_all (is_of job) next (numbered_own last ids)))
-              ∙ ap (λ n. are_numbered n (filter (is_of job) works ++ next)) own ∙ more_numbered last ids (filter (is_of job) works) (h.numbers job))
+              ∙ ap (λ o. are_numbered (unwrap_or o 0) (filter (is_of job) works ++ next)) own ∙ more_numbered last ids (filter (is_of job) works) (h.numbers job))
           | false ↦ λ apart.
               ap (are_numbered (last_of new k)) (filter_append (is_of k) works next
               ∙ ap (λ r. filter (is_of k) works ++ r) (filter_of_none (is_of k) next (all_weaker (is_of job) (λ w. not (is_of k w)) (λ w of. ap not (other_job k.0 job.0 w.asked.job.0 (back job.0 k.0 apart) of)) next (numbered_own last ids)))
               ∙ append_nothing (filter (is_of k) works))
-              ∙ ap (λ n. are_numbered n (filter (is_of k) works)) (others k apart) ∙ h.numbers k
+              ∙ ap (λ o. are_numbered (unwrap_or o 0) (filter (is_of k) works)) (others k apart) ∙ h.numbers k
         ]) refl;
-        queued = ap (λ r. r ++ map asked_of next) h.queued
-            ∙ sym (map-append asked_of (filter untaken works) next)
-            ∙ ap (map asked_of) (ap (λ r. filter untaken works ++ r) (sym (filter_of_all untaken next (all_wait last ids))) ∙ sym (filter_append untaken works next));
+        fresh = fresh_after job old new (Some (last_of old job + length ids)) own (λ none. absurd (omega (arith, some, none))) others h.fresh;
       }
     where
-      numbers : (a b : ℕ) → (a == b) ≡ true → a ≡ b
-      numbers a b x = grind (arith, nat_tests)
-
       back : (a b : ℕ) → (a == b) ≡ false → (b == a) ≡ false
       back a b x = grind (arith, nat_tests)

@@ -1,7 +1,7 @@
 -- Filters of lists.
-use Rattle.std.proofs.Common.{◌≡◌, ◌≤◌, Bool, true, false, not, cond, List, [], ◌∷◌, ◌++◌, map, filter, length, drop, refl, sym, ap, subst, ◌∙◌, arith}
+use Rattle.std.proofs.Common.{◌≡◌, ◌≤◌, Bool, true, false, not, cond, List, [], ◌∷◌, ◌++◌, map, filter, length, refl, ap, ◌∙◌, arith}
 use Rattle.std.specs.List.{list_all}
-use Rattle.std.specs.Prelude.{◌&&◌, slice_index_or}
+use Rattle.std.specs.Prelude.{◌&&◌}
 use Rattle.private_store.proofs.Tests.{both, both_left, both_right, true_false}
 
 module _ {X : Type 0} where
@@ -59,18 +59,6 @@ module _ {X : Type 0} where
         | true ↦ λ e. absurd (omega arith)
         | false ↦ λ e. ap (λ r. x ∷ r) (all_stay p xs e)
       ]) h
-
-  -- the first is the one that passes
-  pub first_out : (p : X → Bool) (xs : List X) (x : X) → 1 ≤ length xs → x ≡ slice_index_or xs 0 x → p x ≡ true → length (filter p xs) ≤ 1
-      → drop 1 xs ≡ filter (λ x. not (p x)) xs
-  first_out p [] x some first passes one = absurd (omega arith)
-  first_out p (y ∷ xs) x some first passes one =
-      let here : p y ≡ true = ap p (sym first) ∙ passes in
-      let left : length (filter p xs) ≤ 0 = less (filter p xs) (subst (λ b. length (cond b (y ∷ filter p xs) (filter p xs)) ≤ 1) here one) in
-      sym (ap (λ b. cond (not b) (y ∷ filter (λ x. not (p x)) xs) (filter (λ x. not (p x)) xs)) here ∙ all_stay p xs left)
-    where
-      less : (ys : List X) → length (y ∷ ys) ≤ 1 → length ys ≤ 0
-      less ys h = omega arith
 
   pub all_append : (p : X → Bool) (xs ys : List X) → list_all p (xs ++ ys) ≡ (list_all p xs && list_all p ys)
   all_append p [] ys = refl

@@ -1,5 +1,6 @@
 mod Counted
 mod Filters
+mod Fronts
 mod InTurn
 mod LineLemmas
 mod Marks

@@ -1,13 +1,17 @@
 -- What a change of the line leaves to each job.
-use Rattle.std.proofs.Common.{◌≡◌, ℕ, ◌+◌, Bool, true, false, not, cond, ◌&&◌, ◌==◌, List, [], ◌∷◌, ◌++◌, map, filter, length, Some, refl, ap, ◌∙◌, arith}
+use Rattle.std.proofs.Common.{◌≡◌, ℕ, ◌+◌, ◌≤◌, zero, suc, Bool, true, false, not, cond, ◌&&◌, ◌==◌, List, [], ◌∷◌, ◌++◌, map, filter, length, Option, Some, None, refl, sym, ap, subst, ◌∙◌, arith}
 use Rattle.std.specs.Prelude.{find, if◌then◌else◌, unwrap_or}
+use Rattle.std.specs.Map.{lookup, set_value, remove_entry}
+use Rattle.indexmap.specs.IndexMap.{insert_entry}
 use Rattle.std.proofs.lemmas.Bool.Decides.{nat_tests}
 use Rattle.obj_id.specs.declared.ids.JobNo.{JobNo}
 use Rattle.obj_id.specs.declared.ids.ObjectId.{ObjectId}
 use Rattle.obj_id.specs.declared.works.WorkKind.{WorkKind}
 use Rattle.private_store.specs.Shape.{WorkInFlight}
+use Rattle.private_store.proofs.Tests.{both, some_value}
 use Rattle.spill_work.specs.declared.queue.Queued.{Queued}
-use Rattle.spill_work.specs.Line.{WorkLine, same_job, is_of, is_at, shown, marked, used_by, is_write, numbered, numbered_works, AsksAll, MarksTaken, Finishes, Drops}
+use Rattle.spill_work.specs.Line.{WorkLine, same_job, is_of, is_at, shown, marked, used_by, is_write, numbered, numbered_works, TakesBack, AsksAll, MarksTaken, Finishes, Drops}
+use Rattle.spill_work.proofs.Filters.{filter_append, all_stay, append_nothing}
 
 -- the job's part of the line
 abbrev pub part : List Queued → JobNo → List WorkInFlight
@@ -168,3 +172,81 @@ module _ (job : JobNo) (kind : WorkKind) where
     own_used = own;
     others = λ other apart. record { works = ap (λ ws. part ws other) works ∙ part-numbered_other other apart (used_by old job) ids old.works; used = others other apart };
   }
+
+-- ---- the last work is taken back
+
+module _ (job : JobNo) where
+  removed_inserted : (es : List (JobNo × ℕ)) (n : ℕ) → lookup (same_job job) es ≡ None → remove_entry (same_job job) (insert_entry same_job es job n) ≡ es
+  removed_inserted [] n none = ap (λ b. cond b [] ((job, n) ∷ [])) (itself job.0)
+  removed_inserted (e ∷ es) n none = (elim (same_job job e.0) as (λ b. same_job job e.0 ≡ b → cond b (Some e.1) (lookup (same_job job) es) ≡ None
+      → remove_entry (same_job job) (if b then (e.0, n) ∷ es else e ∷ insert_entry same_job es job n) ≡ e ∷ es) [
+        | true ↦ λ _ some. absurd cc
+        | false ↦ λ apart at. ap (λ b. cond b (insert_entry same_job es job n) (e ∷ remove_entry (same_job job) (insert_entry same_job es job n))) apart
+            ∙ ap (λ r. e ∷ r) (removed_inserted es n at)
+      ]) refl none
+
+  set_inserted : (es : List (JobNo × ℕ)) (n m : ℕ) → lookup (same_job job) es ≡ Some m → set_value (same_job job) (insert_entry same_job es job n) m ≡ es
+  set_inserted [] n m none = absurd cc
+  set_inserted (e ∷ es) n m had = (elim (same_job job e.0) as (λ b. same_job job e.0 ≡ b → cond b (Some e.1) (lookup (same_job job) es) ≡ Some m
+      → set_value (same_job job) (if b then (e.0, n) ∷ es else e ∷ insert_entry same_job es job n) m ≡ e ∷ es) [
+        | true ↦ λ same at. ap (λ b. cond b ((e.0, m) ∷ es) ((e.0, n) ∷ set_value (same_job job) es m)) same ∙ ap (λ v. (e.0, v) ∷ es) (sym (some_value e.1 m at))
+        | false ↦ λ apart at. ap (λ b. cond b ((e.0, m) ∷ insert_entry same_job es job n) (e ∷ set_value (same_job job) (insert_entry same_job es job n) m)) apart
+            ∙ ap (λ r. e ∷ r) (set_inserted es n m at)
+      ]) refl had
+
+  -- an entry as it was before the number after this one
+  entry_back : (es : List (JobNo × ℕ)) (last : ℕ) → last ≡ unwrap_or (lookup (same_job job) es) 0 → (last + 1 ≡ 1 → lookup (same_job job) es ≡ None)
+      → (if last == 0 then remove_entry (same_job job) (insert_entry same_job es job (last + 1)) else set_value (same_job job) (insert_entry same_job es job (last + 1)) last) ≡ es
+  entry_back es zero is fresh = removed_inserted es 1 (fresh refl)
+  entry_back es (suc n) is fresh =
+      ap (λ b. if b then remove_entry (same_job job) (insert_entry same_job es job (suc n + 1)) else set_value (same_job job) (insert_entry same_job es job (suc n + 1)) (suc n)) (not_none n)
+      ∙ set_inserted es (suc n + 1) (suc n) (there (lookup (same_job job) es) is)
+    where
+      not_none : (n : ℕ) → (suc n == 0) ≡ false
+      not_none n = grind (arith, nat_tests)
+
+      there : (o : Option ℕ) → suc n ≡ unwrap_or o 0 → o ≡ Some (suc n)
+      there None e = absurd (omega (arith, e))
+      there (Some m) e = ap Some (sym e)
+
+-- no other passes than the last, which does
+alone : (test : Queued → Bool) (ws : List Queued) (w : Queued) → test w ≡ true → length (filter test (ws ++ w ∷ [])) ≤ 1 → length (filter test ws) ≤ 0
+alone test [] w here one = omega arith
+alone test (x ∷ xs) w here one =
+    (elim (test x) as (λ b. length (cond b (x ∷ filter test (xs ++ w ∷ [])) (filter test (xs ++ w ∷ []))) ≤ 1 → length (cond b (x ∷ filter test xs) (filter test xs)) ≤ 0) [
+      | true ↦ λ few. absurd (let some = passes xs in omega (arith, few, some))
+      | false ↦ λ few. alone test xs w here few
+    ]) one
+  where
+    passes : (xs : List Queued) → 1 ≤ length (filter test (xs ++ w ∷ []))
+    passes [] = subst (λ b. 1 ≤ length (cond b (w ∷ []) [])) (sym here) (omega arith)
+    passes (x ∷ xs) =
+        let rest = passes xs in
+        elim (test x) as (λ b. 1 ≤ length (cond b (x ∷ filter test (xs ++ w ∷ [])) (filter test (xs ++ w ∷ [])))) [ true ↦ omega arith | false ↦ rest ]
+
+pub takes_back : (old new : WorkLine) (job : JobNo) (last : ℕ) → used_by old job ≡ last + 1 → length (filter (is_at job (last + 1)) old.works) ≤ 1
+    → new.works ≡ filter (λ w. not (is_at job (last + 1) w)) old.works
+    → new.used ≡ (if last == 0 then remove_entry (same_job job) old.used else set_value (same_job job) old.used last)
+    → ((other : JobNo) → same_job job other ≡ false → lookup (same_job other) new.used ≡ lookup (same_job other) old.used)
+    → TakesBack old job (last + 1) new
+takes_back old new job last was one works used others = record {
+  undone = λ before id kind asks fresh.
+      let asked : Queued = record { asked = record { job = job; number = last + 1; id = id; kind = kind }; taken = false } in
+      let here : is_at job (last + 1) asked ≡ true = both (same_job job job) (last + 1 == last + 1) (itself job.0) (itself (last + 1)) in
+      let last_is : last ≡ used_by before job = omega (arith, asks.number) in
+      let out : filter (λ w. not (is_at job (last + 1) w)) old.works ≡ before.works =
+      ap (filter (λ w. not (is_at job (last + 1) w))) asks.works
+      ∙ filter_append (λ w. not (is_at job (last + 1) w)) before.works (asked ∷ [])
+      ∙ ap (λ b. filter (λ w. not (is_at job (last + 1) w)) before.works ++ cond (not b) (asked ∷ []) []) here
+      ∙ append_nothing (filter (λ w. not (is_at job (last + 1) w)) before.works)
+      ∙ all_stay (is_at job (last + 1)) before.works (alone (is_at job (last + 1)) before.works asked here (subst (λ ws. length (filter (is_at job (last + 1)) ws) ≤ 1) asks.works one)) in
+      let back : new.used ≡ before.used =
+      used ∙ ap (λ es. if last == 0 then remove_entry (same_job job) es else set_value (same_job job) es last) asks.used
+      ∙ entry_back job before.used last last_is fresh in
+      (λ i. record { works = (works ∙ out) i; used = back i });
+  not_last = λ other. absurd (let same = ap (λ n. n == last + 1) was ∙ itself (last + 1) in cc);
+  others = λ other apart. record {
+    works = ap (λ ws. part ws other) works ∙ part-finished_other job other (last + 1) old.works apart;
+    used = ap (λ o. unwrap_or o 0) (others other apart);
+  };
+}

@@ -2,6 +2,7 @@
 use Rattle.std.specs.Prelude.{◌≡◌, ℕ, ◌+◌, ◌==◌, nat_le, Bool, true, false, not, ◌&&◌, if◌then◌else◌, List, [], ◌∷◌, ◌++◌, length, map, filter, find, Option, Some, None, unwrap_or}
 use Rattle.std.specs.Option.{option_map}
 use Rattle.std.specs.Map.{lookup}
+use Rattle.indexmap.specs.IndexMap.{insert_entry}
 use Rattle.obj_id.specs.declared.ids.JobNo.{JobNo}
 use Rattle.obj_id.specs.declared.ids.ObjectId.{ObjectId}
 use Rattle.obj_id.specs.declared.works.WorkKind.{WorkKind}
@@ -71,10 +72,19 @@ ask_check line job =
 pub record Asks (old : WorkLine) (asked : Asked) (new : WorkLine) : Type 0 where
   pub number : asked.number ≡ used_by old asked.job + 1
   pub works : new.works ≡ old.works ++ record { asked = asked; taken = false } ∷ []
+  pub used : new.used ≡ insert_entry same_job old.used asked.job asked.number
   -- the job's own part
   pub own_works : works_of new asked.job ≡ works_of old asked.job ++ shown asked ∷ []
   pub own_used : used_by new asked.job ≡ asked.number
   pub others : (job : JobNo) → same_job asked.job job ≡ false → IsSameFor job old new
+
+-- the job's last work is taken back: if it was just asked for, the line is what it was before
+pub record TakesBack (old : WorkLine) (job : JobNo) (number : ℕ) (new : WorkLine) : Type 0 where
+  pub undone : (before : WorkLine) (id : ObjectId) (kind : WorkKind) → Asks before (record { job = job; number = number; id = id; kind = kind }) old
+      → (number ≡ 1 → lookup (same_job job) before.used ≡ None) → new ≡ before
+  -- a number that isn't the job's last
+  pub not_last : (used_by old job == number) ≡ false → new ≡ old
+  pub others : (other : JobNo) → same_job job other ≡ false → IsSameFor other old new
 
 -- works of these objects, under the numbers after the last one
 abbrev pub numbered : JobNo → WorkKind → ℕ → List ObjectId → List Queued
@@ -96,13 +106,6 @@ pub record AsksAll (old : WorkLine) (job : JobNo) (kind : WorkKind) (ids : List 
   pub others : (other : JobNo) → same_job job other ≡ false → IsSameFor other old new
 
 -- ---- handing out
-
-abbrev pub asked_of : Queued → Asked
-asked_of work = work.asked
-
--- those that nobody has taken
-abbrev pub waiting : List Queued → List Asked
-waiting works = map asked_of (filter (λ work. not work.taken) works)
 
 -- the first that nobody has taken
 abbrev pub front_of : List Queued → Option Asked

@@ -1,5 +1,5 @@
 -- The works of all jobs by their job, and the order in which they were asked for.
-use Rattle.std.specs.Prelude.{◌≡◌, ℕ, ◌+◌, ◌==◌, nat_le, nat_lt, Bool, true, false, if◌then◌else◌, List, [], ◌∷◌, ◌++◌, map, filter, unwrap_or, is_some}
+use Rattle.std.specs.Prelude.{◌≡◌, ℕ, ◌+◌, ◌==◌, nat_le, nat_lt, Bool, true, false, if◌then◌else◌, List, [], ◌∷◌, ◌++◌, map, filter, Option, Some, None, unwrap_or, is_some}
 use Rattle.std.specs.List.{list_all}
 use Rattle.std.specs.Map.{lookup}
 use Rattle.obj_id.specs.declared.ids.JobNo.{JobNo}
@@ -64,6 +64,16 @@ works_in rows = map (λ t. t.work) (in_turn rows)
 -- the job's work under the number is taken
 abbrev pub marked_at : JobNo → ℕ → Queued → Queued
 marked_at job number work = if is_at job number work then taken work else work
+
+-- the one that is earlier in its turn
+abbrev pub earlier : Option Timed → Timed → Option Timed
+earlier None t = Some t
+earlier (Some u) t = if nat_le t.turn u.turn then Some t else Some u
+
+-- of this one and those that nobody has taken the first in its turn
+abbrev pub front_from : Option Timed → List Timed → Option Timed
+front_from first [] = first
+front_from first (t ∷ ts) = front_from (if t.work.taken then first else earlier first t) ts
 
 -- ---- what is so of all rows
 

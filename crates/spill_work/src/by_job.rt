@@ -1,21 +1,22 @@
 //! The works of all jobs, found by their job.
-ghost use Rattle.std.specs.Prelude.{◌≡◌, ◌+◌, ◌<◌, ◌^◌, ◌++◌, [], not, find, filter, map, length, OnOk, OnErr};
-ghost use Rattle.spill_work.specs.Line.{is_of, is_at, numbered};
-ghost use Rattle.spill_work.specs.Turns.{marked_at, with_row};
+ghost use Rattle.std.specs.Prelude.{◌≡◌, ◌+◌, ◌<◌, ◌^◌, ◌++◌, [], None, not, find, filter, map, length, OnOk, OnErr};
+ghost use Rattle.spill_work.specs.Line.{is_of, is_at, front_of, numbered};
+ghost use Rattle.spill_work.specs.Turns.{marked_at, with_row, all_of, front_from};
 
-use crate::queue::Queued;
-use crate::row::Row;
+use crate::queue::{Asked, Queued};
+use crate::row::{Row, Timed};
 use indexmap::IndexMap;
 use obj_id::{JobNo, ObjectId, WorkKind};
 use std::alloc::{AllocError, Global};
 use std::marker::Model;
 
-/// The works of all jobs. A contract sees them in the order asked; a call looks at its own job's alone.
+/// The works of all jobs. A contract sees them in the order asked; a call looks at its own job's alone, but for
+/// `front`.
 #[derive(Drop)]
 pub(crate) struct ByJob {
     alloc: Global,
     rows: IndexMap<JobNo, Row>,
-    // Of the work that is asked for next. Nothing but the order that a contract sees goes by it.
+    // Of the work that is asked for next: what was asked for earlier has an earlier one.
     turn: u64,
 }
 
@@ -61,6 +62,14 @@ impl ByJob {
             Some(row) => row.work_at(number),
             None => None,
         }
+    }
+
+    /// Of all jobs' works the first that nobody has taken.
+    pub(crate) fn front(&self) -> Option<Asked>
+        ensures { result ≡ front_of self.now }
+    {
+        let first = front(&self.rows)?;
+        Some(first.work.asked)
     }
 
     /// Marks what the job has under the number as taken.
@@ -116,6 +125,17 @@ impl ByJob {
         self.turn = turn;
         Ok(())
     }
+}
+
+/// Of all rows' works the first that nobody has taken.
+fn front(rows: &IndexMap<JobNo, Row>) -> Option<Timed>
+    ensures { result ≡ front_from None (all_of rows.now.entries) }
+{
+    let mut first = None;
+    for (_, row) in rows {
+        first = row.front(first);
+    }
+    first
 }
 
 /// The job has a row, with nothing in it if it is new. A failure changes nothing.

@@ -3,10 +3,13 @@
 //! each job; what one job sees of it is told beside, and what the others see stays.
 #![tactic(auto)]
 
-ghost use Rattle.std.specs.Prelude.{◌≡◌, ◌≢◌, ◌+◌, [], Some, None, IfOk, OnOk, OnErr, IsOk, IsErrOf, true, length};
+ghost use Rattle.std.specs.Prelude.{◌≡◌, ◌≢◌, ◌+◌, ◌≤◌, ◌==◌, if◌then◌else◌, [], Some, None, IsSome, IfOk, OnOk, OnErr, IsOk, IsErrOf, true, length};
+ghost use Rattle.std.specs.Map.{lookup, set_value, remove_entry};
+ghost use Rattle.indexmap.specs.IndexMap.{insert_entry, Updates};
 ghost use Rattle.obj_id.specs.declared.refusals.Refusal.{Refusal};
 ghost use Rattle.obj_id.specs.declared.refusals.Refusal.TheVariants.{NoMemory};
-ghost use Rattle.spill_work.specs.Line.{WorkLine, same_job, used_by, in_flight as in_flight_lem, room_for as room_for_lem, ask_check as ask_check_lem, Asks, AsksAll, front_of, Takes, MarksTaken, finish_check as finish_check_lem, Finishes, Drops};
+ghost use Rattle.spill_work.specs.Line.{WorkLine, same_job, used_by, in_flight as in_flight_lem, room_for as room_for_lem, ask_check as ask_check_lem, Asks, TakesBack, AsksAll, front_of, Takes, MarksTaken, finish_check as finish_check_lem, Finishes, Drops};
+ghost use Rattle.spill_work.specs.Numbers.{entry_of};
 
 mod by_job;
 mod queue;
@@ -18,15 +21,12 @@ use obj_id::limits::MOST_WORKS;
 use obj_id::{JobNo, ObjectId, Refusal, WorkKind};
 pub use queue::{Asked, Queued};
 use std::alloc::{AllocError, Global};
-use std::collections::VecDeque;
 use std::marker::Model;
 
 /// The works in flight of all jobs.
 #[derive(Drop)]
 pub struct Works {
     line: ByJob,
-    // those that nobody has taken, in the order asked
-    waiting: VecDeque<Asked>,
     // the last number that a work of the job had
     used: IndexMap<JobNo, u64>,
 }
@@ -39,7 +39,7 @@ impl Model for Works {
 
     ghost view = { λ w. record { works = w.line; used = w.used.entries } };
 
-    ghost invariant = { λ w. AreNumbered w.line w.used.entries w.waiting.items };
+    ghost invariant = { λ w. AreNumbered w.line w.used.entries };
 }
 
 impl Works {
@@ -49,7 +49,6 @@ impl Works {
     {
         Works {
             line: ByJob::new(alloc),
-            waiting: VecDeque::new(alloc),
             used: IndexMap::new(alloc),
         }
     }
@@ -61,9 +60,10 @@ impl Works {
         self.line.count_of(job)
     }
 
-    /// The last number that a work of the job had, or 0.
+    /// The last number that a work of the job had, or 0 if none was asked for.
     pub fn asked(&self, job: JobNo) -> u64
-        ensures { result ≡ used_by self.now job }
+        ensures last { result ≡ used_by self.now job }
+        ensures fresh { result ≡ 0 → lookup (same_job job) self.now.used ≡ None }
     {
         self.used.get(&job).copied().unwrap_or(0)
     }
@@ -93,6 +93,19 @@ impl Works {
         let number = self.asked(job) + 1;
         self.append(job, &[id], kind)?;
         Ok(number)
+    }
+
+    /// Takes back the job's last work, which was asked for under the number: it leaves the line, and its
+    /// number is the job's next again. With a number that isn't the job's last nothing changes. Takes no
+    /// memory.
+    pub fn take_back(&mut self, job: JobNo, number: u64)
+        ensures { TakesBack self.old job number self.new }
+    {
+        if number == 0 || self.asked(job) != number {
+            return;
+        }
+        self.line.take_out(job, number);
+        count_back(&mut self.used, job, number - 1);
     }
 
     /// Asks for a work of the job on each of these objects, in their order and under the job's next
@@ -133,8 +146,7 @@ impl Works {
     pub fn front(&self) -> Option<Asked>
         ensures { result ≡ front_of self.now.works }
     {
-        let asked = self.waiting.front()?;
-        Some(*asked)
+        self.line.front()
     }
 
     /// Marks a job's work as taken, if there is one under the number. Takes no memory.
@@ -142,7 +154,6 @@ impl Works {
         ensures { MarksTaken self.old job number self.new }
     {
         self.line.mark(job, number);
-        queue::take_out(&mut self.waiting, job, number);
     }
 
     /// Hands out the front and marks it as taken. Takes no memory.
@@ -176,24 +187,36 @@ impl Works {
         ensures { Drops self.old job self.new }
     {
         self.line.take_out_all(job);
-        queue::take_out_all(&mut self.waiting, job);
         self.used.shift_remove(&job);
     }
 
     /// A work on each of these objects comes last in the line, under the job's next numbers. A failure
     /// changes nothing.
     fn append(&mut self, job: JobNo, ids: &[ObjectId], kind: WorkKind) -> Result<(), AllocError>
-        requires { room_for_lem self.old job (length ids.now) ≡ true }
+        requires room { room_for_lem self.old job (length ids.now) ≡ true }
+        requires some { 1 ≤ length ids.now }
         ensures ok { OnOk result (AsksAll self.old job kind ids.now self.new) }
+        ensures used { OnOk result (self.new.used ≡ insert_entry same_job self.old.used job (used_by self.old job + length ids.now)) }
         ensures err { OnErr result (self.new ≡ self.old) }
     {
         let last = self.asked(job);
-        // all growth comes first, so that nothing after the line's can fail
+        // nothing after the line's growth can fail
         self.used.reserve(1)?;
-        self.waiting.reserve(ids.len())?;
         self.line.ask(job, kind, last, ids)?;
-        queue::push_numbered(&mut self.waiting, job, kind, last, ids);
         self.used.insert(job, last + ids.len() as u64).unwrap();
         Ok(())
+    }
+}
+
+/// The last number that a work of the job had is this; with 0 the job's entry goes.
+fn count_back(used: &mut IndexMap<JobNo, u64>, job: JobNo, last: u64)
+    requires { IsSome (lookup (same_job job) used.old.entries) }
+    ensures entries { used.new.entries ≡ (if last == 0 then remove_entry (same_job job) used.old.entries else set_value (same_job job) used.old.entries last) }
+    ensures updates { Updates same_job used.old used.new job (entry_of last) }
+{
+    if last == 0 {
+        used.shift_remove(&job);
+    } else if let Some(number) = used.get_mut(&job) {
+        *number = last;
     }
 }

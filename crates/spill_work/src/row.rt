@@ -1,7 +1,7 @@
 //! The works of one job.
-ghost use Rattle.std.specs.Prelude.{◌≡◌, ◌+◌, ◌<◌, ◌==◌, ◌^◌, ◌++◌, ◌≤◌, [], not, find, filter, map, length, vec_len, vec_capacity, OnOk, OnErr};
+ghost use Rattle.std.specs.Prelude.{◌≡◌, ◌+◌, ◌<◌, ◌==◌, ◌^◌, ◌++◌, ◌≤◌, [], Some, not, find, filter, map, length, vec_len, vec_capacity, OnOk, OnErr};
 ghost use Rattle.std.specs.Option.{option_map};
-ghost use Rattle.spill_work.specs.Turns.{has_number, with_mark, timed};
+ghost use Rattle.spill_work.specs.Turns.{has_number, with_mark, timed, earlier as earlier_lem, front_from};
 
 use crate::queue::{Asked, Queued};
 use obj_id::{JobNo, ObjectId, WorkKind};
@@ -57,6 +57,19 @@ impl Row {
             .map(|timed| timed.work)
     }
 
+    /// Of this one and those of the row that nobody has taken the first in its turn.
+    pub(crate) fn front(&self, other: Option<Timed>) -> Option<Timed>
+        ensures { result ≡ front_from other self.now }
+    {
+        let mut first = other;
+        for timed in &self.works {
+            if !timed.work.taken {
+                first = Some(earlier(first, timed));
+            }
+        }
+        first
+    }
+
     /// Marks what is under the number as taken.
     pub(crate) fn mark(&mut self, number: u64)
         ensures { self.new ≡ map (with_mark number) self.old }
@@ -93,6 +106,16 @@ impl Row {
         self.works.reserve(ids.len())?;
         push_timed(&mut self.works, job, kind, last, turn, ids);
         Ok(())
+    }
+}
+
+/// The one that is earlier in its turn.
+fn earlier(first: Option<Timed>, timed: &Timed) -> Timed
+    ensures { Some result ≡ earlier_lem first timed.now }
+{
+    match first {
+        Some(early) if early.turn < timed.turn => early,
+        _ => *timed,
     }
 }
 

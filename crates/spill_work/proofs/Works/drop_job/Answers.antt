@@ -9,9 +9,8 @@ use Rattle.spill_work.proofs.Works.drop_job.Goals as goal
 pub invariant_of-self : goal.invariant_of-self
 invariant_of-self c =
     let updates = c.shift_remove.ensures.updates in
-    subst (λ x. x) (λ i. AreNumbered (sym c.take_out_all.ensures i) c.shift_remove.new.self.entries (sym c.take_out_all-2.ensures i))
-    (dropped_kept c.args.job c.self.inside.line c.self.inside.used.entries c.shift_remove.new.self.entries c.self.inside.waiting.items c.self.invariant
-    (λ other apart. ap (λ o. unwrap_or o 0) (updates.2 other apart)))
+    subst (λ works. AreNumbered works c.shift_remove.new.self.entries) (sym c.take_out_all.ensures)
+    (dropped_kept c.args.job c.self.inside.line c.self.inside.used.entries c.shift_remove.new.self.entries c.self.invariant updates.1 updates.2)
 
 pub returns : goal.returns
 returns c =

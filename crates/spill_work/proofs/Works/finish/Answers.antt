@@ -7,8 +7,8 @@ use Rattle.spill_work.proofs.Works.finish.Goals as goal
 
 pub invariant_of-self : goal.invariant_of-self
 invariant_of-self c =
-    subst (λ works. AreNumbered works c.self.inside.used.entries c.self.inside.waiting.items) (sym c.take_out.ensures)
-    (finished_kept c.args.job c.args.number c.self.inside.line c.self.inside.used.entries c.self.inside.waiting.items c.in-Some.work c.self.invariant (sym c.work_at.ensures ∙ c.in-Some.is) c.if-work.true)
+    subst (λ works. AreNumbered works c.self.inside.used.entries) (sym c.take_out.ensures)
+    (finished_kept c.args.job c.args.number c.self.inside.line c.self.inside.used.entries c.self.invariant)
 
 pub returns-in-Some-clause-ok : goal.returns-in-Some-clause-ok
 returns-in-Some-clause-ok c =

@@ -1,17 +1,14 @@
 use Rattle.std.proofs.Common.{subst, sym, ◌∙◌}
 use Rattle.spill_work.specs.Line.{WorkLine, MarksTaken}
 use Rattle.spill_work.specs.Numbers.{AreNumbered}
-use Rattle.spill_work.proofs.Counted.{one_at, one_asked, marked_is, marked_kept}
+use Rattle.spill_work.proofs.Counted.{one_at, marked_is, marked_kept}
 use Rattle.spill_work.proofs.LineLemmas.{marks_taken}
 use Rattle.spill_work.proofs.Works.mark_taken.Goals as goal
 
-pub take_out-requires : goal.take_out-requires
-take_out-requires c = one_asked c.self.inside.line c.self.inside.used.entries c.self.inside.waiting.items c.self.invariant c.args.job c.args.number
-
 pub invariant_of-self : goal.invariant_of-self
 invariant_of-self c =
-    subst (λ x. x) (λ i. AreNumbered (sym c.mark.ensures i) c.self.inside.used.entries (sym c.take_out.ensures i))
-    (marked_kept c.args.job c.args.number c.self.inside.line c.self.inside.used.entries c.self.inside.waiting.items c.self.invariant)
+    subst (λ works. AreNumbered works c.self.inside.used.entries) (sym c.mark.ensures)
+    (marked_kept c.args.job c.args.number c.self.inside.line c.self.inside.used.entries c.self.invariant)
 
 pub returns : goal.returns
 returns c =
@@ -20,6 +17,6 @@ returns c =
     subst (λ line. MarksTaken line c.args.job c.args.number new) c.self.view_is
     (marks_taken old new c.args.job c.args.number
     (λ i. record {
-      works = (c.mark.ensures ∙ marked_is c.args.job c.args.number c.self.inside.line (one_at c.self.inside.line c.self.inside.used.entries c.self.inside.waiting.items c.self.invariant c.args.job c.args.number)) i;
+      works = (c.mark.ensures ∙ marked_is c.args.job c.args.number c.self.inside.line (one_at c.self.inside.line c.self.inside.used.entries c.self.invariant c.args.job c.args.number)) i;
       used = c.self.inside.used.entries;
     }))
