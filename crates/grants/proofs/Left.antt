@@ -22,7 +22,7 @@ append_nothing [] = refl
 append_nothing (x ∷ xs) = ap (λ r. x ∷ r) (append_nothing xs)
 
 -- no younger hand is the same as an older one
-apart : (before hs : List Hand) (b : Hand) → all_stand before hs ≡ true → list_any (same_hand b) before ≡ true → list_any (same_hand b) hs ≡ true → ⊥
+pub apart : (before hs : List Hand) (b : Hand) → all_stand before hs ≡ true → list_any (same_hand b) before ≡ true → list_any (same_hand b) hs ≡ true → ⊥
 apart before [] b s at e = true_false e
 apart before (x ∷ hs) b s at e =
     let x_stands = both_left (may_stand before x) (all_stand (before ++ x ∷ []) hs) s in
@@ -52,10 +52,10 @@ fewer p q (x ∷ xs) =
 
 module _ (test : Hand → Bool) where
   -- those that have ended, and the hand where it ends too
-  abbrev grown : List Hand → Hand → List Hand
+  abbrev pub grown : List Hand → Hand → List Hand
   grown gone h = if test h || list_any (hangs_on h) gone then gone ++ h ∷ [] else gone
 
-  any_grown : (p : Hand → Bool) (gone : List Hand) (h : Hand) → list_any p gone ≡ true → list_any p (grown gone h) ≡ true
+  pub any_grown : (p : Hand → Bool) (gone : List Hand) (h : Hand) → list_any p gone ≡ true → list_any p (grown gone h) ≡ true
   any_grown p gone h e =
       elim (test h || list_any (hangs_on h) gone) as (λ t. list_any p (if t then gone ++ h ∷ [] else gone) ≡ true) [
         | true ↦ any_before p gone (h ∷ []) e
@@ -63,7 +63,7 @@ module _ (test : Hand → Bool) where
       ]
 
   -- what has ended stays ended
-  stays_gone : (p : Hand → Bool) (gone hs : List Hand) → list_any p gone ≡ true → list_any p (ended_from test gone hs) ≡ true
+  pub stays_gone : (p : Hand → Bool) (gone hs : List Hand) → list_any p gone ≡ true → list_any p (ended_from test gone hs) ≡ true
   stays_gone p gone [] e = e
   stays_gone p gone (h ∷ hs) e = stays_gone p (grown gone h) hs (any_grown p gone h e)
 
@@ -78,7 +78,7 @@ module _ (test : Hand → Bool) where
       ]) e
 
   -- what ends had ended before, or is still to come
-  comes_from : (p : Hand → Bool) (gone hs : List Hand) → list_any p (ended_from test gone hs) ≡ true → (list_any p gone ≡ true) ⊎ (list_any p hs ≡ true)
+  pub comes_from : (p : Hand → Bool) (gone hs : List Hand) → list_any p (ended_from test gone hs) ≡ true → (list_any p gone ≡ true) ⊎ (list_any p hs ≡ true)
   comes_from p gone [] e = inl e
   comes_from p gone (h ∷ hs) e =
       elim (comes_from p (grown gone h) hs e) [

@@ -4,3 +4,6 @@ mod Made
 mod Reach
 mod Linked
 mod Ranked
+mod Private
+mod Ends
+mod Taken

@@ -19,7 +19,7 @@ some_none : {B : Type 0} (r : Refusal) → Some r ≡ None → B
 some_none r e = none_some r (sym e)
 
 -- a check that passes
-check_off : (b : Bool) (r : Refusal) (o : Option Refusal) → (if b then Some r else o) ≡ None → (b ≡ false) × (o ≡ None)
+pub check_off : (b : Bool) (r : Refusal) (o : Option Refusal) → (if b then Some r else o) ≡ None → (b ≡ false) × (o ≡ None)
 check_off true r o e = some_none r e
 check_off false r o e = (refl, e)
 
@@ -46,7 +46,7 @@ one_more n e = grind (arith, nat_tests)
 
 module _ (hands : List Hand) (giver : ℕ) (id : ObjectId) (taker : ℕ) where
   -- the hand, over the one that it hangs on
-  abbrev made : Option Hand → Hand
+  abbrev pub made : Option Hand → Hand
   made o =
       elim o [
         | None ↦ record { id = id; giver = giver; taker = taker; depth = 1; hangs_on = None }

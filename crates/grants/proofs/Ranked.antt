@@ -98,7 +98,7 @@ any_placed p h (x ∷ xs) =
       | false ↦ ap (λ b. p x || b) (any_placed p h xs) ∙ swap (p x) (p h) (list_any p xs)
     ]
 
-any_sorted : (p : Hand → Bool) (hs : List Hand) → list_any p (hands_sorted hs) ≡ list_any p hs
+pub any_sorted : (p : Hand → Bool) (hs : List Hand) → list_any p (hands_sorted hs) ≡ list_any p hs
 any_sorted p [] = refl
 any_sorted p (h ∷ hs) = any_placed p h (hands_sorted hs) ∙ ap (λ b. p h || b) (any_sorted p hs)
 

@@ -6,7 +6,7 @@
 //! scans it; a call that ends hands finds those that have ended already by their links.
 #![tactic(auto)]
 
-ghost use Rattle.std.specs.Prelude.{◌≡◌, ◌≢◌, ◌↔◌, ◌<◌, ◌≤◌, ℕ, filter, length, List, [], Some, None, find, IfOk, OnOk, OnErr, IsErrOf, IsOk, MatchResult};
+ghost use Rattle.std.specs.Prelude.{◌≡◌, ◌≢◌, ◌↔◌, ◌<◌, ◌≤◌, ℕ, Bool, IsTrue, map, filter, length, List, [], Some, None, find, IfOk, OnOk, OnErr, IsErrOf, IsOk, MatchResult};
 ghost use Rattle.std.specs.List.{list_any};
 ghost use Rattle.obj_id.specs.declared.ids.ObjectId.{ObjectId};
 ghost use Rattle.obj_id.specs.declared.refusals.Refusal.{Refusal};
@@ -14,8 +14,11 @@ ghost use Rattle.obj_id.specs.declared.refusals.Refusal.TheVariants.{NoMemory};
 ghost use Rattle.private_store.specs.Limits.{greatest_depth, most_hands};
 ghost use Rattle.private_store.specs.Hands.{Hand as StandingHand, new_hand, with_hand, hands_ended, hands_left, ground, is_withdrawn, is_of_task, is_given_by};
 ghost use Rattle.grants.specs.Table.{AreHands, is_first, given_by, given_to, seen_list, limits_check, grant_check as grant_check_lem, withdraw_check, ends};
+ghost use Rattle.private_store.specs.Shape.{Shape};
+ghost use Rattle.grants.specs.Private.{as_given, taken_by, HasHands, RefusesAlike, GrantsAlike, RestAlike, EndsAlike};
 ghost use Rattle.grants.specs.Chains.{sees, is_led_to};
-ghost use Rattle.obj_id.specs.Ids.{same_id};
+ghost use Rattle.obj_id.specs.Ids.{id_cmp, same_id};
+ghost use Rattle.std.specs.FinMap.{is_sorted};
 
 mod endings;
 mod hands;
@@ -254,4 +257,31 @@ impl Grants {
 /// most three standing hands leads to it from the object's own job.
 pub fn what_is_seen_is_led_to()
     ensures { (hands : List StandingHand) → AreHands hands → (id : ObjectId) (job : ℕ) → sees hands id job ↔ is_led_to hands id job }
+{}
+
+/// A law of every job's own store: it has the hands of the table if it has those that its job gave, in the table's
+/// order, and what the job was given is what its hands make, put in one after another. If what it was given is in order
+/// of id, it has them only then.
+pub fn a_store_has_what_the_table_has()
+    ensures has { (lengths : ObjectId → ℕ) (hands : List StandingHand) (store : Shape) → store.given ≡ map as_given (given_by store.job hands) → store.received ≡ taken_by lengths store.job hands → HasHands lengths hands store }
+    ensures taken { (lengths : ObjectId → ℕ) (hands : List StandingHand) (store : Shape) → HasHands lengths hands store → IsTrue (is_sorted id_cmp store.received) → store.received ≡ taken_by lengths store.job hands }
+{}
+
+/// A law of every job's own store that has the hands of the table: a Grant and a Withdraw are refused by the
+/// store exactly where the table refuses them, in the same order among the store's own checks.
+pub fn a_store_refuses_what_the_table_refuses()
+    ensures { (lengths : ObjectId → ℕ) (hands : List StandingHand) (store : Shape) → HasHands lengths hands store → RefusesAlike hands store }
+{}
+
+/// A law of every job's own store that has the hands of the table: after a grant that the table takes, the giver's
+/// store by its command, the taker's by what it receives and all others as they are have the hands of the new table.
+pub fn a_grant_is_every_stores()
+    ensures { (lengths : ObjectId → ℕ) (hands : List StandingHand) (giver : ℕ) (id : ObjectId) (taker : ℕ) → grant_check_lem hands giver id taker ≡ None → GrantsAlike lengths hands giver id taker }
+{}
+
+/// A law of every job's own store that has the hands of the table: what ends with a giver's command, and what each
+/// taker's store is told of, in the table's order, leaves to every store the hands that the table has left.
+pub fn an_end_is_every_stores()
+    ensures rest { (lengths : ObjectId → ℕ) (hands : List StandingHand) (store : Shape) → HasHands lengths hands store → RestAlike lengths hands store }
+    ensures left { (lengths : ObjectId → ℕ) (hands : List StandingHand) → AreHands hands → (test : StandingHand → Bool) → EndsAlike lengths test hands }
 {}

@@ -1,0 +1,249 @@
+-- What a job's own store says of hands is what the table says. A node's Grant, Withdraw and EndTask need:
+--   1. the table refuses what the store refuses (RefusesAlike): standing, the count of hands, the oldest hand and its depth;
+--   2. a grant that the table takes leaves to each job's store the hands of the table (GrantsAlike);
+--   3. what ends leaves to the giver's store, by its command, and to each taker's, by what it is told of each hand that
+--      ended, the hands of the table that are left (EndsAlike);
+--   4. a job that isn't live has no hand that it gave: what ended with it (`Grants::drop_job`, `gone`).
+use Rattle.std.proofs.Common.{◌≡◌, ℕ, ◌==◌, Bool, true, false, not, cond, ◌&&◌, ◌||◌, List, [], ◌∷◌, ◌++◌, map, filter, find, length, Option, Some, None, refl, sym, ap, ◌∙◌, arith, eq-eqb}
+use Rattle.std.specs.Prelude.{if◌then◌else◌, nat_le}
+use Rattle.std.specs.Option.{option_map, option_map_or, option_and_then}
+use Rattle.std.specs.List.{list_any}
+use Rattle.std.proofs.lemmas.Bool.Decides.{nat_tests}
+use Rattle.std.proofs.lemmas.List.{length-map, map-append, append-nil}
+use Rattle.obj_id.specs.declared.ids.ObjectId.{ObjectId}
+use Rattle.obj_id.specs.declared.refusals.Refusal.TheVariants.{BadId, Gone, Absent, NotResident, Exists, TooMany, NotGranted}
+use Rattle.obj_id.specs.Ids.{same_id}
+use Rattle.private_store.specs.Limits.{most_hands, greatest_depth}
+use Rattle.private_store.specs.Shape.{Shape, Change, Seen, HandGiven, HandTaken}
+use Rattle.private_store.specs.Tables.{at}
+use Rattle.private_store.specs.Change.{refused, done, checked, needing, has_ended, settled}
+use Rattle.private_store.specs.Copies.{visible}
+use Rattle.private_store.specs.Commands.{is_sealed_primary, has_given, gives, oldest, grant_own, grant_foreign, grant, withdraw}
+use Rattle.private_store.specs.Events.{hands_of, received}
+use Rattle.private_store.specs.Hands.{Hand, ground, new_hand, is_withdrawn, is_given_by}
+use Rattle.obj_id.proofs.SameIds.{same_id-equal}
+use Rattle.private_store.proofs.Rows.{at-put}
+use Rattle.private_store.proofs.Tests.{both, false_true}
+use Rattle.grants.specs.Table.{shows, given_by, is_no_taker, limits_check, hung_check, grant_check, withdraw_check}
+use Rattle.grants.specs.Private.{as_given, as_taken, seen_by, HasHands, unless, without_given, RefusesAlike, GrantsAlike}
+use Rattle.grants.proofs.Alike.{numbers_equal}
+use Rattle.grants.proofs.Left.{filter_both}
+use Rattle.grants.proofs.Made.{made, check_off}
+
+-- ---- what the store says
+
+-- the job's hand of the object to the target
+abbrev is_to : ObjectId → ℕ → HandGiven → Bool
+is_to id target hand = same_id id hand.id && hand.target == target
+
+any_given : (job : ℕ) (id : ObjectId) (target : ℕ) (hands : List Hand) → list_any (is_to id target) (map as_given (given_by job hands)) ≡ list_any (is_withdrawn job id target) hands
+any_given job id target [] = refl
+any_given job id target (h ∷ hs) =
+    let rest = any_given job id target hs in
+    elim (h.giver == job) as (λ b. list_any (is_to id target) (map as_given (cond b (h ∷ given_by job hs) (given_by job hs))) ≡ (((b && same_id id h.id) && h.taker == target) || list_any (is_withdrawn job id target) hs)) [
+      | true ↦ ap (λ b. (same_id id h.id && h.taker == target) || b) rest
+      | false ↦ rest
+    ]
+
+left_given : (job : ℕ) (id : ObjectId) (target : ℕ) (hands : List Hand)
+    → filter (λ hand. not (is_to id target hand)) (map as_given (given_by job hands)) ≡ map as_given (given_by job (filter (λ hand. not (is_withdrawn job id target hand)) hands))
+left_given job id target [] = refl
+left_given job id target (h ∷ hs) =
+    let rest = left_given job id target hs in
+    let left = filter (λ hand. not (is_withdrawn job id target hand)) hs in
+    (elim (h.giver == job) as (λ b. (h.giver == job) ≡ b → filter (λ hand. not (is_to id target hand)) (map as_given (cond b (h ∷ given_by job hs) (given_by job hs)))
+    ≡ map as_given (given_by job (cond (not ((b && same_id id h.id) && h.taker == target)) (h ∷ left) left))) [
+      | true ↦ λ e. elim (same_id id h.id && h.taker == target) as (λ t. cond (not t) (as_given h ∷ filter (λ hand. not (is_to id target hand)) (map as_given (given_by job hs))) (filter (λ hand. not (is_to id target hand)) (map as_given (given_by job hs)))
+          ≡ map as_given (given_by job (cond (not t) (h ∷ left) left))) [
+            | true ↦ rest
+            | false ↦ ap (λ r. as_given h ∷ r) rest ∙ sym (ap (λ b. map as_given (cond b (h ∷ given_by job left) (given_by job left))) e)
+          ]
+      | false ↦ λ e. rest ∙ sym (ap (λ b. map as_given (cond b (h ∷ given_by job left) (given_by job left))) e)
+    ]) refl
+
+abbrev first_of : List HandTaken → Option HandTaken
+first_of [] = None
+first_of (hand ∷ hands) = Some hand
+
+oldest_first : (store : Shape) (id : ObjectId) → oldest store id ≡ first_of (hands_of store id)
+oldest_first store id = by (at store.received id)
+  where
+    by : (o : Option Seen) → option_and_then (λ (seen : Seen). elim seen.hands [ [] ↦ None | hand ∷ _ ↦ Some hand ]) o ≡ first_of (option_map_or (λ (seen : Seen). seen.hands) o [])
+    by None = refl
+    by (Some seen) = elim seen.hands as (λ hands. elim hands as (λ _. Option HandTaken) [ [] ↦ None | hand ∷ _ ↦ Some hand ] ≡ first_of hands) [ [] ↦ refl | hand ∷ _ ↦ refl ]
+
+abbrev pub seen_hands : Option Seen → List HandTaken
+seen_hands o = option_map_or (λ (seen : Seen). seen.hands) o []
+
+pub hands_seen : (n : ℕ) (hands : List HandTaken) → seen_hands (seen_by n hands) ≡ hands
+hands_seen n [] = refl
+hands_seen n (hand ∷ hands) = refl
+
+pub seen_more : (n : ℕ) (hands : List HandTaken) (hand : HandTaken) → Some (record { length = n; hands = hands ++ hand ∷ [] }) ≡ seen_by n (hands ++ hand ∷ [])
+seen_more n [] hand = refl
+seen_more n (x ∷ xs) hand = refl
+
+first_found : (test : Hand → Bool) (hands : List Hand) → first_of (map as_taken (filter test hands)) ≡ option_map as_taken (find test hands)
+first_found test [] = refl
+first_found test (h ∷ hs) =
+    elim (test h) as (λ b. first_of (map as_taken (cond b (h ∷ filter test hs) (filter test hs))) ≡ option_map as_taken (cond b (Some h) (find test hs))) [
+      | true ↦ refl
+      | false ↦ first_found test hs
+    ]
+
+-- ---- what is refused
+
+limits : (store : Shape) (stands full : Bool) (change : Change)
+    → checked store ((stands, Exists) ∷ (full, TooMany) ∷ []) change ≡ unless store (if stands then Some Exists else (if full then Some TooMany else None)) change
+unfolding checked
+limits store true full change = refl
+limits store false true change = refl
+limits store false false change = refl
+
+no_third : (a b : Bool) → (a || b) ≡ (a || b || b)
+no_third true b = refl
+no_third false true = refl
+no_third false false = refl
+
+module _ (lengths : ObjectId → ℕ) (hands : List Hand) (store : Shape) (has : HasHands lengths hands store) where
+  stands : (id : ObjectId) (target : ℕ) → has_given store id target ≡ list_any (is_withdrawn store.job id target) hands
+  stands id target = ap (list_any (is_to id target)) has.given ∙ any_given store.job id target hands
+
+  count : length store.given ≡ length (given_by store.job hands)
+  count = ap length has.given ∙ length-map (given_by store.job hands) as_given
+
+  below : (id : ObjectId) → oldest store id ≡ option_map as_taken (ground hands id store.job)
+  below id = oldest_first store id ∙ ap first_of (ap seen_hands (has.taken id) ∙ hands_seen (lengths id) (map as_taken (filter (shows id store.job) hands))) ∙ first_found (shows id store.job) hands
+
+  own_grant : (id : ObjectId) (target : ℕ) → (id.job.0 == store.job) ≡ true → grant store id target
+      ≡ checked store ((is_no_taker id store.job target, BadId) ∷ (has_ended store id.task, Gone) ∷ [])
+      (needing store (visible store id) Absent (λ copy.
+      checked store ((not (is_sealed_primary copy), NotResident) ∷ [])
+      (unless store (limits_check hands store.job id target 0) (gives store id target (new_hand hands id store.job target).hangs_on))))
+  unfolding checked needing
+  own_grant id target own =
+      ap (λ b. if b then grant_own store id target else grant_foreign store id target) own
+      ∙ (λ i. if bad i then refused store BadId else (if has_ended store id.task then refused store Gone else
+      needing store (visible store id) Absent (λ copy. if not (is_sealed_primary copy) then refused store NotResident else inner i)))
+    where
+      bad : (target == 0 || target == store.job) ≡ is_no_taker id store.job target
+      bad =
+          no_third (target == 0) (target == store.job)
+          ∙ ap (λ n. target == 0 || target == store.job || target == n) (sym (numbers_equal id.job.0 store.job own))
+
+      inner : checked store ((has_given store id target, Exists) ∷ (nat_le most_hands (length store.given), TooMany) ∷ []) (gives store id target None)
+          ≡ unless store (limits_check hands store.job id target 0) (gives store id target (new_hand hands id store.job target).hangs_on)
+      inner =
+          (λ i. checked store ((stands id target i, Exists) ∷ (nat_le most_hands (count i), TooMany) ∷ []) (gives store id target (made hands store.job id target (if sym own i then None else ground hands id store.job)).hangs_on))
+          ∙ limits store (list_any (is_withdrawn store.job id target) hands) (nat_le most_hands (length (given_by store.job hands))) (gives store id target (new_hand hands id store.job target).hangs_on)
+
+  foreign_grant : (id : ObjectId) (target : ℕ) → (id.job.0 == store.job) ≡ false → grant store id target
+      ≡ unless store (grant_check hands store.job id target) (gives store id target (new_hand hands id store.job target).hangs_on)
+  unfolding checked needing
+  foreign_grant id target foreign =
+      ap (λ b. if b then grant_own store id target else grant_foreign store id target) foreign
+      ∙ (λ i. if is_no_taker id store.job target then refused store BadId else
+      needing store (below id i) NotGranted (λ hand. checked store ((stands id target i, Exists) ∷ (nat_le greatest_depth hand.depth || nat_le most_hands (count i), TooMany) ∷ []) (gives store id target (Some hand.giver))))
+      ∙ ap (λ rest. if is_no_taker id store.job target then refused store BadId else rest) (hung (ground hands id store.job))
+      ∙ elim (is_no_taker id store.job target) as (λ b. (if b then refused store BadId else unless store (hung_check hands store.job id target (ground hands id store.job)) (gives store id target (made hands store.job id target (ground hands id store.job)).hangs_on))
+      ≡ unless store (if b then Some BadId else hung_check hands store.job id target (ground hands id store.job)) (gives store id target (made hands store.job id target (ground hands id store.job)).hangs_on)) [ true ↦ refl | false ↦ refl ]
+      ∙ (λ i. unless store (if is_no_taker id store.job target then Some BadId else
+      (if sym foreign i then limits_check hands store.job id target 0 else hung_check hands store.job id target (ground hands id store.job)))
+      (gives store id target (made hands store.job id target (if sym foreign i then None else ground hands id store.job)).hangs_on))
+    where
+      hung : (o : Option Hand) → needing store (option_map as_taken o) NotGranted (λ hand. checked store ((list_any (is_withdrawn store.job id target) hands, Exists) ∷ (nat_le greatest_depth hand.depth || nat_le most_hands (length (given_by store.job hands)), TooMany) ∷ []) (gives store id target (Some hand.giver)))
+          ≡ unless store (hung_check hands store.job id target o) (gives store id target (made hands store.job id target o).hangs_on)
+      hung None = refl
+      hung (Some b) = limits store (list_any (is_withdrawn store.job id target) hands) (nat_le greatest_depth b.depth || nat_le most_hands (length (given_by store.job hands))) (gives store id target (Some b.giver))
+
+  withdrawn : (id : ObjectId) (target : ℕ) → withdraw store id target
+      ≡ unless store (withdraw_check hands store.job id target) (done (settled (without_given store hands id target) id))
+  unfolding checked needing
+  withdrawn id target =
+      (λ i. if not (stands id target i) then refused store NotGranted else done (settled (record store { given = (ap (filter (λ hand. not (is_to id target hand))) has.given ∙ left_given store.job id target hands) i }) id))
+      ∙ elim (list_any (is_withdrawn store.job id target) hands) as (λ b. (if not b then refused store NotGranted else done (settled (without_given store hands id target) id))
+      ≡ unless store (if b then None else Some NotGranted) (done (settled (without_given store hands id target) id))) [ true ↦ refl | false ↦ refl ]
+
+  pub refuses_alike : RefusesAlike hands store
+  refuses_alike = record { own = own_grant; foreign = foreign_grant; withdrawal = withdrawn }
+
+-- ---- what a grant leaves
+
+apart_back : (a b : ℕ) → (a == b) ≡ false → (b == a) ≡ false
+apart_back a b e = grind (arith, nat_tests)
+
+and_false : (b : Bool) → (b && false) ≡ false
+and_false true = refl
+and_false false = refl
+
+-- one hand more
+module _ (lengths : ObjectId → ℕ) (hands : List Hand) (store : Shape) (has : HasHands lengths hands store) (h : Hand) where
+  given_here : h.giver ≡ store.job → store.given ++ as_given h ∷ [] ≡ map as_given (given_by store.job (hands ++ h ∷ []))
+  given_here mine =
+      ap (λ given. given ++ as_given h ∷ []) has.given
+      ∙ sym (ap (map as_given) (filter_both (is_given_by store.job) hands (h ∷ []) ∙ ap (λ b. given_by store.job hands ++ cond b (h ∷ []) []) (eq-eqb h.giver store.job mine))
+      ∙ map-append as_given (given_by store.job hands) (h ∷ []))
+
+  given_elsewhere : (h.giver == store.job) ≡ false → store.given ≡ map as_given (given_by store.job (hands ++ h ∷ []))
+  given_elsewhere other =
+      has.given
+      ∙ sym (ap (map as_given) (filter_both (is_given_by store.job) hands (h ∷ []) ∙ ap (λ b. given_by store.job hands ++ cond b (h ∷ []) []) other ∙ append-nil (given_by store.job hands)))
+
+  shown_more : (q : ObjectId) (b : Bool) → shows q store.job h ≡ b → map as_taken (filter (shows q store.job) (hands ++ h ∷ [])) ≡ map as_taken (filter (shows q store.job) hands) ++ cond b (as_taken h ∷ []) []
+  shown_more q b is =
+      let old = map as_taken (filter (shows q store.job) hands) in
+      ap (map as_taken) (filter_both (shows q store.job) hands (h ∷ []))
+      ∙ map-append as_taken (filter (shows q store.job) hands) (filter (shows q store.job) (h ∷ []))
+      ∙ (λ i. old ++ map as_taken (cond (is i) (h ∷ []) []))
+      ∙ elim b as (λ b. old ++ map as_taken (cond b (h ∷ []) []) ≡ old ++ cond b (as_taken h ∷ []) []) [ true ↦ refl | false ↦ refl ]
+
+  taken_elsewhere : (h.taker == store.job) ≡ false → (q : ObjectId) → at store.received q ≡ seen_by (lengths q) (map as_taken (filter (shows q store.job) (hands ++ h ∷ [])))
+  taken_elsewhere other q = has.taken q ∙ ap (seen_by (lengths q)) (sym (shown_more q false (ap (λ b. same_id q h.id && b) other ∙ and_false (same_id q h.id)) ∙ append-nil (map as_taken (filter (shows q store.job) hands))))
+
+  taken_here : h.taker ≡ store.job → (q : ObjectId) → at (received store h.id (lengths h.id) h.giver h.depth).shape.received q ≡ seen_by (lengths q) (map as_taken (filter (shows q store.job) (hands ++ h ∷ [])))
+  taken_here mine q =
+      at-put store.received h.id (record { length = lengths h.id; hands = hands_of store h.id ++ as_taken h ∷ [] }) q
+      ∙ (elim (same_id q h.id) as (λ b. same_id q h.id ≡ b → cond b (Some (record { length = lengths h.id; hands = hands_of store h.id ++ as_taken h ∷ [] })) (at store.received q)
+      ≡ seen_by (lengths q) (map as_taken (filter (shows q store.job) (hands ++ h ∷ [])))) [
+        | true ↦ λ same.
+            (λ i. Some (record { length = lengths (sym (same_id-equal q h.id same) i); hands = hands_of store (sym (same_id-equal q h.id same) i) ++ as_taken h ∷ [] }))
+            ∙ ap (λ hands. Some (record { length = lengths q; hands = hands ++ as_taken h ∷ [] })) (ap seen_hands (has.taken q) ∙ hands_seen (lengths q) (map as_taken (filter (shows q store.job) hands)))
+            ∙ seen_more (lengths q) (map as_taken (filter (shows q store.job) hands)) (as_taken h)
+            ∙ ap (seen_by (lengths q)) (sym (shown_more q true (both (same_id q h.id) (h.taker == store.job) same (eq-eqb h.taker store.job mine))))
+        | false ↦ λ other.
+            has.taken q
+            ∙ ap (seen_by (lengths q)) (sym (shown_more q false (ap (λ b. b && h.taker == store.job) other) ∙ append-nil (map as_taken (filter (shows q store.job) hands))))
+      ]) refl
+
+module _ (lengths : ObjectId → ℕ) (hands : List Hand) (giver : ℕ) (id : ObjectId) (taker : ℕ) where
+  -- whose the new hand is
+  made_for : ((new_hand hands id giver taker).id ≡ id) × ((new_hand hands id giver taker).giver ≡ giver) × ((new_hand hands id giver taker).taker ≡ taker)
+  made_for = by (if id.job.0 == giver then None else ground hands id giver)
+    where
+      by : (o : Option Hand) → ((made hands giver id taker o).id ≡ id) × ((made hands giver id taker o).giver ≡ giver) × ((made hands giver id taker o).taker ≡ taker)
+      by None = (refl, refl, refl)
+      by (Some hand) = (refl, refl, refl)
+
+  pub grants_alike : grant_check hands giver id taker ≡ None → GrantsAlike lengths hands giver id taker
+  grants_alike passes =
+      let h = new_hand hands id giver taker in
+      let apart : (taker == giver) ≡ false = other_job (taker == 0) (taker == giver) (taker == id.job.0) (check_off (is_no_taker id giver taker) BadId (if id.job.0 == giver then limits_check hands giver id taker 0 else hung_check hands giver id taker (ground hands id giver)) passes).0 in
+      record {
+        of_giver = λ store own has. record {
+          given = (λ i. store.given ++ record { id = sym made_for.0 i; target = sym made_for.2 i; hangs_on = h.hangs_on } ∷ []) ∙ given_here lengths hands store has h (made_for.1 ∙ sym own);
+          taken = taken_elsewhere lengths hands store has h ((λ i. made_for.2 i == own i) ∙ apart);
+        };
+        of_taker = λ store own has. record {
+          given = given_elsewhere lengths hands store has h ((λ i. made_for.1 i == own i) ∙ apart_back taker giver apart);
+          taken = λ q. (λ i. at (received store (sym made_for.0 i) (lengths (sym made_for.0 i)) (sym made_for.1 i) h.depth).shape.received q) ∙ taken_here lengths hands store has h (made_for.2 ∙ sym own) q;
+        };
+        of_other = λ store from to has. record {
+          given = given_elsewhere lengths hands store has h ((λ i. made_for.1 i == store.job) ∙ from);
+          taken = taken_elsewhere lengths hands store has h ((λ i. made_for.2 i == store.job) ∙ to);
+        };
+      }
+    where
+      other_job : (a b c : Bool) → (a || b || c) ≡ false → b ≡ false
+      other_job false false c e = refl
+      other_job false true c e = e
+      other_job true b c e = false_true e
