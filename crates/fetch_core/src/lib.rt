@@ -170,7 +170,9 @@ impl FetchIn {
         fills
     }
 
-    fn fills_one(&self, number: u64, from: u32, index: u32, length: usize) -> bool
+    /// Whether a chunk of `length` bytes would fill a gap: it is of this fetch, from its source, missing, and as long as that
+    /// chunk is.
+    pub fn fills_one(&self, number: u64, from: u32, index: u32, length: usize) -> bool
         ensures { result ≡ fills_one number from index length self.now }
     {
         match self.stage {
@@ -210,7 +212,8 @@ impl FetchIn {
         refused
     }
 
-    fn fail(&mut self, fault: FetchFault)
+    /// The fetch is over without a copy, for the next Get to tell why.
+    pub fn fail(&mut self, fault: FetchFault)
         ensures { self.new ≡ failed_with self.old fault }
     {
         self.stage = Stage::Failed(fault);

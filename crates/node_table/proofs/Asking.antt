@@ -32,7 +32,7 @@ use Rattle.node_table.specs.Entries.{changed, each_changed}
 use Rattle.node_table.specs.Kept.{Kept, can_spill, spilling, spilling_if}
 use Rattle.node_table.specs.Row.{Row, Beside, beside_of, copies_of, shape_of}
 use Rattle.node_table.specs.RoomPlans.{AsksWrites}
-use Rattle.node_table.specs.Shown.{seen, work_on, IsPlain, IsShown, only, TakesStep}
+use Rattle.node_table.specs.Shown.{seen, work_on, IsShown, only, TakesStep}
 use Rattle.node_table.proofs.ByChecks.{sending-is}
 use Rattle.node_table.proofs.Changes.{changed-found, changed-absent}
 use Rattle.node_table.proofs.CopyTables.{sorted-copies, at-copies_found, copies-changed}
@@ -143,7 +143,7 @@ all_asked (id ∷ ids) store =
     more a b c is = omega (arith, is)
 
 -- the works of an object among more
-work_before : (ws vs : List WorkInFlight) (q : ObjectId) → work_on ws q ≡ None → work_on (ws ++ vs) q ≡ work_on vs q
+pub work_before : (ws vs : List WorkInFlight) (q : ObjectId) → work_on ws q ≡ None → work_on (ws ++ vs) q ≡ work_on vs q
 work_before [] vs q none = refl
 work_before (w ∷ ws) vs q none = by (same_id q w.id) (work_before ws vs q) none
   where
@@ -152,7 +152,7 @@ work_before (w ∷ ws) vs q none = by (same_id q w.id) (work_before ws vs q) non
     by true rest none = none_some (cond w.writes Write Read) (sym none)
     by false rest none = rest none
 
-work_behind : (ws vs : List WorkInFlight) (q : ObjectId) → work_on vs q ≡ None → work_on (ws ++ vs) q ≡ work_on ws q
+pub work_behind : (ws vs : List WorkInFlight) (q : ObjectId) → work_on vs q ≡ None → work_on (ws ++ vs) q ≡ work_on ws q
 work_behind [] vs q none = none
 work_behind (w ∷ ws) vs q none = by (same_id q w.id) (work_behind ws vs q none)
   where
@@ -291,7 +291,6 @@ module _ (node : ℕ) (row : Row) (line : WorkLine) (hands : List Hand) (bytes :
     working = working_now;
     granted = λ q k found. let z = was q k found in granted_was q k z.0 z.2 ∙ h.granted q z.0 z.1;
     received = received_stays node row beside contents h x quiet.received;
-    plain = λ q k found. let z = was q k found in subst IsPlain (sym (copy_was q k z.0 z.2).0) (h.plain q z.0 z.1);
     reply = refl;
     erased = sym (ap (map (key_of row.job)) (keys_none (copies_of row.copies) (copies_of row.copies) (all_found (copies_of row.copies))));
   }

@@ -21,7 +21,7 @@ use Rattle.lru_evictor.specs.Orders.{AreThere}
 use Rattle.node_table.specs.Entries.{changed}
 use Rattle.node_table.specs.Kept.{Kept}
 use Rattle.node_table.specs.Row.{Row, Beside, copies_of}
-use Rattle.node_table.specs.Shown.{seen, work_on, IsPlain, IsShown}
+use Rattle.node_table.specs.Shown.{seen, work_on, IsShown}
 use Rattle.node_table.proofs.Changes.{changed-found}
 use Rattle.node_table.proofs.CopyTables.{copies-changed}
 use Rattle.node_table.proofs.Stepping.{same_bytes, digests_now, bytes_now}
@@ -120,16 +120,6 @@ module _ (node : ℕ) (row : Row) (beside : Beside) (contents : Contents) (h : I
       by z e (inl t) =
           let is : z ≡ k = some_value z k (sym e ∙ ap (at row.copies) (same_id-equal q id t.0) ∙ found) in
           ap (λ y. y.granted) (t.1 ∙ ap f is) ∙ same ∙ ap (λ z. z.granted) (sym is) ∙ h.granted q z e
-
-  -- where the change keeps the copy plain
-  pub plain_stay : IsPlain (f k).copy → (q : ObjectId) (y : Kept) → at (changed f row.copies id) q ≡ Some y → IsPlain y.copy
-  plain_stay good q y is = by (one q y is).0 (one q y is).1 (one q y is).2
-    where
-      by : (z : Kept) → at row.copies q ≡ Some z → From f row.copies id q y z → IsPlain y.copy
-      by z e (inr t) = subst (λ y. IsPlain y.copy) (sym t.1) (h.plain q z e)
-      by z e (inl t) =
-          let is : z ≡ k = some_value z k (sym e ∙ ap (at row.copies) (same_id-equal q id t.0) ∙ found) in
-          subst (λ y. IsPlain y.copy) (sym (t.1 ∙ ap f is)) good
 
   -- the same ids are in the order
   pub listed_stay : (order : List ObjectId) → ((q : ObjectId) (z : Kept) → at row.copies q ≡ Some z → is_among order q ≡ true) → (q : ObjectId) (y : Kept) → at (changed f row.copies id) q ≡ Some y → is_among order q ≡ true

@@ -35,13 +35,37 @@ use Rattle.node_table.specs.Row.{Row, Beside, copies_of, shape_of, place_of, Are
 use Rattle.node_table.specs.Checks.{create_check}
 use Rattle.node_table.specs.Evicting.{placed_without, replaced, removals}
 use Rattle.node_table.specs.MadeRooms.{BringsNothing}
-use Rattle.node_table.proofs.Rooms.{each_among, no_victim, placed_done}
+use Rattle.node_table.proofs.Rooms.{each_among, placed_done}
 use Rattle.node_table.specs.RoomPlans.{MakesPlace}
 use Rattle.node_table.specs.Shown.{seen, work_on, IsShown, only, TakesStep}
 use Rattle.node_table.proofs.ByChecks.{unless_refused, first-check, called, own}
 use Rattle.node_table.proofs.CopyTables.{at-copies, at-copies_none}
 use Rattle.node_table.proofs.Fetching.{length-map, nothing_found}
 use Rattle.node_table.proofs.Stepping.{stays}
+
+-- what passes the checks is of a size
+pub size_of : (row : Row) (id : ObjectId) (n : ℕ) → create_check row id n ≡ None → is_size row.window.quota n ≡ true
+size_of row id n passed = by (is_size row.window.quota n) (cond (is_remembered row.ended_tasks id.task) (Some Gone) (cond (is_some (at row.copies id)) (Some Exists) (cond (nat_le most_copies (length row.copies)) (Some TooMany) None))) passed
+  where
+    by : (b : Bool) (o : Option Refusal) → cond (not b) (Some BadSize) o ≡ None → b ≡ true
+    by true o e = refl
+    by false o e = none_some BadSize (sym e)
+
+-- and has no copy
+pub absent_of : (row : Row) (id : ObjectId) (n : ℕ) → create_check row id n ≡ None → at row.copies id ≡ None
+absent_of row id n passed = by (at row.copies id) passed
+  where
+    sized : (b : Bool) (o : Option Refusal) → cond b (Some BadSize) o ≡ None → o ≡ None
+    sized true o e = none_some BadSize (sym e)
+    sized false o e = e
+
+    stays_on : (b : Bool) (o : Option Refusal) → cond b (Some Gone) o ≡ None → o ≡ None
+    stays_on true o e = none_some Gone (sym e)
+    stays_on false o e = e
+
+    by : (o : Option Kept) → cond (not (is_size row.window.quota n)) (Some BadSize) (cond (is_remembered row.ended_tasks id.task) (Some Gone) (cond (is_some o) (Some Exists) (cond (nat_le most_copies (length row.copies)) (Some TooMany) None))) ≡ None → o ≡ None
+    by None e = refl
+    by (Some k) e = none_some Exists (sym (stays_on (is_remembered row.ended_tasks id.task) (Some Exists) (sized (not (is_size row.window.quota n)) _ e)))
 
 module _ (node : ℕ) (row : Row) (beside : Beside) (contents : Contents) (session : ℕ) (id : ObjectId) (kind : Kind) (n : ℕ) (mine : (id.job.0 == row.job) ≡ true) (h : IsShown row beside contents) where
   abbrev s : Shape
@@ -80,33 +104,14 @@ module _ (node : ℕ) (row : Row) (beside : Beside) (contents : Contents) (sessi
     pub by_room : step row.order s (judge node (seen row beside contents) x) ≡ erasing s (in_room (make_room row.order s n) (created id kind n))
     by_room = create_is ∙ ap (λ o. erasing s (unless_refused s o room_change)) passed
 
-    pub absent : at row.copies id ≡ None
-    absent = by (at row.copies id) passed
-      where
-        sized : (b : Bool) (o : Option Refusal) → cond b (Some BadSize) o ≡ None → o ≡ None
-        sized true o e = none_some BadSize (sym e)
-        sized false o e = e
+    absent : at row.copies id ≡ None
+    absent = absent_of row id n passed
 
-        stays_on : (b : Bool) (o : Option Refusal) → cond b (Some Gone) o ≡ None → o ≡ None
-        stays_on true o e = none_some Gone (sym e)
-        stays_on false o e = e
-
-        by : (o : Option Kept) → cond (not (is_size row.window.quota n)) (Some BadSize) (cond (is_remembered row.ended_tasks id.task) (Some Gone) (cond (is_some o) (Some Exists) (cond (nat_le most_copies (length row.copies)) (Some TooMany) None))) ≡ None → o ≡ None
-        by None e = refl
-        by (Some k) e = none_some Exists (sym (stays_on (is_remembered row.ended_tasks id.task) (Some Exists) (sized (not (is_size row.window.quota n)) _ e)))
-        -- what has no copy isn't in the order of use
-
+    -- what has no copy isn't in the order of use
     pub not_listed : is_among row.order id ≡ true → ⊥
     not_listed among = true_false (sym (ap is_some (at-copies_none row.copies id absent)) ∙ each_among (λ q. is_some (at (copies_of row.copies) q)) row.order h.there id among)
 
-    module _ (victims : List ObjectId) (makes : MakesPlace (make_room row.order s n) s n victims) where
-      -- neither a victim nor in the order of use is what has no copy
-      not_victim : is_among victims id ≡ false
-      not_victim = no_victim node row beside contents h x quiet n (created id kind n) by_room victims makes id (ap (λ c. option_map_or (is_evictable s id) c false) (at-copies_none row.copies id absent))
-
-      pub no_trace : is_among victims id || is_among row.order id ≡ true → ⊥
-      no_trace t = elim (or_cases (is_among victims id) (is_among row.order id) t) [ inl a ↦ true_false (sym not_victim ∙ a) | inr a ↦ not_listed a ]
-
+    module _ (victims : List ObjectId) (makes : MakesPlace (make_room row.order s n) s n victims) (stays : is_among victims id ≡ false) where
       module _ (placed : ArePlaced row.window.placed (place_of row.copies)) (offset : ℕ) (least : first (extents_of (placed_without row victims)) row.window.quota n ≡ Some offset) (free : lookup (nat_eq offset) (placed_without row victims) ≡ None) where
         no_work : work_on beside.works id ≡ None
         no_work = ap (option_map (λ w. if w.writes then Write else Read)) (nothing_found (λ w. same_id id w.id) beside.works (h.kept.kept.shape.works_of_copies id (at-copies_none row.copies id absent)))
@@ -122,9 +127,8 @@ module _ (node : ℕ) (row : Row) (beside : Beside) (contents : Contents) (sessi
         create_done =
             subst (λ ps. TakesStep node row beside contents x (record { reply = reply.Placed offset (rounded n); posts = ps; erased = [] }) (replaced row (Some id) id (new_kept kind n offset) n offset victims) beside) (append_nil (removals node row.copies victims))
             (placed_done node row beside contents h x quiet n (created id kind n) by_room victims makes placed id (new_kept kind n offset)
-            (ap (option_and_then (λ (k : Kept). extent_of k.copy)) absent) not_victim offset refl refl least free beside.works beside.used (Some id)
-            refl refl (λ u is. some_value u id (sym is)) (λ none. none_some id (sym none)) (λ keeps. true_false keeps) (sym no_work) (λ q differs. refl) (sym no_hand)
-            (record { state = refl; backed = refl }) [] refl)
+            (ap (option_and_then (λ (k : Kept). extent_of k.copy)) absent) stays offset refl refl least free beside.works beside.used (Some id)
+            refl refl (λ u is. some_value u id (sym is)) (λ none. none_some id (sym none)) (λ keeps. true_false keeps) (sym no_work) (λ q differs. refl) (sym no_hand) [] refl)
 
 -- whether an id is among others, by the `==` of ids
 pub among-eq : (ids : List ObjectId) (id : ObjectId) → list_any (λ y. id_eq y id) ids ≡ is_among ids id

@@ -151,7 +151,7 @@ module _ (row : Row) (beside : Beside) (contents : Contents) (h : IsShown row be
   place_is : (id : ObjectId) (copy : Copy) → at s.copies id ≡ Some copy → place_of row.copies id ≡ extent_of copy
   place_is id copy found = let k = kept_found row.copies id copy found in place_found row.copies id k.0 k.1 ∙ ap extent_of k.2
 
-  same_extents : (x : Extent) → Contains (extents_of row.window.placed) x ↔ Contains (extents_in s) x
+  pub same_extents : (x : Extent) → Contains (extents_of row.window.placed) x ↔ Contains (extents_in s) x
   same_extents x = (there, back)
     where
       there : Contains (extents_of row.window.placed) x → Contains (extents_in s) x

@@ -10,6 +10,7 @@ use Rattle.obj_id.specs.declared.ids.ObjectId.{ObjectId}
 use Rattle.obj_id.specs.declared.works.Extent.{Extent}
 use Rattle.obj_id.specs.Ids.{id_cmp, same_id}
 use Rattle.obj_id.proofs.SameIds.{same_id-itself, same_id-equal, same_id-flip}
+use Rattle.private_store.specs.declared.faults.Fault.{Fault}
 use Rattle.private_store.specs.declared.inputs.Input.{Input}
 use Rattle.private_store.specs.Tables.{ById, at, with_entry, without_entry, is_among}
 use Rattle.private_store.specs.Shape.{Copy, Change}
@@ -26,12 +27,15 @@ use Rattle.private_store.proofs.Rows.{at-drop, at-put}
 use Rattle.private_store.proofs.Tests.{none_some, some_value, true_false, false_true, true_T, and_left, and_right, both, both_left, both_right}
 use Rattle.job_region.specs.Region.{without}
 use Rattle.lru_evictor.specs.Orders.{AreThere, without_id}
-use Rattle.node_table.specs.Kept.{Kept}
+use Rattle.node_table.specs.Entries.{changed}
+use Rattle.node_table.specs.Kept.{Kept, lost}
 use Rattle.node_table.specs.Row.{Row, Beside, copies_of, shape_of, place_of, ArePlaced}
 use Rattle.node_table.specs.Shown.{IsShown, Given}
 use Rattle.node_table.specs.Dropping.{dropped}
 use Rattle.lru_evictor.proofs.Free.{goes}
 use Rattle.std.proofs.lemmas.List.{append-nil}
+use Rattle.node_table.proofs.Changes.{changed-found, changed-absent}
+use Rattle.node_table.proofs.Places.{same_places}
 use Rattle.node_table.proofs.Replacing.{lookup-without, left_in}
 use Rattle.node_table.proofs.Stepping.{Moves}
 
@@ -100,7 +104,7 @@ module _ (placed : List (ℕ × List ℕ)) (es : ById Kept) (h : ArePlaced place
   abbrev pub gone : List Extent
   gone = option_to_list (place_of es id)
 
-  place_left : (q : ObjectId) → place_of (without_entry es id) q ≡ cond (not (same_id id q)) (place_of es q) None
+  pub place_left : (q : ObjectId) → place_of (without_entry es id) q ≡ cond (not (same_id id q)) (place_of es q) None
   place_left q = ap (λ o. option_and_then (λ (kept : Kept). extent_of kept.copy) o) (at-drop es id q) ∙ by (same_id id q)
     where
       by : (b : Bool) → option_and_then (λ (kept : Kept). extent_of kept.copy) (cond (not b) (at es q) None) ≡ cond (not b) (place_of es q) None
@@ -152,6 +156,25 @@ module _ (placed : List (ℕ × List ℕ)) (es : ById Kept) (h : ArePlaced place
       other : (q : ObjectId) (e : Extent) → place_of es q ≡ Some e → goes gone e.offset ≡ false → (b : Bool) → same_id id q ≡ b → b ≡ false
       other q e lies stays false s = refl
       other q e lies stays true s = false_true (sym (goes_here e (ap (place_of es) (same_id-equal id q s) ∙ lies)) ∙ stays)
+
+  -- the same where the copy gives its place up, and stays
+  pub lost_placed : (fault : Fault) → ArePlaced (without gone placed) (place_of (changed (lost fault) es id))
+  lost_placed fault = same_places (without gone placed) (place_of (without_entry es id)) (place_of (changed (lost fault) es id)) (λ q. now q (at es id) refl ∙ sym (place_left q)) left_placed
+    where
+      now : (q : ObjectId) (o : Option Kept) → at es id ≡ o → place_of (changed (lost fault) es id) q ≡ cond (not (same_id id q)) (place_of es q) None
+      now q None none = ap (λ t. place_of t q) (changed-absent (lost fault) id es none) ∙ here (same_id id q) refl
+        where
+          here : (b : Bool) → same_id id q ≡ b → place_of es q ≡ cond (not b) (place_of es q) None
+          here true t = ap (λ o. option_and_then (λ (kept : Kept). extent_of kept.copy) o) (ap (at es) (sym (same_id-equal id q t)) ∙ none)
+          here false t = refl
+      now q (Some k) is =
+          ap (λ t. place_of t q) (changed-found (lost fault) id es k is)
+          ∙ ap (λ o. option_and_then (λ (kept : Kept). extent_of kept.copy) o) (at-put es id (lost fault k) q ∙ ap (λ b. cond b (Some (lost fault k)) (at es q)) (same_id-flip q id))
+          ∙ here (same_id id q)
+        where
+          here : (b : Bool) → option_and_then (λ (kept : Kept). extent_of kept.copy) (cond b (Some (lost fault k)) (at es q)) ≡ cond (not b) (place_of es q) None
+          here true = refl
+          here false = refl
 
 -- an option as a slice
 pub slice_is : {X : Type 0} (o : Option X) (xs : List X) → MatchOption o (xs ≡ []) (λ x. xs ≡ x ∷ []) → xs ≡ option_to_list o
@@ -221,14 +244,14 @@ key_dropped es id copy sorted found = keys_one es (without_entry es id) id left 
 
 -- what was shown of a row before its copy was removed is so of it afterwards
 module _ (node : ℕ) (row : Row) (beside : Beside) (contents : Contents) (h : IsShown row beside contents) (x : Input)
-    (c : Change) (told : Given) (r : Row) (m : Moves node row beside contents h x c told r beside) (unused : c.used ≡ None)
+    (c : Change) (told : Given) (r : Row) (after : Beside) (m : Moves node row beside contents h x c told r after) (unused : c.used ≡ None)
     (placed : ArePlaced r.window.placed (place_of r.copies)) (id : ObjectId) where
   abbrev pub change_left : List ℕ → Change
   change_left erased = record c { shape = drop_copy c.shape id; erased = erased }
 
-  pub moves_left : (erased : List ℕ) (given : Given) → given.reply ≡ told.reply → given.erased ≡ map (key_of row.job) erased → Moves node row beside contents h x (change_left erased) given (dropped r id) beside
+  pub moves_left : (erased : List ℕ) (given : Given) → given.reply ≡ told.reply → given.erased ≡ map (key_of row.job) erased → Moves node row beside contents h x (change_left erased) given (dropped r id) after
   moves_left erased given same keys = record {
-    shape = ap (λ s. drop_copy s id) m.shape ∙ ap (λ t. record (shape_of r beside) { copies = t }) (sym (copies-without id r.copies));
+    shape = ap (λ s. drop_copy s id) m.shape ∙ ap (λ t. record (shape_of r after) { copies = t }) (sym (copies-without id r.copies));
     order =
         ap (reordered row.order (copies_of (without_entry r.copies id))) unused
         ∙ ap (λ t. reordered row.order t None) (copies-without id r.copies)
@@ -244,7 +267,6 @@ module _ (node : ℕ) (row : Row) (beside : Beside) (contents : Contents) (h : I
     working = λ q k found. m.working q k (left_at r.copies id q k found).1;
     granted = λ q k found. m.granted q k (left_at r.copies id q k found).1;
     received = m.received;
-    plain = λ q k found. m.plain q k (left_at r.copies id q k found).1;
     reply = same ∙ m.reply;
     erased = keys;
   }

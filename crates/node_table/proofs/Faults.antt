@@ -22,9 +22,9 @@ use Rattle.lru_evictor.proofs.Reorders.{reordered-unused}
 use Rattle.node_table.specs.Entries.{changed}
 use Rattle.node_table.specs.Kept.{Kept, fault_told}
 use Rattle.node_table.specs.Row.{Row, Beside, copies_of, shape_of}
-use Rattle.node_table.specs.Shown.{seen, IsPlain, IsShown, only, TakesStep}
+use Rattle.node_table.specs.Shown.{seen, IsShown, only, TakesStep}
 use Rattle.node_table.proofs.CopyTables.{at-copies_found, copies-changed}
-use Rattle.node_table.proofs.Changing.{there_still, bytes_stay, digests_stay, works_stay, plain_stay, listed_stay, keys_with, granted_stay}
+use Rattle.node_table.proofs.Changing.{there_still, bytes_stay, digests_stay, works_stay, listed_stay, keys_with, granted_stay}
 use Rattle.node_table.proofs.Getting.{get_at}
 use Rattle.node_table.proofs.Stepping.{Moves, moved, received_stays}
 
@@ -63,9 +63,6 @@ module _ (node : ℕ) (row : Row) (beside : Beside) (contents : Contents) (sessi
     abbrev row_told : Row
     row_told = record row { copies = changed fault_told row.copies id }
 
-    plain_now : IsPlain now
-    plain_now = false_true (sym device ∙ ap is_some (h.plain id k found).backed)
-
     m : Moves node row beside contents h x c (only (reply.Refused (refusal_of fault))) row_told beside
     m = record {
       shape = ap (λ t. record s { copies = t }) (sym (copies-changed fault_told row.copies id k found));
@@ -75,7 +72,6 @@ module _ (node : ℕ) (row : Row) (beside : Beside) (contents : Contents) (sessi
       bytes = bytes_stay node row beside contents h x id k found fault_told keeps c refl;
       digests = digests_stay node row beside contents h x id k found fault_told keeps c refl refl (λ keep. keep);
       working = works_stay node row beside contents h x id k found fault_told keeps refl;
-      plain = plain_stay node row beside contents h x id k found fault_told keeps plain_now;
       granted = granted_stay node row beside contents h x id k found fault_told keeps refl;
       received = received_stays node row beside contents h x refl;
       reply = refl;

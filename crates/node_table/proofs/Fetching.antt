@@ -42,7 +42,7 @@ use Rattle.node_table.specs.Kept.{Kept, fetched_kept}
 use Rattle.node_table.specs.Row.{Row, Beside, copies_of, shape_of, place_of, ArePlaced}
 use Rattle.node_table.specs.Dropping.{dropped}
 use Rattle.node_table.specs.Checks.{fetch_check}
-use Rattle.node_table.specs.Shown.{seen, work_on, IsPlain, IsShown, Given, only, TakesStep}
+use Rattle.node_table.specs.Shown.{seen, work_on, IsShown, Given, only, TakesStep}
 use Rattle.node_table.proofs.ByChecks.{unless_refused, first-check, needing-by, sending-is}
 use Rattle.node_table.proofs.CopyTables.{at-copies_none, at-copies_found, copies-with}
 use Rattle.node_table.proofs.Changing.{there_with, keys_with}
@@ -138,7 +138,6 @@ module _ (node : ℕ) (row : Row) (beside : Beside) (contents : Contents) (sessi
         (λ t lies. none_some e lies) (λ old lies. same_bytes node row beside contents h (input.Call session (command.Get id)) q y e old lies) lies;
     digests = λ q y there keeps. of_each q y there (λ z. keeps_digest z.copy ≡ true → unwrap_or (at contents.digests q) no_digest ≡ unwrap_or z.digest no_digest)
         (λ t keeps. true_false keeps) (λ old keeps. h.digests q y old keeps) keeps;
-    plain = λ q y there. of_each q y there (λ z. IsPlain z.copy) (λ t. record { state = refl; backed = refl }) (λ old. h.plain q y old);
     working = λ q y there. of_each q y there (λ z. z.working ≡ work_on beside.works q)
         (λ t. sym (ap (work_on beside.works) (same_id-equal q id t) ∙ no_work)) (λ old. h.working q y old);
     granted = λ q y there. of_each q y there (λ z. z.granted ≡ has_hand beside.given q)
@@ -239,6 +238,6 @@ module _ (node : ℕ) (row : Row) (beside : Beside) (contents : Contents) (sessi
       failed_told =
           let c = telling node row beside contents h x (reply.Refused (fetch_refusal fault)) [] in
           let m = same_moves node row beside contents h x (reply.Refused (fetch_refusal fault)) [] [] refl refl refl in
-          moved node row beside contents h x (change_left node row beside contents h x c tells_of row m refl placed id keys)
+          moved node row beside contents h x (change_left node row beside contents h x c tells_of row beside m refl placed id keys)
           (phase_is (failed fault) at_end) tells_of (dropped row id) beside
-          (moves_left node row beside contents h x c tells_of row m refl placed id keys tells_of refl (sym (ap (map (key_of row.job)) no_keys))) refl
+          (moves_left node row beside contents h x c tells_of row beside m refl placed id keys tells_of refl (sym (ap (map (key_of row.job)) no_keys))) refl

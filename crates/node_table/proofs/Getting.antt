@@ -32,10 +32,10 @@ use Rattle.node_table.specs.Kept.{Kept, held, is_ready}
 use Rattle.node_table.specs.Row.{Row, Beside, copies_of, shape_of}
 use Rattle.node_table.specs.Checks.{hold_check_of, fetch_check, get_check_by, get_check_of, copy_check, visible_state}
 use Rattle.node_table.specs.Holding.{IsRowHeld, IsHoldRefusedAt}
-use Rattle.node_table.specs.Shown.{seen, IsPlain, IsShown, only, TakesStep}
+use Rattle.node_table.specs.Shown.{seen, IsShown, only, TakesStep}
 use Rattle.node_table.proofs.ByChecks.{unless_refused, first-check, called, own}
 use Rattle.node_table.proofs.CopyTables.{at-copies_found, copies-changed}
-use Rattle.node_table.proofs.Changing.{there_still, bytes_stay, digests_stay, works_stay, plain_stay, listed_stay, keys_with, granted_stay}
+use Rattle.node_table.proofs.Changing.{there_still, bytes_stay, digests_stay, works_stay, listed_stay, keys_with, granted_stay}
 use Rattle.node_table.proofs.Orders.{touched-listed, there_last, listed_last}
 use Rattle.node_table.proofs.Stepping.{Moves, moved, stays, received_stays}
 
@@ -199,9 +199,6 @@ module _ (node : ℕ) (row : Row) (beside : Beside) (contents : Contents) (sessi
       here : is_some (at (copies_of row_held.copies) id) ≡ true
       here = ap (λ t. is_some (at t id)) (sym copies_is) ∙ ap is_some (at-put_here (copies_of row.copies) id now)
 
-      plain_now : IsPlain now
-      plain_now = let p = h.plain id k found in record { state = p.state; backed = p.backed }
-
       m : Moves node row beside contents h x (erasing s c) (only (reply.Got k.copy.length)) row_held beside
       m = record {
         shape = ap (λ t. record s { copies = t }) copies_is;
@@ -212,7 +209,6 @@ module _ (node : ℕ) (row : Row) (beside : Beside) (contents : Contents) (sessi
         bytes = bytes_stay node row beside contents h x id k found (held session) keeps (erasing s c) refl;
         digests = digests_stay node row beside contents h x id k found (held session) keeps (erasing s c) refl refl (λ e. e);
         working = works_stay node row beside contents h x id k found (held session) keeps refl;
-        plain = plain_stay node row beside contents h x id k found (held session) keeps plain_now;
         granted = granted_stay node row beside contents h x id k found (held session) keeps refl;
         received = received_stays node row beside contents h x refl;
         reply = refl;

@@ -36,11 +36,10 @@ use Rattle.lru_evictor.proofs.Reorders.{reordered-unused}
 use Rattle.node_table.specs.Entries.{changed, all_changed}
 use Rattle.node_table.specs.Kept.{Kept, left}
 use Rattle.node_table.specs.Row.{Row, Beside, copies_of, shape_of, place_of, ArePlaced}
-use Rattle.node_table.specs.Shown.{seen, IsPlain, IsShown, only, TakesStep}
+use Rattle.node_table.specs.Shown.{seen, IsShown, only, TakesStep}
 use Rattle.node_table.specs.Usages.{total, doomed_one}
 use Rattle.node_table.proofs.ByChecks.{called}
 use Rattle.node_table.proofs.Places.{same_places}
-use Rattle.node_table.proofs.Releasing.{plain-holds}
 use Rattle.node_table.proofs.Settling.{settled-stays}
 use Rattle.node_table.proofs.Stepping.{Moves, moved, same_bytes, received_stays}
 
@@ -218,7 +217,6 @@ module _ (node : ℕ) (row : Row) (beside : Beside) (contents : Contents) (sessi
         let z = one q y is in
         h.digests q z.0 z.1 (ap (λ y. keeps_digest y.copy) (sym z.2) ∙ keep) ∙ ap (λ y. unwrap_or y.digest no_digest) (sym z.2);
     working = λ q y is. let z = one q y is in ap (λ y. y.working) z.2 ∙ h.working q z.0 z.1;
-    plain = λ q y is. let z = one q y is in subst (λ y. IsPlain y.copy) (sym z.2) (plain-holds z.0.copy session 0 (h.plain q z.0 z.1));
     granted = λ q y is. let z = one q y is in ap (λ y. y.granted) z.2 ∙ h.granted q z.0 z.1;
     received = received_stays node row beside contents h x refl;
     reply = refl;

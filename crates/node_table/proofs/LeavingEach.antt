@@ -33,7 +33,7 @@ use Rattle.lru_evictor.proofs.Reorders.{reordered-unused}
 use Rattle.node_table.specs.Kept.{Kept, left}
 use Rattle.node_table.specs.Row.{Row, Beside, copies_of, shape_of, place_of, ArePlaced}
 use Rattle.node_table.specs.Dropping.{dropped, is_over, settled_row, keys_settled, unheld_row, left_row, keys_left}
-use Rattle.node_table.specs.Shown.{seen, work_on, IsPlain, IsShown, Given, only, TakesStep}
+use Rattle.node_table.specs.Shown.{seen, work_on, IsShown, Given, only, TakesStep}
 use Rattle.node_table.specs.Usages.{item_of}
 use Rattle.node_table.proofs.ByChecks.{called}
 use Rattle.node_table.proofs.Changes.{changed-found, changed-absent}
@@ -42,7 +42,6 @@ use Rattle.node_table.proofs.CopyTables.{at-first, at-rest, at-copies, at-copies
 use Rattle.node_table.proofs.Described.{working-on, idle_same}
 use Rattle.node_table.proofs.Dropping.{moves_left, left_placed}
 use Rattle.node_table.proofs.Places.{changed_placed}
-use Rattle.node_table.proofs.Releasing.{plain-holds}
 use Rattle.node_table.proofs.Stepping.{Moves, moved, bytes_now, digests_now, same_bytes, received_stays}
 
 -- ---- the definition, copy by copy
@@ -69,7 +68,7 @@ module _ (session : ℕ) where
 -- ---- one copy
 
 -- the order of use where a copy that was there is put again
-reordered-with : (order : List ObjectId) (copies : ById Copy) (id : ObjectId) (now : Copy) → is_some (at copies id) ≡ true → reordered order (with_entry copies id now) None ≡ reordered order copies None
+pub reordered-with : (order : List ObjectId) (copies : ById Copy) (id : ObjectId) (now : Copy) → is_some (at copies id) ≡ true → reordered order (with_entry copies id now) None ≡ reordered order copies None
 reordered-with order copies id now there = ap (λ ids. ids ++ []) (same order)
   where
     there_too : (q : ObjectId) → is_some (at (with_entry copies id now) q) ≡ is_some (at copies q)
@@ -127,7 +126,6 @@ module _ (node : ℕ) (row : Row) (beside : Beside) (contents : Contents) (h : I
         working = λ q y found. carried (λ z. z.working ≡ work_on beside.works q) (λ z p. p) q y found (λ z there. m.working q z there);
         granted = λ q y found. carried (λ z. z.granted ≡ has_hand beside.given q) (λ z p. p) q y found (λ z there. m.granted q z there);
         received = m.received;
-        plain = λ q y found. carried (λ z. IsPlain z.copy) (λ z p. plain-holds z.copy session 0 p) q y found (λ z there. m.plain q z there);
         reply = m.reply;
         erased = m.erased;
       }
@@ -153,7 +151,7 @@ module _ (node : ℕ) (row : Row) (beside : Beside) (contents : Contents) (h : I
 
       by_over : (b : Bool) → MovedTo (cond b (drop_copy (set_copy s_r id now) id) (set_copy s_r id now)) (cond b (dropped (unheld_row session r id) id) (unheld_row session r id))
       by_over false = m_unheld
-      by_over true = moves_left node row beside contents h x (so_far (set_copy s_r id now)) (only reply.Ok) (unheld_row session r id) m_unheld refl placed_unheld id [] (only reply.Ok) refl refl
+      by_over true = moves_left node row beside contents h x (so_far (set_copy s_r id now)) (only reply.Ok) (unheld_row session r id) beside m_unheld refl placed_unheld id [] (only reply.Ok) refl refl
 
       placed_over : (b : Bool) → ArePlaced (cond b (dropped (unheld_row session r id) id) (unheld_row session r id)).window.placed (place_of (cond b (dropped (unheld_row session r id) id) (unheld_row session r id)).copies)
       placed_over false = placed_unheld
@@ -332,7 +330,7 @@ pub ids-listed : (es : ById Kept) → map (λ (item : OwnItem). item.id) (map it
 ids-listed [] = refl
 ids-listed (e ∷ es) = ap (λ ids. e.0 ∷ ids) (ids-listed es)
 
-ids-copies : (es : ById Kept) → ids_of (copies_of es) ≡ ids_of es
+pub ids-copies : (es : ById Kept) → ids_of (copies_of es) ≡ ids_of es
 ids-copies [] = refl
 ids-copies (e ∷ es) = ap (λ ids. e.0 ∷ ids) (ids-copies es)
 
@@ -366,7 +364,6 @@ module _ (node : ℕ) (row : Row) (beside : Beside) (contents : Contents) (sessi
     working = h.working;
     granted = h.granted;
     received = received_stays node row beside contents h x refl;
-    plain = h.plain;
     reply = refl;
     erased = refl;
   }
@@ -405,7 +402,6 @@ module _ (node : ℕ) (row : Row) (beside : Beside) (contents : Contents) (sessi
     working = ends.working;
     granted = ends.granted;
     received = ends.received;
-    plain = ends.plain;
     reply = refl;
     erased = keys;
   }

@@ -25,6 +25,7 @@ pub mod Removing
 pub mod Evicting
 pub mod Counting
 pub mod Replacing
+pub mod Restoring
 pub mod Dropping
 pub mod Fetching
 pub mod Faults
@@ -32,7 +33,16 @@ pub mod Rooms
 pub mod Pulling
 pub mod Creating
 pub mod Asking
+pub mod Answering
+pub mod Handing
+pub mod Quotas
 pub mod EndingKeys
 pub mod Lending
 pub mod Listed
 pub mod Late
+pub mod Arriving
+pub mod Overwriting
+pub mod Unfetching
+pub mod Gaps
+pub mod EndingTasks
+pub mod Serving

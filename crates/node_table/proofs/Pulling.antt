@@ -1,6 +1,7 @@
 -- A copy whose bytes are asked for at their source, in a place that is made for it.
-use Rattle.std.proofs.Common.{◌≡◌, ℕ, true, false, not, ◌&&◌, ◌||◌, cond, ◌==◌, nat_eq, List, [], ◌∷◌, ◌++◌, filter, map, length, ◌+◌, Option, Some, None, is_some, is_none, option_map, unwrap_or, refl, sym, ap, ◌∙◌, arith}
+use Rattle.std.proofs.Common.{◌≡◌, ℕ, nat_le, Bool, true, false, not, ◌&&◌, ◌||◌, cond, ◌==◌, nat_eq, List, [], ◌∷◌, ◌++◌, filter, map, length, ◌+◌, ◌<◌, ◌≤◌, nat_lt, Option, Some, None, is_some, is_none, option_map, unwrap_or, Ok, refl, sym, ap, ◌∙◌, arith}
 use Rattle.std.specs.Map.{lookup}
+use Rattle.obj_id.specs.declared.commands.CopyState.{CopyState}
 use Rattle.obj_id.specs.declared.commands.CopyState.TheVariants.{Fetching}
 use Rattle.obj_id.specs.declared.commands.Reply.TheVariants as reply
 use Rattle.obj_id.specs.declared.messages.PeerMessage.TheVariants.{Pull}
@@ -9,7 +10,7 @@ use Rattle.obj_id.specs.Kinds.{is_primary}
 use Rattle.private_store.specs.declared.inputs.Input.{Input}
 use Rattle.private_store.specs.declared.inputs.Input.TheVariants as input
 use Rattle.obj_id.specs.declared.commands.Command.TheVariants as command
-use Rattle.node_table.specs.Checks.{can_pull, can_pull_at}
+use Rattle.node_table.specs.Checks.{can_pull, can_pull_at, visible_state}
 use Rattle.private_store.specs.Change.{refused, erasing, in_room}
 use Rattle.private_store.specs.Commands.{is_length, get_fetching, set_phase, counted, chunk_count}
 use Rattle.private_store.specs.Contents.{Contents, View, judge, is_sized, keeps_digest, no_digest}
@@ -22,21 +23,27 @@ use Rattle.private_store.proofs.Rows.{at-put_here}
 use Rattle.job_region.specs.Region.{extents_of}
 use Rattle.node_table.specs.MadeRooms.{BringsNothing}
 use Rattle.node_table.specs.RoomPlans.{MakesPlace}
-use Rattle.node_table.specs.Shown.{seen, is_plain, IsPlain, IsShown, Given, TakesStep}
+use Rattle.node_table.specs.Shown.{seen, IsShown, Given, TakesStep}
 use Rattle.node_table.proofs.ByChecks.{sending-is}
+use Rattle.node_table.proofs.Getting.{some_at}
 use Rattle.node_table.proofs.CopyTables.{at-copies_found}
-use Rattle.node_table.proofs.Rooms.{no_victim, change_is, m, here, placed_done}
+use Rattle.node_table.proofs.Rooms.{change_is, m, here, placed_done}
 use Rattle.node_table.proofs.Stepping.{shown_now}
 use Rattle.std.specs.Option.{option_map_or, option_and_then}
 use Rattle.std.proofs.lemmas.Bool.Decides.{nat_tests}
+use Rattle.std.proofs.lemmas.Bool.{eqb-true}
+use Rattle.obj_id.specs.declared.ids.JobNo.{JobNo}
 use Rattle.obj_id.specs.declared.ids.ObjectId.{ObjectId}
 use Rattle.private_store.specs.Tables.{ById, at, with_entry, is_among}
-use Rattle.private_store.specs.Copies.{extent_of, is_sealed, was_sealed, is_evictable, is_idle}
+use Rattle.private_store.specs.Copies.{extent_of, is_sealed, was_sealed}
 use Rattle.private_store.specs.Extents.{rounded, first, is_size}
+use Rattle.private_store.specs.Limits.{longest_object}
 use Rattle.obj_id.specs.declared.works.Extent.{Extent}
 use Rattle.private_store.proofs.Tests.{both, both_left, both_right, true_false, none_some}
-use Rattle.node_table.specs.Evicting.{used_last, has_secondary, all_evicted, removals, placed_without, replaced}
-use Rattle.node_table.specs.Kept.{Kept, is_unasked, waits_for_place, with_chunks, pulled}
+use Rattle.node_table.specs.Evicting.{used_last, has_secondary, all_evicted, removals, placed_without, fits_without, replaced}
+use Rattle.node_table.specs.Kept.{Kept, is_unasked, is_sealed_at, waits_for_place, with_chunks, pulled, placed_for}
+use Rattle.node_table.specs.declared.copy.Awaited.{Awaited}
+use Rattle.node_table.specs.declared.copy.Awaited.TheVariants.{Chunks, Device}
 use Rattle.node_table.specs.Row.{Row, Beside, copies_of, shape_of, place_of, ArePlaced}
 
 -- a copy that waits for a place of n bytes
@@ -74,11 +81,55 @@ unused order = sym (by order)
     by (x ∷ ids) = ap (λ ys. x ∷ ys) (by ids)
 
 -- where it lies then
-pub pulled_lies : (offset : ℕ) (k : Kept) (n : ℕ) → k.copy.length ≡ n → extent_of (pulled offset k).copy ≡ Some (record { offset = offset; length = rounded n })
-pulled_lies offset k n long = ap (λ m. Some (at_offset m)) long
+pub placed_lies : (awaited : Awaited) (offset : ℕ) (k : Kept) (n : ℕ) → k.copy.length ≡ n → extent_of (placed_for awaited offset k).copy ≡ Some (record { offset = offset; length = rounded n })
+placed_lies awaited offset k n long = by awaited ∙ ap (λ m. Some (at_offset m)) long
   where
     at_offset : ℕ → Extent
     at_offset m = record { offset = offset; length = rounded m }
+
+    by : (awaited : Awaited) → extent_of (placed_for awaited offset k).copy ≡ Some (at_offset k.copy.length)
+    by (Chunks missing) = refl
+    by Device = refl
+
+-- an object of the row's job
+pub own_job : (j : JobNo) (job : ℕ) → (j.0 == job) ≡ true → j ≡ record { 0 = job }
+own_job j job mine = λ i. record { 0 = eqb-true j.0 job mine i }
+
+-- an object of a size has bytes, and no more than the longest
+pub some_bytes : (window n : ℕ) → is_size window n ≡ true → 0 < n
+some_bytes window n fine =
+    let some : nat_lt 0 n ≡ true = both_left (nat_lt 0 n) _ (both_left (nat_lt 0 n && nat_le n longest_object) _ fine) in
+    grind (arith, nat_tests, some)
+
+pub few_bytes : (window n : ℕ) → is_size window n ≡ true → n ≤ longest_object
+few_bytes window n fine =
+    let few : nat_le n longest_object ≡ true = both_right (nat_lt 0 n) _ (both_left (nat_lt 0 n && nat_le n longest_object) _ fine) in
+    grind (arith, nat_tests, few)
+
+-- a copy in another state isn't sealed
+pub unsealed_visible : (copies : ById Kept) (id : ObjectId) (state : CopyState) → is_sealed state ≡ false → visible_state (at copies id) ≡ Ok (Some state) → is_sealed_at copies id ≡ false
+unsealed_visible copies id state other visible =
+    let v = some_at copies id state visible in
+    ap (λ o. option_map_or (λ (k : Kept). is_sealed k.copy.state) o false) v.found ∙ ap is_sealed v.is ∙ other
+
+-- what fits is no victim
+pub stays_of : (row : Row) (id : ObjectId) (n : ℕ) (victims : List ObjectId) → fits_without row id n victims ≡ true → is_among victims id ≡ false
+stays_of row id n victims fits = by (is_among victims id) refl (both_left (not (is_among victims id)) _ fits)
+  where
+    by : (b : Bool) → is_among victims id ≡ b → not (is_among victims id) ≡ true → is_among victims id ≡ false
+    by false t e = t
+    by true t e = true_false (sym (ap not t) ∙ e)
+
+-- there are no more victims than copies
+pub few_of : (row : Row) (id : ObjectId) (n : ℕ) (victims : List ObjectId) → fits_without row id n victims ≡ true → length victims ≤ length row.copies
+few_of row id n victims fits =
+    let few : nat_le (length victims) (length row.copies) ≡ true = both_left (nat_le (length victims) (length row.copies)) _ (both_right (not (is_among victims id)) _ fits) in
+    grind (arith, nat_tests, few)
+
+-- and has a place
+pub place_there : (row : Row) (id : ObjectId) (n : ℕ) (victims : List ObjectId) → fits_without row id n victims ≡ true → is_some (first (extents_of (placed_without row victims)) row.window.quota n) ≡ true
+place_there row id n victims fits =
+    both_right (is_size row.window.quota n) _ (both_right (nat_le (length victims) (length row.copies)) _ (both_right (not (is_among victims id)) _ fits))
 
 -- ---- a fetch whose source is known
 
@@ -153,17 +204,13 @@ module _ (node : ℕ) (row : Row) (beside : Beside) (contents : Contents) (h : I
       by : Phase → Fetch
       by p = elim p [ sized source ↦ record fetch { phase = pulling source missing } | _ ↦ fetch ]
 
-  -- a fetch is no victim
-  pub no_victim_here : (victims : List ObjectId) → MakesPlace (make_room row.order s n) s n victims → is_among victims id ≡ false
-  no_victim_here victims makes =
-      no_victim node row beside contents h x quiet n f by_room victims makes id
-      (ap (λ c. option_map_or (is_evictable s id) c false) (at-copies_found row.copies id k found) ∙ ap (λ st. is_sealed st && is_idle s id k.copy && (not (is_primary k.copy.kind) || is_some k.copy.backed)) is)
-
-  module _ (victims : List ObjectId) (makes : MakesPlace (make_room row.order s n) s n victims) (placed : ArePlaced row.window.placed (place_of row.copies)) (nowhere : place_of row.copies id ≡ None)
-      (offset : ℕ) (least : first (extents_of (placed_without row victims)) row.window.quota n ≡ Some offset) (free : lookup (nat_eq offset) (placed_without row victims) ≡ None)
-      (plain : IsPlain (pulled offset k).copy) where
+  module _ (victims : List ObjectId) (makes : MakesPlace (make_room row.order s n) s n victims) (placed : ArePlaced row.window.placed (place_of row.copies)) (nowhere : place_of row.copies id ≡ None) (stays : is_among victims id ≡ false)
+      (offset : ℕ) (least : first (extents_of (placed_without row victims)) row.window.quota n ≡ Some offset) (free : lookup (nat_eq offset) (placed_without row victims) ≡ None) where
     abbrev now : Kept
     now = pulled offset k
+
+    lies : extent_of now.copy ≡ Some (record { offset = offset; length = rounded n })
+    lies = refl
 
     abbrev store : Shape
     store = record s { copies = copies_of (all_evicted victims row.copies) }
@@ -200,28 +247,24 @@ module _ (node : ℕ) (row : Row) (beside : Beside) (contents : Contents) (h : I
     after = view_after node (seen row beside contents) x (judge node (seen row beside contents) x) change
 
     shown : IsShown new beside after.contents
-    shown = shown_now node row beside contents h x change (change_is node row beside contents h x quiet n f by_room victims makes placed id now nowhere (no_victim_here victims makes) offset (pulled_lies offset k n refl) refl least free
-        beside.works beside.used None shape_is refl (λ u none. none_some u none) (λ _. h.listed id k found) of_digest (h.working id k found) (λ q differs. refl) (h.granted id k found) plain) told new beside
-        (m node row beside contents h x quiet n f by_room victims makes placed id now nowhere (no_victim_here victims makes) offset (pulled_lies offset k n refl) refl least free
-        beside.works beside.used None shape_is refl (λ u none. none_some u none) (λ _. h.listed id k found) of_digest (h.working id k found) (λ q differs. refl) (h.granted id k found) plain (message ∷ []))
+    shown = shown_now node row beside contents h x change (change_is node row beside contents h x quiet n f by_room victims makes placed id now nowhere stays offset lies refl least free
+        beside.works beside.used None shape_is refl (λ u none. none_some u none) (λ _. h.listed id k found) of_digest (h.working id k found) (λ q differs. refl) (h.granted id k found)) told new beside
+        (m node row beside contents h x quiet n f by_room victims makes placed id now nowhere stays offset lies refl least free
+        beside.works beside.used None shape_is refl (λ u none. none_some u none) (λ _. h.listed id k found) of_digest (h.working id k found) (λ q differs. refl) (h.granted id k found) (message ∷ []))
 
     -- what is sent asks for all chunks
     pull_is : pull_posts after id ≡ message ∷ []
     pull_is =
         ap (λ p. option_map_or (λ (copy : Copy). option_map_or (λ fetch. pull_of after id copy fetch fetch.phase) copy.fetch []) p []) (ap (λ (t : Shape). at t.copies id) shape_is ∙ at-put_here (copies_of (all_evicted victims row.copies)) id now.copy)
         ∙ ap (λ p. option_map_or (λ fetch. pull_of after id now.copy fetch fetch.phase) p []) fetch_now
-        ∙ ap (λ d. to_peer source (Pull id fetch.number n d missing) ∷ []) (shown.digests id now (here node row beside contents h x quiet n f by_room victims makes placed id now nowhere (no_victim_here victims makes) offset (pulled_lies offset k n refl) refl least free
-        beside.works beside.used None shape_is refl (λ u none. none_some u none) (λ _. h.listed id k found) of_digest (h.working id k found) (λ q differs. refl) (h.granted id k found) plain) keeps_now)
+        ∙ ap (λ d. to_peer source (Pull id fetch.number n d missing) ∷ []) (shown.digests id now (here node row beside contents h x quiet n f by_room victims makes placed id now nowhere stays offset lies refl least free
+        beside.works beside.used None shape_is refl (λ u none. none_some u none) (λ _. h.listed id k found) of_digest (h.working id k found) (λ q differs. refl) (h.granted id k found)) keeps_now)
 
     pub pull_done : TakesStep node row beside contents x told new beside
     pull_done =
-        placed_done node row beside contents h x quiet n f by_room victims makes placed id now nowhere (no_victim_here victims makes) offset (pulled_lies offset k n refl) refl least free
-        beside.works beside.used None shape_is refl (λ u none. none_some u none) (λ _. h.listed id k found) of_digest (h.working id k found) (λ q differs. refl) (h.granted id k found) plain (message ∷ [])
+        placed_done node row beside contents h x quiet n f by_room victims makes placed id now nowhere stays offset lies refl least free
+        beside.works beside.used None shape_is refl (λ u none. none_some u none) (λ _. h.listed id k found) of_digest (h.working id k found) (λ q differs. refl) (h.granted id k found) (message ∷ [])
         (sym (ap (λ ps. ps ++ []) pull_is))
-
--- what was plain is so still
-pub still_plain : (offset : ℕ) (k : Kept) → k.copy.state ≡ Fetching → IsPlain k.copy → IsPlain (pulled offset k).copy
-still_plain offset k is plain = record { state = ap (λ st. is_plain st k.copy.fault) is; backed = plain.backed }
 
 -- one message more
 pub length_more : {X : Type 0} (xs : List X) (y : X) → length (xs ++ y ∷ []) ≡ length xs + 1

@@ -19,17 +19,13 @@ use Rattle.node_table.specs.Kept.{Kept, released}
 use Rattle.node_table.specs.Row.{Row, Beside, shape_of, place_of, ArePlaced}
 use Rattle.node_table.specs.Dropping.{settled_row, keys_settled}
 use Rattle.node_table.specs.Checks.{release_check}
-use Rattle.node_table.specs.Shown.{IsPlain, IsShown, only, TakesStep}
+use Rattle.node_table.specs.Shown.{IsShown, only, TakesStep}
 use Rattle.node_table.proofs.ByChecks.{unless_refused, first-check, in_table, called, own}
 use Rattle.node_table.proofs.CopyTables.{at-copies, at-copies_found}
 use Rattle.node_table.proofs.Passed.{there}
 use Rattle.node_table.proofs.Settling.{settles}
 use Rattle.node_table.proofs.Stepping.{stays}
 use Rattle.node_table.specs.Scope.{with_copy}
-
--- other holds leave a copy plain
-pub plain-holds : (copy : Copy) (session n : ℕ) → IsPlain copy → IsPlain (with_holds copy session n)
-plain-holds copy session n p = record { state = p.state; backed = p.backed }
 
 module _ (node : ℕ) (row : Row) (beside : Beside) (contents : Contents) (session : ℕ) (id : ObjectId) (mine : (id.job.0 == row.job) ≡ true) (h : IsShown row beside contents) where
   abbrev s : Shape
@@ -72,7 +68,6 @@ module _ (node : ℕ) (row : Row) (beside : Beside) (contents : Contents) (sessi
         working = refl;
         granted = refl;
         backed = refl;
-        plain = plain-holds k.copy session (holds_of k.copy session - 1) (h.plain id k found);
       }) [] []
       (called row beside session (command.Release id)
       ∙ ap (erasing s) (own row beside id _ mine ∙ release-by ∙ ap (λ o. unless_refused s o release_done) passed

@@ -1,5 +1,5 @@
 -- The entries of a map in no order, and the table of them by rising id.
-use Rattle.std.proofs.Common.{◌≡◌, ℕ, Bool, true, false, not, cond, List, [], ◌∷◌, map, Option, Some, None, refl, sym, ap, ◌∙◌, T, is_some, length, arith}
+use Rattle.std.proofs.Common.{◌≡◌, ℕ, Bool, true, false, not, cond, List, [], ◌∷◌, map, Option, Some, None, refl, sym, ap, subst, ◌∙◌, T, is_some, length, arith}
 use Rattle.std.specs.Prelude.{sum_by}
 use Rattle.std.specs.List.{IsDistinct}
 use Rattle.std.specs.List.Sorted.{IsPermutation}
@@ -13,6 +13,7 @@ use Rattle.std.proofs.lemmas.Map.{lookup-none, lookup-set_value}
 use Rattle.std.proofs.lemmas.Map.Entries.{none_past_head}
 use Rattle.std.proofs.lemmas.Map.Keys.{IsDistinct-tail}
 use Rattle.std.proofs.lemmas.List.Sorted.{IsPermutation-refl, IsPermutation-cons, IsPermutation-trans, IsPermutation-swap, sum_by-IsPermutation, length_permutation}
+use Rattle.std.specs.Map.Calls.{RetainsPairs}
 use Rattle.obj_id.specs.declared.ids.ObjectId.{ObjectId}
 use Rattle.obj_id.specs.Ids.{id_cmp, id_eq, same_id}
 use Rattle.obj_id.proofs.SameIds.{id_cmp-IsTotalOrder, id_cmp-IsAntisymmetric, same_id-id_eq, same_id-flip, id_eq_equiv, id_eq-equal, id_eq-itself}
@@ -60,22 +61,39 @@ pub set-rising : {X : Type 0} (id : ObjectId) (es : List (ObjectId × X)) (x y :
 set-rising id es x y found =
     with-rising id es _ y (λ q. lookup-set_value id_eq_equiv (id_eq id) (λ a b same. ap (λ i. id_eq i b) (id_eq-equal id a same)) q y es (ap is_some found))
 
--- each value is changed
-module _ {X : Type 0} (f : X → X) where
-  with_entry-changed : (table : ById X) (id : ObjectId) (x : X) → with_entry (all_changed f table) id (f x) ≡ all_changed f (with_entry table id x)
-  with_entry-changed [] id x = refl
-  with_entry-changed (e ∷ es) id x = by (id_cmp id e.0) (with_entry-changed es id x)
-    where
-      by : (o : Ordering) → with_entry (all_changed f es) id (f x) ≡ all_changed f (with_entry es id x)
-          → by_order o ((id, f x) ∷ (e.0, f e.1) ∷ all_changed f es) ((e.0, f x) ∷ all_changed f es) ((e.0, f e.1) ∷ with_entry (all_changed f es) id (f x))
-          ≡ all_changed f (by_order o ((id, x) ∷ e ∷ es) ((e.0, x) ∷ es) (e ∷ with_entry es id x))
-      by Less later = refl
-      by Equal later = refl
-      by Greater later = ap (λ t. (e.0, f e.1) ∷ t) later
+-- each value is changed, by its id
+module _ {X : Type 0} (f : ObjectId → X → X) where
+  abbrev each : List (ObjectId × X) → List (ObjectId × X)
+  each es = map (λ e. (e.0, f e.0 e.1)) es
 
-  pub changed-rising : (es : List (ObjectId × X)) → by_rising_id (map (λ e. (e.0, f e.1)) es) ≡ all_changed f (by_rising_id es)
-  changed-rising [] = refl
-  changed-rising (e ∷ es) = ap (λ t. with_entry t e.0 (f e.1)) (changed-rising es) ∙ with_entry-changed (by_rising_id es) e.0 e.1
+  with_entry-each : (table : ById X) (id : ObjectId) (x : X) → with_entry (each table) id (f id x) ≡ each (with_entry table id x)
+  with_entry-each [] id x = refl
+  with_entry-each (e ∷ es) id x = by (id_cmp id e.0) refl (with_entry-each es id x)
+    where
+      by : (o : Ordering) → id_cmp id e.0 ≡ o → with_entry (each es) id (f id x) ≡ each (with_entry es id x)
+          → by_order o ((id, f id x) ∷ (e.0, f e.0 e.1) ∷ each es) ((e.0, f id x) ∷ each es) ((e.0, f e.0 e.1) ∷ with_entry (each es) id (f id x))
+          ≡ each (by_order o ((id, x) ∷ e ∷ es) ((e.0, x) ∷ es) (e ∷ with_entry es id x))
+      by Less c later = refl
+      by Equal c later = ap (λ i. (e.0, f i x) ∷ each es) (id_cmp-IsAntisymmetric id e.0 c)
+      by Greater c later = ap (λ t. (e.0, f e.0 e.1) ∷ t) later
+
+  pub each-rising : (es : List (ObjectId × X)) → by_rising_id (each es) ≡ each (by_rising_id es)
+  each-rising [] = refl
+  each-rising (e ∷ es) = ap (λ t. with_entry t e.0 (f e.0 e.1)) (each-rising es) ∙ with_entry-each (by_rising_id es) e.0 e.1
+
+  -- a closure that always answers `true` and writes f of each id and value, and stays as it was
+  pub map_pairs_by_id : {F : Type 0} (R : F → ObjectId → X → Bool → X → F → Type 0) (g : F)
+      → ((k : ObjectId) (v : X) (b : Bool) (w : X) (g' : F) → R g k v b w g' → (b ≡ true) × (w ≡ f k v) × (g' ≡ g))
+      → (es left : List (ObjectId × X)) → RetainsPairs R g es left → left ≡ each es
+  map_pairs_by_id R g h [] left r = r
+  map_pairs_by_id R g h (e ∷ es) left r =
+      let a = h e.0 e.1 r.0 r.1 r.2 r.4 in
+      let rest = map_pairs_by_id R g h es r.3 (subst (λ u. RetainsPairs R u es r.3) a.2 r.5) in
+      r.6 ∙ ap (λ b. cond b ((e.0, r.1) ∷ r.3) r.3) a.0 ∙ (λ i. (e.0, a.1 i) ∷ rest i)
+
+-- each value is changed
+pub changed-rising : {X : Type 0} (f : X → X) (es : List (ObjectId × X)) → by_rising_id (map (λ e. (e.0, f e.1)) es) ≡ all_changed f (by_rising_id es)
+changed-rising f es = each-rising (λ id. f) es
 
 -- where no two entries have one id, none is lost
 module _ {X : Type 0} where

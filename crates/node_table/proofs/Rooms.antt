@@ -1,10 +1,11 @@
 -- A row takes a step that makes room: what is so of each input whose change is made once room was made.
-use Rattle.std.proofs.Common.{◌≡◌, ℕ, ◌≤◌, Bool, true, false, not, ◌&&◌, ◌||◌, cond, nat_eq, inl, inr, List, [], ◌∷◌, ◌++◌, filter, map, flat_map, fold, length, take, replicate, Option, Some, None, is_some, is_none, option_map, unwrap_or, Ok, Err, refl, sym, ap, subst, ◌∙◌, T, arith}
+use Rattle.std.proofs.Common.{◌≡◌, ℕ, ◌+◌, ◌<◌, ◌≤◌, nat_le, nat_lt, Bool, true, false, not, ◌&&◌, ◌||◌, cond, nat_eq, inl, inr, List, [], ◌∷◌, ◌++◌, filter, map, flat_map, fold, length, take, replicate, Option, Some, None, is_some, is_none, option_map, unwrap_or, Ok, Err, refl, sym, ap, subst, ◌∙◌, T, arith}
 use Rattle.std.specs.Prelude.{option_to_list, is_ok}
 use Rattle.std.specs.List.{list_all}
 use Rattle.std.specs.Option.{option_map_or, option_and_then}
 use Rattle.std.specs.Map.{lookup}
 use Rattle.std.specs.FinMap.Entries.{is_sorted, same_entries, is_sorted-put, is_sorted-where_key}
+use Rattle.std.proofs.lemmas.Bool.Decides.{nat_tests}
 use Rattle.std.proofs.lemmas.List.{take-replicate}
 use Rattle.std.proofs.lemmas.List.Folds.{list_all-append, list_any-append}
 use Rattle.std.proofs.lemmas.List.Elements.{filter-append}
@@ -21,7 +22,9 @@ use Rattle.obj_id.specs.Kinds.{is_primary}
 use Rattle.obj_id.proofs.SameIds.{id_cmp-IsTotalOrder, id_cmp-IsAntisymmetric, same_id-equal, same_id-itself, same_id-flip}
 use Rattle.private_store.specs.declared.inputs.Input.{Input}
 use Rattle.private_store.specs.Tables.{ById, at, with_entry, without_entry, is_among}
-use Rattle.private_store.specs.Extents.{rounded, first}
+use Rattle.private_store.specs.Extents.{rounded, first, is_size}
+use Rattle.private_store.specs.Limits.{longest_object}
+use Rattle.private_store.proofs.FirstFit.{first-free}
 use Rattle.private_store.specs.Shape.{Copy, Shape, Change, Sending, WorkInFlight, remove_location}
 use Rattle.private_store.specs.Copies.{extent_of, is_sealed, was_sealed, is_evictable, is_idle, device_used}
 use Rattle.private_store.specs.Room.{Room, make_room, offset_without, no_room, evict_room, evicted}
@@ -42,12 +45,12 @@ use Rattle.lru_evictor.specs.declared.facts.DeviceRoom.{DeviceRoom}
 use Rattle.lru_evictor.proofs.Described.{offset-described}
 use Rattle.lru_evictor.proofs.Reorders.{reordered-unused}
 use Rattle.node_table.specs.Entries.{changed}
-use Rattle.node_table.specs.Evicting.{has_secondary, evicted_one, all_evicted, removals, placed_without, replaced}
-use Rattle.node_table.specs.Kept.{Kept, unplaced}
+use Rattle.node_table.specs.Evicting.{has_secondary, evicted_one, all_evicted, removals, placed_without, fits_without, replaced}
+use Rattle.node_table.specs.Kept.{Kept, unplaced, is_sealed_at}
 use Rattle.node_table.specs.MadeRooms.{BringsNothing, TellsRoom}
 use Rattle.node_table.specs.RoomPlans.{MakesPlace}
 use Rattle.node_table.specs.Row.{Row, Beside, copies_of, shape_of, place_of, ArePlaced}
-use Rattle.node_table.specs.Shown.{seen, work_on, IsPlain, IsShown, Given, only, TakesStep}
+use Rattle.node_table.specs.Shown.{seen, work_on, IsShown, Given, only, TakesStep}
 use Rattle.node_table.proofs.ByChecks.{sending-is}
 use Rattle.node_table.proofs.Changes.{changed-found, changed-absent}
 use Rattle.node_table.proofs.CopyTables.{sorted-copies, at-copies, at-copies_found, copies-with}
@@ -151,6 +154,88 @@ pub in_room-is : (room : Room) (f : Shape → ℕ → Change) → in_room room f
 unfolding in_room
 in_room-is room f = refl
 
+-- what fits is within the window
+first_within : (es : List Extent) (window n p : ℕ) → first es window n ≡ Some p → rounded n ≤ window
+first_within es window n p e =
+    let inside : nat_le (p + rounded n) window ≡ true = both_left (nat_le (p + rounded n) window) _ (first-free es window n p e) in
+    grind (arith, nat_tests, inside)
+
+-- where a plan makes a place for n bytes
+module _ (row : Row) (beside : Beside) (contents : Contents) (h : IsShown row beside contents) (n : ℕ) (victims : List ObjectId)
+    (makes : MakesPlace (make_room row.order (shape_of row beside) n) (shape_of row beside) n victims) where
+  abbrev st : Shape
+  st = shape_of row beside
+
+  -- a victim is sealed, and a secondary or backed
+  pub record Goes (k : Kept) : Type 0 where
+    pub sealed : is_sealed k.copy.state ≡ true
+    pub backed : is_primary k.copy.kind ≡ true → is_some k.copy.backed ≡ true
+
+  pub goes : (q : ObjectId) (k : Kept) → is_among victims q ≡ true → at row.copies q ≡ Some k → Goes k
+  goes q k among found =
+      let evictable : is_evictable st q k.copy ≡ true =
+      sym (ap (λ c. option_map_or (is_evictable st q) c false) (at-copies_found row.copies q k found))
+      ∙ each_among (λ q. option_map_or (is_evictable st q) (at st.copies q) false) victims makes.evictable q among in
+      record {
+        sealed = both_left (is_sealed k.copy.state) (is_idle st q k.copy) (both_left (is_sealed k.copy.state && is_idle st q k.copy) _ evictable);
+        backed = λ p. ap (λ b. not b || is_some k.copy.backed) (sym p) ∙ both_right (is_sealed k.copy.state && is_idle st q k.copy) _ evictable;
+      }
+
+  -- what can't be evicted is no victim
+  pub no_victim : (id : ObjectId) → option_map_or (is_evictable st id) (at st.copies id) false ≡ false → is_among victims id ≡ false
+  no_victim id stays = by (is_among victims id) refl
+    where
+      by : (b : Bool) → is_among victims id ≡ b → b ≡ false
+      by false t = refl
+      by true t = sym (each_among (λ q. option_map_or (is_evictable st q) (at st.copies q) false) victims makes.evictable id t) ∙ stays
+
+  -- and there are no more victims than copies
+  pub few_victims : length victims ≤ length row.copies
+  few_victims = subst (λ n. length victims ≤ n) (length-map {B = ObjectId × Copy} (λ e. (e.0, e.1.copy)) row.copies) (length-once victims st.copies makes.once (passing_there st (is_evictable st) victims makes.evictable))
+
+  -- what isn't sealed can't be evicted
+  unsealed_stays : (id : ObjectId) → is_sealed_at row.copies id ≡ false → option_map_or (is_evictable st id) (at st.copies id) false ≡ false
+  unsealed_stays id unsealed = ap (λ o. option_map_or (is_evictable st id) o false) (at-copies row.copies id) ∙ by (at row.copies id) unsealed
+    where
+      by : (o : Option Kept) → option_map_or (λ (k : Kept). is_sealed k.copy.state) o false ≡ false → option_map_or (is_evictable st id) (option_map (λ (k : Kept). k.copy) o) false ≡ false
+      by None t = refl
+      by (Some k) t = ap (λ b. b && is_idle st id k.copy && (not (is_primary k.copy.kind) || is_some k.copy.backed)) t
+
+  can : CanGo victims row.copies
+  can q k among found primary =
+      let g = goes q k among found in
+      ap (λ b. cond b Away k.copy.state) (both (is_sealed k.copy.state) (is_some k.copy.backed) g.sealed (g.backed primary))
+
+  pub evicted_is : fold evicted st victims ≡ record st { copies = copies_of (all_evicted victims row.copies) }
+  evicted_is = store_evicted st victims row.copies can
+
+  module _ (placed : ArePlaced row.window.placed (place_of row.copies)) where
+    abbrev device : DeviceRoom
+    device = record { quota = row.device; used = device_used st; works = length st.works }
+
+    -- the window's place is the store's
+    pub same_place : first (extents_of (placed_without row victims)) row.window.quota n ≡ offset_without st n victims
+    same_place = offset-described st row.window device (facts_at row.copies) (described row beside contents h placed device refl refl refl) n victims
+
+    -- an object of a size that isn't sealed fits there
+    pub fits_there : (id : ObjectId) → is_sealed_at row.copies id ≡ false → 0 < n → n ≤ longest_object → fits_without row id n victims ≡ true
+    fits_there id unsealed some small =
+        both (not (is_among victims id)) _ (ap not (no_victim id (unsealed_stays id unsealed)))
+        (both (nat_le (length victims) (length row.copies)) _ few_enough
+        (both (is_size row.window.quota n) _ (size_is (first (extents_of (placed_without row victims)) row.window.quota n) refl there) there))
+      where
+        there : is_some (first (extents_of (placed_without row victims)) row.window.quota n) ≡ true
+        there = ap is_some same_place ∙ makes.place
+
+        few_enough : nat_le (length victims) (length row.copies) ≡ true
+        few_enough = grind (arith, nat_tests, few_victims)
+
+        size_is : (o : Option ℕ) → first (extents_of (placed_without row victims)) row.window.quota n ≡ o → is_some o ≡ true → is_size row.window.quota n ≡ true
+        size_is None e t = true_false t
+        size_is (Some p) e t =
+            let within = first_within (extents_of (placed_without row victims)) row.window.quota n p e in
+            both (nat_lt 0 n && nat_le n longest_object) _ (both (nat_lt 0 n) _ (grind (arith, nat_tests, some)) (grind (arith, nat_tests, small))) (grind (arith, nat_tests, within))
+
 module _ (node : ℕ) (row : Row) (beside : Beside) (contents : Contents) (h : IsShown row beside contents) (x : Input) (quiet : BringsNothing node (seen row beside contents) x)
     (n : ℕ) (f : Shape → ℕ → Change) (by_room : step row.order (shape_of row beside) (judge node (seen row beside contents) x) ≡ erasing (shape_of row beside) (in_room (make_room row.order (shape_of row beside) n) f)) where
   abbrev s : Shape
@@ -179,7 +264,6 @@ module _ (node : ℕ) (row : Row) (beside : Beside) (contents : Contents) (h : I
         listed = h.listed;
         bytes = λ q k e found lies. ap (λ b. filled (at (brought contents.bytes b) q) k.copy) (quiet.bytes (reply.Refused DeviceFailed)) ∙ same_bytes node row beside contents h x q k e found lies;
         digests = λ q k found keeps. ap (λ d. unwrap_or (at (brought contents.digests d) q) no_digest) (quiet.digests (reply.Refused DeviceFailed)) ∙ h.digests q k found keeps;
-        plain = h.plain;
         working = h.working;
         granted = h.granted;
         received = received_stays node row beside contents h x quiet.received;
@@ -190,52 +274,7 @@ module _ (node : ℕ) (row : Row) (beside : Beside) (contents : Contents) (h : I
   -- ---- where a place is made
 
   module _ (victims : List ObjectId) (makes : MakesPlace (make_room row.order s n) s n victims) where
-    -- a victim is sealed, and a secondary or backed
-    record Goes (k : Kept) : Type 0 where
-      sealed : is_sealed k.copy.state ≡ true
-      backed : is_primary k.copy.kind ≡ true → is_some k.copy.backed ≡ true
-
-    goes : (q : ObjectId) (k : Kept) → is_among victims q ≡ true → at row.copies q ≡ Some k → Goes k
-    goes q k among found =
-        let evictable : is_evictable s q k.copy ≡ true =
-        sym (ap (λ c. option_map_or (is_evictable s q) c false) (at-copies_found row.copies q k found))
-        ∙ each_among (λ q. option_map_or (is_evictable s q) (at s.copies q) false) victims makes.evictable q among in
-        record {
-          sealed = both_left (is_sealed k.copy.state) (is_idle s q k.copy) (both_left (is_sealed k.copy.state && is_idle s q k.copy) _ evictable);
-          backed = λ p. ap (λ b. not b || is_some k.copy.backed) (sym p) ∙ both_right (is_sealed k.copy.state && is_idle s q k.copy) _ evictable;
-        }
-
-    -- what can't be evicted is no victim
-    pub no_victim : (id : ObjectId) → option_map_or (is_evictable s id) (at s.copies id) false ≡ false → is_among victims id ≡ false
-    no_victim id stays = by (is_among victims id) refl
-      where
-        by : (b : Bool) → is_among victims id ≡ b → b ≡ false
-        by false t = refl
-        by true t = sym (each_among (λ q. option_map_or (is_evictable s q) (at s.copies q) false) victims makes.evictable id t) ∙ stays
-
-    -- and there are no more victims than copies
-    pub few_victims : length victims ≤ length row.copies
-    few_victims = subst (λ n. length victims ≤ n) (length-map {B = ObjectId × Copy} (λ e. (e.0, e.1.copy)) row.copies) (length-once victims s.copies makes.once (passing_there s (is_evictable s) victims makes.evictable))
-
-    can : CanGo victims row.copies
-    can q k among found primary =
-        let g = goes q k among found in
-        ap (λ b. cond b Away k.copy.state) (both (is_sealed k.copy.state) (is_some k.copy.backed) g.sealed (g.backed primary))
-
-    pub evicted_is : fold evicted s victims ≡ record s { copies = copies_of (all_evicted victims row.copies) }
-    evicted_is = store_evicted s victims row.copies can
-
     module _ (placed : ArePlaced row.window.placed (place_of row.copies)) where
-      abbrev device : DeviceRoom
-      device = record { quota = row.device; used = device_used s; works = length s.works }
-
-      -- the window's place is the store's
-      same_place : first (extents_of (placed_without row victims)) row.window.quota n ≡ offset_without s n victims
-      same_place = offset-described s row.window device (facts_at row.copies) (described row beside contents h placed device refl refl refl) n victims
-
-      pub has_place : first (extents_of (placed_without row victims)) row.window.quota n ≡ None → ⊥
-      has_place none = true_false (sym (ap is_some (sym same_place ∙ none)) ∙ makes.place)
-
       module _ (id : ObjectId) (k : Kept) (nowhere : place_of row.copies id ≡ None) (kept_here : is_among victims id ≡ false)
           (offset : ℕ) (lies_there : extent_of k.copy ≡ Some (record { offset = offset; length = rounded n })) (long : k.copy.length ≡ n)
           (least : first (extents_of (placed_without row victims)) row.window.quota n ≡ Some offset) (free : lookup (nat_eq offset) (placed_without row victims) ≡ None)
@@ -245,7 +284,7 @@ module _ (node : ℕ) (row : Row) (beside : Beside) (contents : Contents) (h : I
           (used_is : (u : ObjectId) → used ≡ Some u → u ≡ id) (in_order : used ≡ None → is_among row.order id ≡ true)
           (of_digest : keeps_digest k.copy ≡ true → unwrap_or (at contents.digests id) no_digest ≡ unwrap_or k.digest no_digest)
           (of_work : k.working ≡ work_on works id) (same_works : (q : ObjectId) → same_id q id ≡ false → work_on works q ≡ work_on beside.works q)
-          (of_hand : k.granted ≡ has_hand beside.given id) (of_plain : IsPlain k.copy) where
+          (of_hand : k.granted ≡ has_hand beside.given id) where
         abbrev d : Change
         d = f (record s { copies = copies_of (all_evicted victims row.copies) }) offset
 
@@ -264,7 +303,7 @@ module _ (node : ℕ) (row : Row) (beside : Beside) (contents : Contents) (h : I
         pub change_is : step row.order s (judge node bf x) ≡ c
         change_is =
             room_is (evict_room s n victims) makes.room_is
-            ∙ (λ i. erasing s (sending (evictions_told s row.copies victims i) (elim (option_map_or Ok ((sym same_place ∙ least) i) (Err Full)) as (λ _. Change) [ Ok offset ↦ f (evicted_is i) offset | Err refusal ↦ refused (evicted_is i) refusal ])))
+            ∙ (λ i. erasing s (sending (evictions_told s row.copies victims i) (elim (option_map_or Ok ((sym (same_place row beside contents h n victims makes placed) ∙ least) i) (Err Full)) as (λ _. Change) [ Ok offset ↦ f (evicted_is row beside contents h n victims makes i) offset | Err refusal ↦ refused (evicted_is row beside contents h n victims makes i) refusal ])))
             ∙ ap (erasing s) (sending-is sent d)
 
         sorted : T (is_sorted id_cmp row.copies)
@@ -391,7 +430,7 @@ module _ (node : ℕ) (row : Row) (beside : Beside) (contents : Contents) (h : I
           | inl t ↦ ap (λ i. unwrap_or (at contents.digests i) no_digest) (same_id-equal q id t.0) ∙ of_digest (ap (λ (z : Kept). keeps_digest z.copy) t.1 ∙ keeps) ∙ ap (λ (z : Kept). unwrap_or z.digest no_digest) t.1
           | inr w ↦ elim w.is [
             | inl t ↦ h.digests q y (w.found ∙ ap Some t.1) keeps
-            | inr t ↦ h.digests q w.was w.found (sealed_keeps w.was.copy (goes q w.was t.0 w.found).sealed) ∙ ap (λ (z : Kept). unwrap_or z.digest no_digest) t.2
+            | inr t ↦ h.digests q w.was w.found (sealed_keeps w.was.copy (goes row beside contents h n victims makes q w.was t.0 w.found).sealed) ∙ ap (λ (z : Kept). unwrap_or z.digest no_digest) t.2
           ]
         ]
 
@@ -410,15 +449,6 @@ module _ (node : ℕ) (row : Row) (beside : Beside) (contents : Contents) (h : I
           | inr w ↦ elim w.is [
             | inl t ↦ ap (λ (z : Kept). z.granted) (sym t.1) ∙ h.granted q w.was w.found
             | inr t ↦ ap (λ (z : Kept). z.granted) (sym t.2) ∙ h.granted q w.was w.found
-          ]
-        ]
-
-        plain_now : (q : ObjectId) (y : Kept) → at new.copies q ≡ Some y → IsPlain y.copy
-        plain_now q y found = elim (stands_at q y found) [
-          | inl t ↦ subst (λ (z : Kept). IsPlain z.copy) t.1 of_plain
-          | inr w ↦ elim w.is [
-            | inl t ↦ h.plain q y (w.found ∙ ap Some t.1)
-            | inr t ↦ true_false (sym (ap is_some (h.plain q w.was w.found).backed) ∙ (goes q w.was t.0 w.found).backed t.1)
           ]
         ]
 
@@ -460,7 +490,6 @@ module _ (node : ℕ) (row : Row) (beside : Beside) (contents : Contents) (h : I
             working = working_now;
             granted = granted_now;
             received = received_stays node row beside contents h x quiet.received;
-            plain = plain_now;
             reply = refl;
             erased = sym (ap (map (key_of row.job)) (none_erased row.copies c.shape.copies sorted (λ q z found gone. gone_unbacked q z found (ap (λ t. at t q) (sym now_is) ∙ gone))));
           }

@@ -36,7 +36,7 @@ use Rattle.node_table.specs.Dropping.{settled_row, keys_settled}
 use Rattle.node_table.specs.Kept.{Kept, scoped, doomed, unpinned, borrowed, given_up}
 use Rattle.node_table.specs.Row.{Row, Beside, shape_of, place_of, ArePlaced}
 use Rattle.node_table.specs.Scope.{farewell, farewell_at, posted, with_copy}
-use Rattle.node_table.specs.Shown.{seen, IsPlain, IsShown, only, TakesStep}
+use Rattle.node_table.specs.Shown.{seen, IsShown, only, TakesStep}
 use Rattle.node_table.proofs.ByChecks.{unless_refused, first-check, in_sight, called, own, sending-is}
 use Rattle.node_table.proofs.CopyTables.{at-copies_found}
 use Rattle.node_table.proofs.Passed.{past, there}
@@ -63,18 +63,17 @@ unpinned-place z = scoped-keeps (λ y. extent_of y.copy) doomed-place (record z 
 pub given_up-place : (task : TaskNo) (z : Kept) → extent_of (given_up task z).copy ≡ extent_of z.copy
 given_up-place task z = scoped-keeps (λ y. extent_of y.copy) doomed-place (record z { copy = without_borrower z.copy task })
 
-doomed-minor : (k : Kept) → IsPlain k.copy → IsMinor doomed k
-doomed-minor k p = record {
+pub doomed-minor : (k : Kept) → IsMinor doomed k
+doomed-minor k = record {
   lies = λ z. (refl, refl);
   digest = refl;
   keeps = λ keep. keep;
   working = refl;
   granted = refl;
   backed = refl;
-  plain = record { state = p.state; backed = p.backed };
 }
 
-scoped-minor : (g : Kept → Kept) (k : Kept) → IsMinor g k → IsMinor (λ z. scoped (g z)) k
+pub scoped-minor : (g : Kept → Kept) (k : Kept) → IsMinor g k → IsMinor (λ z. scoped (g z)) k
 scoped-minor g k m = record {
   lies = λ z. (scoped-keeps (λ y. y.copy.offset) (λ y. refl) (g z) ∙ (m.lies z).0, scoped-keeps (λ y. y.copy.length) (λ y. refl) (g z) ∙ (m.lies z).1);
   digest = scoped-keeps (λ y. y.digest) (λ y. refl) (g k) ∙ m.digest;
@@ -82,16 +81,11 @@ scoped-minor g k m = record {
   working = scoped-keeps (λ y. y.working) (λ y. refl) (g k) ∙ m.working;
   granted = scoped-keeps (λ y. y.granted) (λ y. refl) (g k) ∙ m.granted;
   backed = scoped-keeps (λ y. y.copy.backed) (λ y. refl) (g k) ∙ m.backed;
-  plain = plain_by (in_scope (g k).copy);
 }
   where
     by : (b : Bool) → keeps_digest (cond b (g k) (doomed (g k))).copy ≡ true → keeps_digest (g k).copy ≡ true
     by true keep = keep
     by false keep = keep
-
-    plain_by : (b : Bool) → IsPlain (cond b (g k) (doomed (g k))).copy
-    plain_by true = m.plain
-    plain_by false = let p = m.plain in record { state = p.state; backed = p.backed }
 
 -- ---- the definitions, of a copy that is there
 
@@ -108,14 +102,14 @@ with-again es id a b sorted =
     by false o = refl
 
 -- what is sent of this copy where it is doomed
-abbrev notice_of : ObjectId → Copy → Option Sending
+abbrev pub notice_of : ObjectId → Copy → Option Sending
 notice_of id copy = cond (was_sealed copy.state && not copy.doomed) (cond (is_primary copy.kind) (Some (free id)) (Some (remove_location id))) None
 
 no_more : {X : Type 0} (o : Option X) → option_to_list o ++ [] ≡ option_to_list o
 no_more None = refl
 no_more (Some x) = refl
 
-doom-is : (s : Shape) (id : ObjectId) (a : Copy) → at s.copies id ≡ Some a
+pub doom-is : (s : Shape) (id : ObjectId) (a : Copy) → at s.copies id ≡ Some a
     → doom s id ≡ record (done (settled (set_copy s id (record a { doomed = true })) id)) { sent = option_to_list (notice_of id a) }
 doom-is s id a found =
     sending-is (option_to_list (doom_notice s id)) (done (changes.doomed s id))
@@ -123,13 +117,13 @@ doom-is s id a found =
     ∙ ap (λ l. record (done (settled (set_copy s id (record a { doomed = true })) id)) { sent = l }) (no_more (notice_of id a))
 
 -- the copy, doomed unless it is in scope
-abbrev scoped_copy : Copy → Copy
+abbrev pub scoped_copy : Copy → Copy
 scoped_copy a = cond (in_scope a) a (record a { doomed = true })
 
-abbrev scoped_notice : ObjectId → Copy → List Sending
+abbrev pub scoped_notice : ObjectId → Copy → List Sending
 scoped_notice id a = cond (in_scope a) [] (option_to_list (notice_of id a))
 
-scoped-is : (s : Shape) (id : ObjectId) (a : Copy) → T (is_sorted id_cmp s.copies) → a.doomed ≡ false
+pub scoped-is : (s : Shape) (id : ObjectId) (a : Copy) → T (is_sorted id_cmp s.copies) → a.doomed ≡ false
     → commands.scoped s id a ≡ record (done (settled (set_copy s id (scoped_copy a)) id)) { sent = scoped_notice id a }
 scoped-is s id a sorted sound = by (in_scope a)
   where
@@ -140,7 +134,7 @@ scoped-is s id a sorted sound = by (in_scope a)
         doom-is (set_copy s id a) id a (at-put_here s.copies id a)
         ∙ ap (λ t. record (done (settled (record s { copies = t }) id)) { sent = option_to_list (notice_of id a) }) (with-again s.copies id a (record a { doomed = true }) sorted)
 
-scoped-copy : (k : Kept) → (scoped k).copy ≡ scoped_copy k.copy
+pub scoped-copy : (k : Kept) → (scoped k).copy ≡ scoped_copy k.copy
 scoped-copy k = by (in_scope k.copy)
   where
     by : (b : Bool) → (cond b k (doomed k)).copy ≡ cond b k.copy (record k.copy { doomed = true })
@@ -162,7 +156,7 @@ module _ (node : ℕ) (id : ObjectId) (o : View) (x : Input) where
       by true false = refl
       by false p = refl
 
-  scoped_told : (k : Kept) (a : Copy) → a.state ≡ k.copy.state → a.kind ≡ k.copy.kind → a.doomed ≡ false → (copies : ById Kept) → at copies id ≡ Some k
+  pub scoped_told : (k : Kept) (a : Copy) → a.state ≡ k.copy.state → a.kind ≡ k.copy.kind → a.doomed ≡ false → (copies : ById Kept) → at copies id ≡ Some k
       → posted (farewell_at node copies id (not (in_scope a))) ≡ flat_map (posts_of node o x) (scoped_notice id a)
   scoped_told k a state kind sound copies found = by (in_scope a)
     where
@@ -232,7 +226,7 @@ module _ (node : ℕ) (row : Row) (beside : Beside) (contents : Contents) (sessi
     unpin_done_so passed keeps is posts told placed =
         let k = there (λ k. cond k.copy.doomed (Some Absent) (unpin_check_of k (same_task task id.task))) Absent (at row.copies id) passed in
         scoped_so (command.Unpin id task) (record { bytes = refl; digest = refl; received = refl }) (λ z. record z { copy = record z.copy { pinned = false } }) k.0 k.1
-        (record { lies = λ z. (refl, refl); digest = refl; keeps = λ keep. keep; working = refl; granted = refl; backed = refl; plain = let p = h.plain id k.0 k.1 in record { state = p.state; backed = p.backed } })
+        (record { lies = λ z. (refl, refl); digest = refl; keeps = λ keep. keep; working = refl; granted = refl; backed = refl })
         (refl, refl) (past k.0.copy.doomed Absent _ k.2).0
         (unpin-is None passed ∙ ap (erasing s) (it (λ copy. commands.scoped s id (record copy { pinned = false })) k.0 k.1))
         keeps (is ∙ ap (λ o. option_map_or (λ (k : Kept). in_scope (record k.copy { pinned = false })) o false) k.1) posts told placed
@@ -272,7 +266,7 @@ module _ (node : ℕ) (row : Row) (beside : Beside) (contents : Contents) (sessi
     give_up_done_so passed keeps is posts told placed =
         let k = there (λ k. cond k.copy.doomed (Some Absent) (give_up_check_of k task)) Absent (at row.copies id) passed in
         scoped_so (command.GiveUp id task) (record { bytes = refl; digest = refl; received = refl }) (λ z. record z { copy = without_borrower z.copy task }) k.0 k.1
-        (record { lies = λ z. (refl, refl); digest = refl; keeps = λ keep. keep; working = refl; granted = refl; backed = refl; plain = let p = h.plain id k.0 k.1 in record { state = p.state; backed = p.backed } })
+        (record { lies = λ z. (refl, refl); digest = refl; keeps = λ keep. keep; working = refl; granted = refl; backed = refl })
         (refl, refl) (past k.0.copy.doomed Absent _ k.2).0
         (give_up-is None passed ∙ ap (erasing s) (it (λ copy. commands.scoped s id (without_borrower copy task)) k.0 k.1))
         keeps (is ∙ ap (λ o. option_map_or (λ (k : Kept). in_scope (without_borrower k.copy task)) o false) k.1) posts told placed
@@ -308,7 +302,7 @@ module _ (node : ℕ) (row : Row) (beside : Beside) (contents : Contents) (sessi
       → TakesStep node row beside contents (input.Call session (command.Delete id)) (record { reply = reply.Ok; posts = posts; erased = keys_settled row_doomed id }) (settled_row row_doomed id) beside
   delete_done_so passed posts told placed =
       let k = there (λ k. cond k.copy.doomed (Some Absent) (cond k.granted (Some Granted) None)) Absent (at row.copies id) passed in
-      settles node row beside contents h (input.Call session (command.Delete id)) (record { bytes = refl; digest = refl; received = refl }) id k.0 k.1 doomed (doomed-minor k.0 (h.plain id k.0 k.1)) (option_to_list (notice_of id k.0.copy)) posts
+      settles node row beside contents h (input.Call session (command.Delete id)) (record { bytes = refl; digest = refl; received = refl }) id k.0 k.1 doomed (doomed-minor k.0) (option_to_list (notice_of id k.0.copy)) posts
       (delete-is None passed ∙ ap (erasing s) (it (λ copy. doom s id) k.0 k.1 ∙ doom-is s id k.0.copy (at-copies_found row.copies id k.0 k.1)))
       (λ o. told ∙ ap (λ o. posted (option_and_then (farewell node id) o)) k.1
       ∙ told-is node id o (input.Call session (command.Delete id)) k.0 k.0.copy refl refl (past k.0.copy.doomed Absent _ k.2).0) placed
@@ -352,7 +346,7 @@ module _ (node : ℕ) (row : Row) (beside : Beside) (contents : Contents) (sessi
         let k = there (λ k. cond k.copy.doomed (Some Absent) (borrow_check_of k task)) Absent (at row.copies id) alive.1 in
         let sound = (past k.0.copy.doomed Absent _ k.2).0 in
         stays_so node row beside contents h (input.Call session (command.Borrow id task)) (record { bytes = refl; digest = refl; received = refl }) id k.0 k.1 (borrowed task)
-        (record { lies = λ z. (refl, refl); digest = refl; keeps = λ keep. keep; working = refl; granted = refl; backed = refl; plain = let p = h.plain id k.0 k.1 in record { state = p.state; backed = p.backed } })
+        (record { lies = λ z. (refl, refl); digest = refl; keeps = λ keep. keep; working = refl; granted = refl; backed = refl })
         [] []
         (borrow-is None passed ∙ ap (erasing s) (it (λ copy. done (set_copy s id (borrowed_copy copy))) k.0 k.1
         ∙ ap done (sym (settled-stays (set_copy s id (borrowed_copy k.0.copy)) id (borrowed_copy k.0.copy) (at-put_here s.copies id (borrowed_copy k.0.copy)) sound))))

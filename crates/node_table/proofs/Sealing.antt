@@ -31,12 +31,12 @@ use Rattle.node_table.specs.Entries.{changed}
 use Rattle.node_table.specs.Kept.{Kept, sealed}
 use Rattle.node_table.specs.Row.{Row, Beside, copies_of, shape_of}
 use Rattle.node_table.specs.Checks.{seal_check}
-use Rattle.node_table.specs.Shown.{seen, IsPlain, IsShown, Given, only, TakesStep}
+use Rattle.node_table.specs.Shown.{seen, IsShown, Given, only, TakesStep}
 use Rattle.node_table.proofs.ByChecks.{unless_refused, called, own, seal_done, seal-by, sending-is}
 use Rattle.node_table.proofs.Changes.{changed-found}
 use Rattle.node_table.proofs.CopyTables.{at-copies_found, copies-changed}
 use Rattle.node_table.proofs.Passed.{IsUnwritten, seal_passed, placed_at, created_resides}
-use Rattle.node_table.proofs.Changing.{there_still, from_changed, bytes_stay, works_stay, plain_stay, listed_stay, keys_with, granted_stay}
+use Rattle.node_table.proofs.Changing.{there_still, from_changed, bytes_stay, works_stay, listed_stay, keys_with, granted_stay}
 use Rattle.node_table.proofs.Stepping.{Moves, moved, shown_now, stays, digests_now, received_stays}
 
 module _ (node : ℕ) (row : Row) (beside : Beside) (contents : Contents) (session : ℕ) (id : ObjectId) (mine : (id.job.0 == row.job) ≡ true) (h : IsShown row beside contents) where
@@ -96,9 +96,6 @@ module _ (node : ℕ) (row : Row) (beside : Beside) (contents : Contents) (sessi
       copies_is : with_entry (copies_of row.copies) id now ≡ copies_of row_sealed.copies
       copies_is = sym (copies-changed (sealed digest) row.copies id k found)
 
-      plain_now : IsPlain now
-      plain_now = record { state = refl; backed = (h.plain id k found).backed }
-
       m : Moves node row beside contents h x c told row_sealed beside
       m = record {
         shape = ap (λ t. record s { copies = t }) copies_is;
@@ -108,7 +105,6 @@ module _ (node : ℕ) (row : Row) (beside : Beside) (contents : Contents) (sessi
         bytes = bytes_stay node row beside contents h x id k found (sealed digest) keeps c refl;
         digests = digest_now;
         working = works_stay node row beside contents h x id k found (sealed digest) keeps refl;
-        plain = plain_stay node row beside contents h x id k found (sealed digest) keeps plain_now;
         granted = granted_stay node row beside contents h x id k found (sealed digest) keeps refl;
         received = received_stays node row beside contents h x refl;
         reply = refl;

@@ -19,9 +19,9 @@ use Rattle.node_table.specs.Kept.{Kept}
 use Rattle.node_table.specs.Row.{Row, Beside, copies_of, shape_of, place_of, ArePlaced}
 use Rattle.node_table.specs.Dropping.{dropped, is_over, settled_row, keys_settled}
 use Rattle.node_table.specs.Scope.{with_copy}
-use Rattle.node_table.specs.Shown.{seen, IsPlain, IsShown, Given, TakesStep}
+use Rattle.node_table.specs.Shown.{seen, IsShown, Given, TakesStep}
 use Rattle.node_table.proofs.Changes.{changed-found}
-use Rattle.node_table.proofs.Changing.{there_still, bytes_stay, digests_stay, works_stay, plain_stay, listed_stay, keys_with, granted_stay}
+use Rattle.node_table.proofs.Changing.{there_still, bytes_stay, digests_stay, works_stay, listed_stay, keys_with, granted_stay}
 use Rattle.node_table.proofs.CopyTables.{at-copies_found, copies-changed}
 use Rattle.node_table.proofs.Described.{working-on, idle_same}
 use Rattle.node_table.proofs.Dropping.{change_left, moves_left, key_removed}
@@ -41,7 +41,6 @@ pub record IsMinor (f : Kept → Kept) (k : Kept) : Type 0 where
   pub working : (f k).working ≡ k.working
   pub granted : (f k).granted ≡ k.granted
   pub backed : (f k).copy.backed ≡ k.copy.backed
-  pub plain : IsPlain (f k).copy
 
 -- the input brings nothing where it is answered Ok
 pub record BringsNothing (node : ℕ) (view : View) (x : Input) : Type 0 where
@@ -49,7 +48,8 @@ pub record BringsNothing (node : ℕ) (view : View) (x : Input) : Type 0 where
   pub digest : digest_brought node view x reply.Ok ≡ None
   pub received : bytes_received x ≡ None
 
-one_key : (job : ℕ) (o : Option ℕ) → option_to_list (option_map (key_of job) o) ≡ map (key_of job) (option_to_list o)
+-- one key, or none
+pub one_key : (job : ℕ) (o : Option ℕ) → option_to_list (option_map (key_of job) o) ≡ map (key_of job) (option_to_list o)
 one_key job None = refl
 one_key job (Some n) = refl
 
@@ -79,7 +79,6 @@ module _ (node : ℕ) (row : Row) (beside : Beside) (contents : Contents) (h : I
     bytes = bytes_stay node row beside contents h x id k found f minor.lies c quiet.bytes;
     digests = digests_stay node row beside contents h x id k found f minor.lies c quiet.digest minor.digest minor.keeps;
     working = works_stay node row beside contents h x id k found f minor.lies minor.working;
-    plain = plain_stay node row beside contents h x id k found f minor.lies minor.plain;
     granted = granted_stay node row beside contents h x id k found f minor.lies minor.granted;
     received = received_stays node row beside contents h x quiet.received;
     reply = refl;
@@ -134,12 +133,12 @@ module _ (node : ℕ) (row : Row) (beside : Beside) (contents : Contents) (h : I
     settled_so placed false is = stays_so is
     settled_so placed true is =
         let keys = keys_gone s.copies (drop_copy (set_copy s id now) id).copies in
-        moved node row beside contents h x (change_left node row beside contents h x c told row_now m refl placed id keys)
+        moved node row beside contents h x (change_left node row beside contents h x c told row_now beside m refl placed id keys)
         (step_is ∙ settled_is ∙ ap done_if is) (gives true) (dropped row_now id) beside
-        (moves_left node row beside contents h x c told row_now m refl placed id keys (gives true) refl
+        (moves_left node row beside contents h x c told row_now beside m refl placed id keys (gives true) refl
         (one_key row.job now.backed ∙ ap (λ o. map (key_of row.job) (option_to_list o)) minor.backed
         ∙ ap (map (key_of row.job)) (sym (key_removed (copies_of row.copies) id k.copy now (T_true _ h.kept.kept.shape.by_id) (at-copies_found row.copies id k found)))))
-        (posted (after (change_left node row beside contents h x c told row_now m refl placed id keys)))
+        (posted (after (change_left node row beside contents h x c told row_now beside m refl placed id keys)))
 
     pub settles : ArePlaced row_now.window.placed (place_of row_now.copies) → TakesStep node row beside contents x (record { reply = reply.Ok; posts = posts; erased = keys_settled row_now id }) (settled_row row_now id) beside
     settles placed =

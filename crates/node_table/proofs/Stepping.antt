@@ -24,7 +24,7 @@ use Rattle.lru_evictor.specs.Orders.{AreThere}
 use Rattle.lru_evictor.proofs.Reorders.{reordered-unused}
 use Rattle.node_table.specs.Kept.{Kept}
 use Rattle.node_table.specs.Row.{Row, Beside, copies_of, received_bytes, shape_of}
-use Rattle.node_table.specs.Shown.{seen, work_on, IsPlain, IsShown, Given, only, TakesStep}
+use Rattle.node_table.specs.Shown.{seen, work_on, IsShown, Given, only, TakesStep}
 use Rattle.node_table.proofs.CopyTables.{at-copies_found}
 use Rattle.node_table.proofs.Received.{kept_as_they_are}
 
@@ -53,7 +53,6 @@ module _ (node : ℕ) (row : Row) (beside : Beside) (contents : Contents) (h : I
     pub working : (id : ObjectId) (k : Kept) → at new.copies id ≡ Some k → k.working ≡ work_on after.works id
     pub granted : (id : ObjectId) (k : Kept) → at new.copies id ≡ Some k → k.granted ≡ has_hand after.given id
     pub received : kept (λ seen. true) (λ seen. []) (brought contents.received (bytes_received x)) after.received ≡ received_bytes after
-    pub plain : (id : ObjectId) (k : Kept) → at new.copies id ≡ Some k → IsPlain k.copy
     pub reply : told.reply ≡ whole_reply before x c.reply
     pub erased : told.erased ≡ map (key_of row.job) c.erased
 
@@ -101,7 +100,6 @@ module _ (node : ℕ) (row : Row) (beside : Beside) (contents : Contents) (h : I
           ∙ ap (λ p. kept_row keeps_digest (λ copy. no_digest) (digests_now c) id p) (copy_at id k found)
           ∙ ap (λ b. cond b (Some (unwrap_or (at (digests_now c) id) no_digest)) None) keeps)
           ∙ m.digests id k found keeps;
-      plain = m.plain;
       working = m.working;
       granted = m.granted;
       received = ap (λ s. kept (λ seen. true) (λ seen. []) (brought contents.received (bytes_received x)) s.received) m.shape ∙ m.received;
@@ -149,7 +147,6 @@ module _ (node : ℕ) (row : Row) (beside : Beside) (contents : Contents) (h : I
       listed = h.listed;
       bytes = λ id k e found lies. ap (λ b. filled (at (brought contents.bytes b) id) k.copy) bytes ∙ same_bytes id k e found lies;
       digests = λ id k found keeps. ap (λ d. unwrap_or (at (brought contents.digests d) id) no_digest) digests ∙ h.digests id k found keeps;
-      plain = h.plain;
       working = h.working;
       granted = h.granted;
       received = received_stays none;

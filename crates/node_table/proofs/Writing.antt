@@ -1,5 +1,5 @@
 -- A row takes Write and Read.
-use Rattle.std.proofs.Common.{◌≡◌, ℕ, ◌+◌, ◌≤◌, true, false, cond, ◌==◌, List, map, take, drop, length, Some, None, is_some, nat_eq, refl, sym, ap, subst, ◌∙◌, arith}
+use Rattle.std.proofs.Common.{◌≡◌, ℕ, ◌+◌, ◌≤◌, true, false, cond, ◌==◌, List, map, take, drop, length, Some, None, is_some, nat_eq, refl, sym, ap, subst, ◌∙◌}
 use Rattle.std.specs.Map.{set_value}
 use Rattle.obj_id.specs.declared.ids.ObjectId.{ObjectId}
 use Rattle.obj_id.specs.declared.works.Extent.{Extent}
@@ -7,7 +7,7 @@ use Rattle.obj_id.specs.declared.refusals.Refusal.{Refusal}
 use Rattle.obj_id.specs.declared.commands.Command.TheVariants as command
 use Rattle.obj_id.specs.declared.commands.Reply.TheVariants as reply
 use Rattle.obj_id.specs.Ids.{same_id}
-use Rattle.obj_id.proofs.SameIds.{same_id-equal, same_id-itself}
+use Rattle.obj_id.proofs.SameIds.{same_id-equal}
 use Rattle.private_store.specs.declared.inputs.Input.{Input}
 use Rattle.private_store.specs.declared.inputs.Input.TheVariants as input
 use Rattle.private_store.specs.Tables.{at}
@@ -15,13 +15,12 @@ use Rattle.private_store.specs.Shape.{Shape}
 use Rattle.private_store.specs.Copies.{extent_of}
 use Rattle.private_store.specs.Change.{replied, done, erasing}
 use Rattle.private_store.specs.Contents.{Contents, bytes_at, overwritten}
-use Rattle.private_store.proofs.Tests.{some_value, true_false}
+use Rattle.private_store.proofs.Tests.{some_value}
 use Rattle.private_store.proofs.Filling.{filled}
 use Rattle.private_store.proofs.RefusingLemmas.{keys_none, all_found}
 use Rattle.private_store.proofs.Rows.{at-put}
 use Rattle.private_store.specs.Private.{key_of}
 use Rattle.job_region.specs.Region.{bytes_at as placed_bytes}
-use Rattle.job_region.proofs.Parts.{part_over_within}
 use Rattle.lru_evictor.proofs.Reorders.{reordered-unused}
 use Rattle.node_table.specs.Kept.{Kept}
 use Rattle.node_table.specs.Row.{Row, Beside, copies_of, shape_of, place_of, ArePlaced}
@@ -29,9 +28,9 @@ use Rattle.node_table.specs.Checks.{write_check, read_check}
 use Rattle.node_table.specs.Shown.{IsShown, only, TakesStep}
 use Rattle.node_table.proofs.ByChecks.{unless_refused, called, own, write-by, read-by}
 use Rattle.node_table.proofs.CopyTables.{at-copies_found}
-use Rattle.node_table.proofs.Passed.{IsWritten, write_passed, IsRead, read_passed, placed_at, place_found, created_resides, at_most_rounded}
-use Rattle.node_table.proofs.Places.{bytes-written, bytes-other, long_at}
+use Rattle.node_table.proofs.Passed.{IsWritten, write_passed, IsRead, read_passed, placed_at, created_resides}
 use Rattle.node_table.proofs.Lending.{held_shown}
+use Rattle.node_table.proofs.Overwriting.{is_place, fits, written_here, written_elsewhere}
 use Rattle.node_table.proofs.Stepping.{moved, stays, same_bytes, received_stays}
 
 module _ (node : ℕ) (row : Row) (beside : Beside) (contents : Contents) (session : ℕ) (id : ObjectId) (offset : ℕ) (mine : (id.job.0 == row.job) ≡ true) (h : IsShown row beside contents) where
@@ -60,12 +59,6 @@ module _ (node : ℕ) (row : Row) (beside : Beside) (contents : Contents) (sessi
       lies : extent_of w.copy.copy ≡ Some e
       lies = (placed_at w.copy.copy resident).1
 
-      is_place : place_of row.copies id ≡ Some e
-      is_place = place_found row.copies id w.copy w.found ∙ lies
-
-      fits : offset + length bytes ≤ e.length
-      fits = let a = at_most_rounded w.copy.copy.length in let b = (placed_at w.copy.copy resident).2 in omega (arith, a, b, w.within)
-
       abbrev old_bytes : List ℕ
       old_bytes = placed_bytes e row.window.placed
 
@@ -76,36 +69,23 @@ module _ (node : ℕ) (row : Row) (beside : Beside) (contents : Contents) (sessi
       pub put_so : (new : Row)
           → ((e : Extent) → place_of row.copies id ≡ Some e → offset + length bytes ≤ e.length → new ≡ record row { window = record row.window { placed = set_value (nat_eq e.offset) row.window.placed (overwritten (placed_bytes e row.window.placed) offset bytes) } })
           → new ≡ wrote
-      put_so new put = put e is_place fits
+      put_so new put =
+          put e (is_place row beside contents h id w.copy w.found e lies (placed_at w.copy.copy resident).2 offset bytes w.within)
+          (fits row beside contents h id w.copy w.found e lies (placed_at w.copy.copy resident).2 offset bytes w.within)
 
       module _ (placed : ArePlaced row.window.placed (place_of row.copies)) where
-        long : length old_bytes ≡ e.length
-        long = long_at row.window.placed e (placed.there id e is_place)
-
-        -- what is written shows in the copy's own bytes
-        here : take w.copy.copy.length (overwritten old_bytes offset bytes) ≡ overwritten (bytes_at contents.bytes id) offset bytes
-        here =
-            let a = at_most_rounded w.copy.copy.length in
-            let b = (placed_at w.copy.copy resident).2 in
-            let z : offset ≡ 0 + offset = omega arith in
-            ap (λ o. take w.copy.copy.length (overwritten old_bytes o bytes)) z
-            ∙ part_over_within old_bytes (record { offset = 0; length = w.copy.copy.length }) offset bytes (omega (arith, a, b, long)) w.within
-            ∙ ap (λ bs. overwritten bs offset bytes) (sym (h.bytes id w.copy e w.found lies))
-
         here_now : (k : Kept) (f : Extent) → at row.copies id ≡ Some k → extent_of k.copy ≡ Some f → filled (Some (overwritten (bytes_at contents.bytes id) offset bytes)) k.copy ≡ take k.copy.length (placed_bytes f wrote.window.placed)
         here_now k f found place =
             let is : k ≡ w.copy = some_value k w.copy (sym found ∙ w.found) in
             let at_e : f ≡ e = some_value f e (sym place ∙ ap (λ k. extent_of k.copy) is ∙ lies) in
             sym (ap (λ k. take k.copy.length (placed_bytes f wrote.window.placed)) is
             ∙ ap (λ g. take w.copy.copy.length (placed_bytes g wrote.window.placed)) at_e
-            ∙ ap (take w.copy.copy.length) (bytes-written row.window.placed e (placed.there id e is_place) (overwritten old_bytes offset bytes))
-            ∙ here)
+            ∙ written_here row beside contents h id w.copy w.found e lies (placed_at w.copy.copy resident).2 offset bytes w.within placed)
 
         elsewhere : (q : ObjectId) (k : Kept) (f : Extent) → same_id q id ≡ false → at row.copies q ≡ Some k → extent_of k.copy ≡ Some f → filled (at contents.bytes q) k.copy ≡ take k.copy.length (placed_bytes f wrote.window.placed)
         elsewhere q k f differ found place =
             same_bytes node row beside contents h x q k f found place
-            ∙ ap (take k.copy.length) (sym (bytes-other row.window.placed e (placed.there id e is_place) (overwritten old_bytes offset bytes) f (λ same.
-            true_false (sym differ ∙ ap (λ y. same_id y id) (sym (placed.apart id q e f is_place (place_found row.copies q k found ∙ place) same)) ∙ same_id-itself id))))
+            ∙ ap (take k.copy.length) (sym (written_elsewhere row beside contents h id w.copy w.found e lies (placed_at w.copy.copy resident).2 offset bytes w.within placed q k f differ found place))
 
         pub write_done : TakesStep node row beside contents x (only reply.Ok) wrote beside
         write_done =
@@ -123,7 +103,6 @@ module _ (node : ℕ) (row : Row) (beside : Beside) (contents : Contents) (sessi
                     | false ↦ λ t. elsewhere q k f t found place
                   ]) refl;
               digests = h.digests;
-              plain = h.plain;
               working = h.working;
               granted = h.granted;
               received = received_stays node row beside contents h x refl;

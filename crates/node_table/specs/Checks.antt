@@ -11,7 +11,7 @@ use Rattle.obj_id.specs.declared.refusals.Refusal.TheVariants.{BadSize, Gone, Ex
 use Rattle.obj_id.specs.declared.ids.TaskNo.{TaskNo}
 use Rattle.obj_id.specs.Ids.{same_task}
 use Rattle.obj_id.specs.Kinds.{is_primary}
-use Rattle.private_store.specs.Limits.{most_bytes, most_holds, most_copies, most_borrowers, has_numbers}
+use Rattle.private_store.specs.Limits.{most_bytes, most_holds, most_copies, most_borrowers, most_ended_tasks, has_numbers}
 use Rattle.private_store.specs.Tables.{ById, at}
 use Rattle.private_store.specs.Extents.{is_size}
 use Rattle.private_store.specs.Shape.{Copy, Fetch, Phase, locating, sized, pulling, failed}
@@ -146,6 +146,12 @@ give_up_check copies id task =
 abbrev pub delete_check : ById Kept → ObjectId → Option Refusal
 delete_check copies id =
     elim (at copies id) [ None ↦ Some Absent | Some kept ↦ if kept.copy.doomed then Some Absent else (if kept.granted then Some Granted else None) ]
+
+-- why a task can't end
+abbrev pub end_task_check : Row → TaskNo → Option Refusal
+end_task_check row task =
+    if is_remembered row.ended_tasks task then Some Gone else
+    (if nat_le most_ended_tasks (length row.ended_tasks) then Some TooMany else None)
 
 -- why no copy of n bytes can be made under the id, before room is looked for
 abbrev pub create_check : Row → ObjectId → ℕ → Option Refusal

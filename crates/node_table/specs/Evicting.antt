@@ -1,5 +1,5 @@
 -- A row in which copies were evicted, and one took a place.
-use Rattle.std.specs.Prelude.{◌≡◌, ℕ, ◌+◌, ◌^◌, ◌<◌, nat_eq, Bool, false, not, ◌&&◌, if◌then◌else◌, List, ◌++◌, replicate, filter, flat_map, fold, Option, Some, None, is_none, option_to_list}
+use Rattle.std.specs.Prelude.{◌≡◌, ℕ, ◌+◌, ◌^◌, ◌<◌, nat_eq, nat_le, Bool, false, not, ◌&&◌, if◌then◌else◌, List, length, ◌++◌, replicate, filter, flat_map, fold, Option, Some, None, is_none, is_some, option_to_list}
 use Rattle.std.specs.Option.{option_map, option_map_or}
 use Rattle.std.specs.Map.{lookup}
 use Rattle.obj_id.specs.declared.ids.ObjectId.{ObjectId}
@@ -7,7 +7,7 @@ use Rattle.obj_id.specs.declared.works.Extent.{Extent}
 use Rattle.obj_id.specs.declared.messages.DirectoryMessage.TheVariants.{RemoveLocation}
 use Rattle.obj_id.specs.Kinds.{is_primary}
 use Rattle.private_store.specs.Tables.{ById, at, with_entry, without_entry, is_among}
-use Rattle.private_store.specs.Extents.{rounded, first}
+use Rattle.private_store.specs.Extents.{rounded, first, is_size}
 use Rattle.private_store.specs.Private.{Post, to_directory}
 use Rattle.private_store.specs.Step.{is_used}
 use Rattle.job_region.specs.Region.{put_in, without, extents_of}
@@ -53,6 +53,11 @@ extents_gone row victims = gone_of (λ id. option_map facts_of (at row.copies id
 -- what lies in the window without the victims
 abbrev pub placed_without : Row → List ObjectId → List (ℕ × List ℕ)
 placed_without row victims = without (extents_gone row victims) row.window.placed
+
+-- whether the object, of n bytes, has a place once these copies are evicted: it is none of them
+abbrev pub fits_without : Row → ObjectId → ℕ → List ObjectId → Bool
+fits_without row id n victims =
+    not (is_among victims id) && (nat_le (length victims) (length row.copies) && (is_size row.window.quota n && is_some (first (extents_of (placed_without row victims)) row.window.quota n)))
 
 -- the copies then
 abbrev pub copies_replaced : Row → ObjectId → Kept → List ObjectId → ById Kept

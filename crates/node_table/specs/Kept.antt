@@ -2,19 +2,25 @@
 use Rattle.std.specs.Prelude.{◌≡◌, ℕ, ◌+◌, ◌-◌, Bool, true, false, not, ◌&&◌, [], ◌∷◌, ◌++◌, Option, Some, None, if◌then◌else◌, is_none, option_map, ◌==◌, is_some}
 use Rattle.std.specs.Option.{option_map_or}
 use Rattle.obj_id.specs.declared.commands.Kind.{Kind}
-use Rattle.obj_id.specs.declared.commands.CopyState.TheVariants.{Sealed, Away}
+use Rattle.obj_id.specs.declared.commands.CopyState.TheVariants.{Sealed, Restoring, Away}
 use Rattle.obj_id.specs.declared.messages.Digest.{Digest}
 use Rattle.obj_id.specs.declared.works.WorkKind.{WorkKind}
-use Rattle.obj_id.specs.declared.works.WorkKind.TheVariants.{Write}
+use Rattle.obj_id.specs.declared.works.WorkKind.TheVariants.{Write, Read}
+use Rattle.private_store.specs.declared.faults.Fault.{Fault}
 use Rattle.private_store.specs.Shape.{Copy, Fetch, Phase, sized, pulling}
 use Rattle.obj_id.specs.Kinds.{is_primary}
+use Rattle.obj_id.specs.declared.ids.ObjectId.{ObjectId}
 use Rattle.obj_id.specs.declared.ids.TaskNo.{TaskNo}
-use Rattle.private_store.specs.Copies.{is_sealed, in_scope}
+use Rattle.private_store.specs.Tables.{ById, at}
+use Rattle.private_store.specs.Copies.{is_sealed, is_away, in_scope}
 use Rattle.private_store.specs.Commands.{new_copy, fetched_copy, with_holds, holds_of, without_borrower, counted, chunk_count}
 use Rattle.private_store.specs.Contents.{is_sized}
+use Rattle.private_store.specs.Kept.{is_fetching}
 use Rattle.object_state.specs.Marks.{Marks}
 use Rattle.pins_holds.specs.Pinned.{Pinned}
 use Rattle.fetch_core.specs.Fetching.{Fetching}
+use Rattle.node_table.specs.declared.copy.Awaited.{Awaited}
+use Rattle.node_table.specs.declared.copy.Awaited.TheVariants.{Chunks, Device}
 
 pub record Kept : Type 0 where
   pub copy : Copy
@@ -62,6 +68,9 @@ pub record Agrees (marks : Marks) (pins : Pinned) (offset : Option ℕ) (fetch :
   pub length : option_map_or (λ f. f.length) fetch marks.length ≡ marks.length
   -- what isn't asked for has no place yet
   pub unasked : option_map_or (λ f. is_unasked f.phase) fetch false ≡ true → offset ≡ None
+  -- a fetch is of a copy that is on its way, and what is away has no place
+  pub fetched : is_some fetch ≡ is_fetching marks.state
+  pub away : is_away marks.state ≡ true → offset ≡ None
   -- a fetch whose source is known has its digest
   pub digest : option_map_or (λ f. is_sized f.phase) fetch false ≡ true → is_some marks.digest ≡ true
 
@@ -80,6 +89,10 @@ fetched_kept number = record { copy = fetched_copy number; digest = None; workin
 -- whether a session can hold it: sealed, and not doomed
 abbrev pub is_ready : Copy → Bool
 is_ready copy = is_sealed copy.state && not copy.doomed
+
+-- whether the object has a copy that is sealed
+abbrev pub is_sealed_at : ById Kept → ObjectId → Bool
+is_sealed_at copies id = option_map_or (λ kept. is_sealed kept.copy.state) (at copies id) false
 
 -- a sealed primary without bytes on the device, and no work of it
 abbrev pub can_spill : Kept → Bool
@@ -114,6 +127,10 @@ spilling kept = record kept { working = Some Write }
 abbrev pub doomed : Kept → Kept
 doomed kept = record kept { copy = record kept.copy { doomed = true } }
 
+-- no hand of it stands any more
+abbrev pub ungranted : Kept → Kept
+ungranted kept = record kept { granted = false }
+
 -- it is doomed unless it is in scope
 abbrev pub scoped : Kept → Kept
 scoped kept = if in_scope kept.copy then kept else doomed kept
@@ -126,6 +143,19 @@ borrowed task kept = record kept { copy = record kept.copy { borrowers = kept.co
 
 abbrev pub given_up : TaskNo → Kept → Kept
 given_up task kept = scoped (record kept { copy = without_borrower kept.copy task })
+
+-- its write under this number ended: it is on the device, unless that failed
+abbrev pub written : ℕ → Bool → Kept → Kept
+written number failed kept =
+    record kept { copy = record kept.copy { backed = if failed then kept.copy.backed else Some number }; working = None }
+
+-- its read ended, and its bytes are in their place
+abbrev pub restored : Kept → Kept
+restored kept = record kept { copy = record kept.copy { state = Sealed }; working = None }
+
+-- its read ended without its bytes: it is away again, with a fault to tell of
+abbrev pub lost : Fault → Kept → Kept
+lost fault kept = record kept { copy = record kept.copy { state = Away; offset = None; fault = Some fault }; working = None }
 
 -- where it can be
 abbrev pub spilling_if : Kept → Kept
@@ -148,6 +178,21 @@ with_chunks n fetch =
 abbrev pub pulled : ℕ → Kept → Kept
 pulled offset kept =
     record kept { copy = record kept.copy { offset = Some offset; fetch = option_map (with_chunks kept.copy.length) kept.copy.fetch } }
+
+-- it has a place again, and its bytes are read back from the device
+abbrev pub restoring : ℕ → Kept → Kept
+restoring offset kept =
+    record kept { copy = record kept.copy { state = Restoring; offset = Some offset }; working = Some Read }
+
+-- it has a place, and what it waits for is asked for
+abbrev pub placed_for : Awaited → ℕ → Kept → Kept
+placed_for (Chunks missing) offset kept = pulled offset kept
+placed_for Device offset kept = restoring offset kept
+
+-- whether it can wait for that: for all chunks of its bytes, or for the device where it is away and has no fault to tell
+abbrev pub CanAwait : Awaited → Kept → Type 0
+CanAwait (Chunks missing) kept = (is_fetching kept.copy.state ≡ true) × (missing.items ≡ counted 0 (chunk_count kept.copy.length))
+CanAwait Device kept = (is_away kept.copy.state && is_none kept.copy.fault) ≡ true
 
 -- whether it is of n bytes, and has no place
 abbrev pub waits_for_place : ℕ → Kept → Bool

@@ -13,5 +13,11 @@ pub mod MadeRooms
 pub mod Dropping
 pub mod Holding
 pub mod Asked
+pub mod Answering
+pub mod Handed
+pub mod Quotas
 pub mod Late
+pub mod Arriving
+pub mod Serving
 pub mod Ending
+pub mod EndingTasks

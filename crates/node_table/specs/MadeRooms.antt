@@ -1,5 +1,6 @@
 -- What making room came to, for whatever step waits for it.
-use Rattle.std.specs.Prelude.{◌≡◌, ℕ, false, None, is_ok}
+use Rattle.std.specs.Prelude.{◌≡◌, ℕ, Bool, true, false, None, is_ok}
+use Rattle.obj_id.specs.declared.ids.ObjectId.{ObjectId}
 use Rattle.obj_id.specs.declared.commands.Reply.{Reply}
 use Rattle.obj_id.specs.declared.commands.Reply.TheVariants as reply
 use Rattle.obj_id.specs.declared.refusals.Refusal.{Refusal}
@@ -10,6 +11,7 @@ use Rattle.private_store.specs.Room.{make_room}
 use Rattle.private_store.specs.Change.{erasing, in_room}
 use Rattle.private_store.specs.Step.{step}
 use Rattle.spill_work.specs.Line.{WorkLine}
+use Rattle.node_table.specs.Evicting.{fits_without}
 use Rattle.node_table.specs.Row.{Row, Beside, shape_of}
 use Rattle.node_table.specs.RoomPlans.{MakesPlace}
 use Rattle.node_table.specs.Shown.{seen, only, TakesStep}
@@ -34,7 +36,12 @@ abbrev pub IsMade : MadeRoom → Row → Beside → Contents → ℕ → Row →
 IsMade (Place victims) old before contents n new after = MakesPlace (make_room old.order (shape_of old before) n) (shape_of old before) n victims
 IsMade (Told refusal) old before contents n new after = TellsRoom old before contents n refusal new after
 
--- where there is a place nothing has changed yet
-abbrev pub WaitsForPlace : MadeRoom → Row → WorkLine → Row → WorkLine → Type 0
-WaitsForPlace (Place victims) old before new after = (new ≡ old) × (after ≡ before)
-WaitsForPlace (Told refusal) old before new after = Unit {0}
+-- where there is a place for the object of n bytes nothing has changed yet
+abbrev pub WaitsForPlace : MadeRoom → Row → WorkLine → ObjectId → ℕ → Row → WorkLine → Type 0
+WaitsForPlace (Place victims) old before id n new after = (new ≡ old) × (after ≡ before) × (fits_without old id n victims ≡ true)
+WaitsForPlace (Told refusal) old before id n new after = Unit {0}
+
+-- whether there is none
+abbrev pub is_told : MadeRoom → Bool
+is_told (Place victims) = false
+is_told (Told refusal) = true

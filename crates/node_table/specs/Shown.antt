@@ -27,19 +27,9 @@ use Rattle.node_table.specs.Row.{Row, Beside, copies_of, received_bytes, shape_o
 abbrev pub work_on : List WorkInFlight → ObjectId → Option WorkKind
 work_on works id = option_map (λ w. if w.writes then Write else Read) (find (λ w. same_id id w.id) works)
 
--- whether Get of the copy is built: it isn't away without a fault
-abbrev pub is_plain : CopyState → Option Fault → Bool
-is_plain Away fault = is_some fault
-is_plain _ fault = true
-
 -- the view of a job: its row, what stands beside it, and contents
 abbrev pub seen : Row → Beside → Contents → View
 seen row beside contents = record { shape = shape_of row beside; order = row.order; contents = contents }
-
--- a copy as the events that are built make them: Get of it is built, and it isn't on the device
-pub record IsPlain (copy : Copy) : Type 0 where
-  pub state : is_plain copy.state copy.fault ≡ true
-  pub backed : copy.backed ≡ None
 
 -- the row shows these contents: they are what lies in its window, the digests that it keeps, and what was received
 pub record IsShown (row : Row) (beside : Beside) (contents : Contents) : Type 0 where
@@ -51,7 +41,6 @@ pub record IsShown (row : Row) (beside : Beside) (contents : Contents) : Type 0 
       → bytes_at contents.bytes id ≡ take k.copy.length (placed_bytes e row.window.placed)
   pub digests : (id : ObjectId) (k : Kept) → at row.copies id ≡ Some k → keeps_digest k.copy ≡ true
       → digest_at contents.digests id ≡ unwrap_or k.digest no_digest
-  pub plain : (id : ObjectId) (k : Kept) → at row.copies id ≡ Some k → IsPlain k.copy
   pub working : (id : ObjectId) (k : Kept) → at row.copies id ≡ Some k
       → k.working ≡ work_on beside.works id
   pub granted : (id : ObjectId) (k : Kept) → at row.copies id ≡ Some k → k.granted ≡ has_hand beside.given id

@@ -17,7 +17,7 @@ ghost use Rattle.node_table.specs.Outcomes.{given_of};
 ghost use Rattle.std.specs.Option.{option_map_or};
 ghost use Rattle.std.specs.Prelude.{◌∷◌, [], unwrap_or};
 ghost use Rattle.obj_id.specs.declared.messages.PeerMessage.TheVariants.{Pull};
-ghost use Rattle.private_store.specs.Tables.{is_among as is_among_lem};
+ghost use Rattle.node_table.specs.Evicting.{fits_without};
 ghost use Rattle.private_store.specs.Commands.{counted, chunk_count};
 ghost use Rattle.private_store.specs.Contents.{no_digest};
 ghost use Rattle.private_store.specs.Private.{to_peer};
@@ -28,7 +28,7 @@ ghost use Rattle.node_table.specs.RoomPlans.{MakesPlace};
 ghost use Rattle.node_table.specs.Row.{Beside, beside_of, shape_of};
 ghost use Rattle.node_table.specs.Shown.{IsShown, TakesStep};
 
-use crate::copy::RowCopy;
+use crate::copy::{Awaited, RowCopy};
 use crate::create_command::removals;
 use crate::get_command::{pending, told};
 use crate::outcome::Outcome;
@@ -68,7 +68,7 @@ impl JobRow {
         // that it has no place yet is what the proof needs
         let _place = copy.offset();
         let len = copy.length();
-        match self.room_for(alloc, id.job(), works, len)? {
+        match self.room_for(alloc, works, id, len)? {
             MadeRoom::Place(victims) => {
                 self.pull_in_place(alloc, node, id, len, victims.as_slice())
             }
@@ -89,6 +89,7 @@ impl JobRow {
         requires visible { visible_state (at self.old.copies id.now) ≡ Ok (Some Fetching) }
         requires sized { can_pull_at self.old id.now ≡ true }
         requires waits { option_map_or (waits_for_place len) (at self.old.copies id.now) false ≡ true }
+        requires fits { fits_without self.old id.now len victims.now ≡ true }
         ensures ok { IfOk result (λ o. (session : ℕ) (beside : Beside) (contents : Contents) → (id.now.job.0 == self.old.job) ≡ true → IsShown self.old beside contents
             → MakesPlace (make_room self.old.order (shape_of self.old beside) len) (shape_of self.old beside) len victims.now
             → TakesStep node self.old beside contents (input.Call session (command.Get id.now)) (given_of o) self.new beside) }
@@ -96,19 +97,11 @@ impl JobRow {
         ensures memory { (r : Refusal) → IsErrOf result r → r ≡ NoMemory }
         ensures err { OnErr result (self.new ≡ self.old) }
     {
-        // a copy that is on its way is no victim, and each victim is another copy
-        if is_among(victims, id) {
-            return told(alloc, Refusal::Pending);
-        }
-        if victims.len() > self.copies().len() {
-            return told(alloc, Refusal::Full);
-        }
         let mut messages = removals(alloc, node, self.copies(), victims)?;
         messages.push(self.question(alloc, id)?)?;
         let missing = all_chunks(alloc, len)?;
-        let Some(_extent) = self.pull_copy(alloc, id, len, victims, missing)? else {
-            return told(alloc, Refusal::Full);
-        };
+        let awaited = Awaited::Chunks(missing);
+        self.place_copy(alloc, id, len, victims, awaited)?;
         Ok(pending(messages))
     }
 
@@ -124,13 +117,6 @@ impl JobRow {
         };
         question_of(alloc, *id, copy)
     }
-}
-
-/// Whether the id is one of these.
-fn is_among(ids: &[ObjectId], id: &ObjectId) -> bool
-    ensures { result ≡ is_among_lem ids.now id.now }
-{
-    ids.contains(id)
 }
 
 /// The question for all chunks of the object, at the source of its fetch.

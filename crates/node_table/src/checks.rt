@@ -1,14 +1,14 @@
 //! Why a command can't be carried out.
 ghost use Rattle.std.specs.Prelude.{◌≡◌, if◌then◌else◌, Some, None, option_map};
 ghost use Rattle.obj_id.specs.declared.refusals.Refusal.TheVariants.{Absent, Granted};
-ghost use Rattle.node_table.specs.Checks.{write_check_of, write_check as write_check_lem, seal_check_of, seal_check as seal_check_lem, read_check_of, read_check as read_check_lem, lend_check_of, lend_check as lend_check_lem, fetch_check as fetch_check_lem, create_check as create_check_lem, unpin_check_of, unpin_check as unpin_check_lem, give_up_check_of, give_up_check as give_up_check_lem, delete_check as delete_check_lem, visible_state as visible_state_lem, fault_at};
+ghost use Rattle.node_table.specs.Checks.{write_check_of, write_check as write_check_lem, seal_check_of, seal_check as seal_check_lem, read_check_of, read_check as read_check_lem, lend_check_of, lend_check as lend_check_lem, fetch_check as fetch_check_lem, create_check as create_check_lem, end_task_check as end_task_check_lem, unpin_check_of, unpin_check as unpin_check_lem, give_up_check_of, give_up_check as give_up_check_lem, delete_check as delete_check_lem, visible_state as visible_state_lem, fault_at};
 ghost use Rattle.private_store.specs.Tables.{at};
 ghost use Rattle.node_table.specs.Row.{copies_of};
 
 use crate::copies::Copies;
 use crate::copy::RowCopy;
 use crate::row::JobRow;
-use obj_id::limits::{MOST_BYTES, MOST_COPIES};
+use obj_id::limits::{MOST_BYTES, MOST_COPIES, MOST_ENDED_TASKS};
 use obj_id::{CopyState, ObjectId, Refusal, TaskNo};
 use private_store::Fault;
 
@@ -228,6 +228,19 @@ impl JobRow {
             return Some(Refusal::Exists);
         }
         if self.copies().len() >= MOST_COPIES {
+            return Some(Refusal::TooMany);
+        }
+        None
+    }
+
+    /// Why the task can't end: `Gone` if it has ended already, `TooMany` at 1,024 ended tasks, or nothing.
+    pub(crate) fn end_task_check(&self, task: TaskNo) -> Option<Refusal>
+        ensures { result ≡ end_task_check_lem self.now task }
+    {
+        if self.has_ended(task) {
+            return Some(Refusal::Gone);
+        }
+        if self.ended_count() >= MOST_ENDED_TASKS {
             return Some(Refusal::TooMany);
         }
         None

@@ -2,21 +2,26 @@
 ghost use Rattle.std.specs.Option.{option_copied, option_map_or, option_and_then};
 ghost use Rattle.private_store.specs.Tables.{at, with_entry, without_entry};
 ghost use Rattle.node_table.specs.Entries.{changed, all_changed, each_changed};
-ghost use Rattle.node_table.specs.Kept.{released, left, sealed, spilling_if, unpinned, borrowed, given_up, doomed, Kept, fault_told, unplaced, pulled};
+ghost use Rattle.node_table.specs.Kept.{released, left, sealed, spilling_if, unpinned, borrowed, given_up, doomed, Kept, fault_told, unplaced, placed_for, CanAwait, written, restored, lost};
 ghost use Rattle.private_store.specs.Copies.{is_created, in_scope};
-ghost use Rattle.private_store.specs.Commands.{without_borrower, counted, chunk_count};
+ghost use Rattle.private_store.specs.Commands.{without_borrower};
+ghost use Rattle.private_store.specs.Kept.{is_restoring};
 ghost use Rattle.node_table.specs.Evicting.{has_secondary, evicted_one, all_evicted};
 ghost use Rattle.obj_id.specs.declared.refusals.Refusal.{Refusal};
 ghost use Rattle.obj_id.specs.declared.refusals.Refusal.TheVariants.{NoMemory};
 ghost use Rattle.node_table.specs.Checks.{release_check, borrow_check};
 ghost use Rattle.node_table.specs.Scope.{farewell as farewell_of};
+ghost use Rattle.node_table.specs.EndingTasks.{hands_ended, is_doomed_at, borrows_at};
 ghost use Rattle.node_table.specs.Holding.{IsHeldAt, IsUnreadyAt, IsHoldRefusedAt};
-ghost use Rattle.std.specs.Prelude.{◌≡◌, ◌≢◌, ◌<◌, ◌^◌, [], true, false, Some, None, OnOk, OnErr, IsOk, IsErrOf, IfOk, IfErr, IfSome, IfNone, map, length, is_some};
-ghost use Rattle.node_table.specs.Usages.{item_of, total, window_bytes as window_bytes_lem, device_bytes as device_bytes_lem, doomed_one};
+ghost use Rattle.std.specs.Prelude.{◌≡◌, ◌≢◌, ◌<◌, ◌^◌, [], true, false, Some, None, OnOk, OnErr, IsOk, IsErrOf, IfOk, IfErr, IfSome, IfNone, map, length, is_some, ◌&&◌};
+ghost use Rattle.node_table.specs.Usages.{item_of, total, is_spilling, window_bytes as window_bytes_lem, device_bytes as device_bytes_lem, doomed_one};
+ghost use Rattle.private_store.specs.Kept.{is_fetching};
+ghost use Rattle.node_table.specs.Arriving.{located, asks, fills, lacks_only, gap_closed, brought, unfetched};
 
-use crate::copy::RowCopy;
+use crate::copy::{Awaited, RowCopy};
 use indexmap::IndexMap;
-use obj_id::{Digest, DirectoryMessage, Items, ObjectId, OwnItem, Refusal, TaskNo};
+use obj_id::{Digest, DirectoryMessage, Items, Location, ObjectId, OwnItem, Refusal, TaskNo};
+use private_store::{Fault, FetchFault};
 use std::alloc::{AllocError, Global};
 use std::marker::Model;
 
@@ -239,16 +244,129 @@ impl Copies {
         copy.forget_fault();
     }
 
-    /// The copy has a place at the offset, and if its source is known its bytes are asked for there: these chunks are
-    /// missing, which are all.
-    pub fn begin_pull(&mut self, id: &ObjectId, offset: u64, missing: Vec<u32>)
-        requires { (k : Kept) → at self.old id.now ≡ Some k → missing.items ≡ counted 0 (chunk_count k.copy.length) }
-        ensures { self.new ≡ changed (pulled offset) self.old id.now }
+    /// The write of the copy under this number ended: its bytes are on the device, unless that failed.
+    pub fn end_spill(&mut self, id: &ObjectId, number: u64, failed: bool)
+        requires { option_map_or is_spilling (at self.old id.now) true ≡ true }
+        ensures { self.new ≡ changed (written number failed) self.old id.now }
     {
         let Some(copy) = self.by_id.get_mut(id) else {
             return;
         };
-        copy.begin_pull(offset, missing);
+        copy.end_spill(number, failed);
+    }
+
+    /// The read of the copy ended, and its bytes are in their place: it is sealed again.
+    pub fn end_restore(&mut self, id: &ObjectId)
+        requires { option_map_or (λ k. is_restoring k.copy.state) (at self.old id.now) true ≡ true }
+        ensures { self.new ≡ changed restored self.old id.now }
+    {
+        let Some(copy) = self.by_id.get_mut(id) else {
+            return;
+        };
+        copy.end_restore();
+    }
+
+    /// The read of the copy ended without its bytes: it is away again, without a place, and the next Get is told the
+    /// fault.
+    pub fn lose(&mut self, id: &ObjectId, fault: Fault)
+        requires { option_map_or (λ k. is_restoring k.copy.state) (at self.old id.now) true ≡ true }
+        ensures { self.new ≡ changed (lost fault) self.old id.now }
+    {
+        let Some(copy) = self.by_id.get_mut(id) else {
+            return;
+        };
+        copy.lose(fault);
+    }
+
+    /// The copy has a place at the offset, and waits for this there. Takes no memory.
+    pub fn take_place(&mut self, id: &ObjectId, offset: u64, awaited: Awaited)
+        requires { (k : Kept) → at self.old id.now ≡ Some k → CanAwait awaited k }
+        ensures { self.new ≡ changed (placed_for awaited offset) self.old id.now }
+    {
+        let Some(copy) = self.by_id.get_mut(id) else {
+            return;
+        };
+        copy.take_place(offset, awaited);
+    }
+
+    /// Whether the fetch of the copy has this number and asks this source; not if there is none.
+    pub fn asks(&self, id: &ObjectId, number: u64, from: u32) -> bool
+        ensures { result ≡ option_map_or (asks number from) (at self.now id.now) false }
+    {
+        let Some(copy) = self.get(id) else {
+            return false;
+        };
+        copy.asks(number, from)
+    }
+
+    /// Whether a chunk of `len` bytes fills a gap of the copy; not if there is none.
+    pub fn is_filled_by(
+        &self,
+        id: &ObjectId,
+        number: u64,
+        from: u32,
+        index: u32,
+        len: usize,
+    ) -> bool
+        ensures { result ≡ option_map_or (fills number from index len) (at self.now id.now) false }
+    {
+        let Some(copy) = self.get(id) else {
+            return false;
+        };
+        copy.is_filled_by(number, from, index, len)
+    }
+
+    /// Whether no chunk of the copy but this one is missing; not if there is no fetch of it.
+    pub fn lacks_only(&self, id: &ObjectId, index: u32) -> bool
+        ensures { result ≡ option_map_or (lacks_only index) (at self.now id.now) false }
+    {
+        let Some(copy) = self.get(id) else {
+            return false;
+        };
+        copy.lacks_only(index)
+    }
+
+    /// The directory's answer at this node, which counts for the copy's fetch of this number while its source isn't
+    /// known.
+    pub fn locate(&mut self, id: &ObjectId, node: u32, number: u64, entries: &[Location])
+        ensures { self.new ≡ changed (located node number entries.now) self.old id.now }
+    {
+        let Some(copy) = self.by_id.get_mut(id) else {
+            return;
+        };
+        copy.locate(node, number, entries);
+    }
+
+    /// A chunk of `len` bytes came: the gap of the copy that it fills is closed.
+    pub fn take_chunk(&mut self, id: &ObjectId, number: u64, from: u32, index: u32, len: usize)
+        ensures { self.new ≡ changed (gap_closed number from index len) self.old id.now }
+    {
+        let Some(copy) = self.by_id.get_mut(id) else {
+            return;
+        };
+        copy.take_chunk(number, from, index, len);
+    }
+
+    /// All bytes of the copy are there: it is sealed.
+    pub fn bring(&mut self, id: &ObjectId)
+        requires { option_map_or (λ k. is_fetching k.copy.state && is_some k.digest) (at self.old id.now) true ≡ true }
+        ensures { self.new ≡ changed brought self.old id.now }
+    {
+        let Some(copy) = self.by_id.get_mut(id) else {
+            return;
+        };
+        copy.bring();
+    }
+
+    /// The fetch of the copy is over without it: it has no place, and the next Get is told why.
+    pub fn fail_fetch(&mut self, id: &ObjectId, fault: FetchFault)
+        requires { option_map_or (λ k. is_fetching k.copy.state) (at self.old id.now) true ≡ true }
+        ensures { self.new ≡ changed (unfetched fault) self.old id.now }
+    {
+        let Some(copy) = self.by_id.get_mut(id) else {
+            return;
+        };
+        copy.fail_fetch(fault);
     }
 
     /// The owner task keeps the copy no longer: it is doomed unless a task borrows it. Takes no memory.
@@ -298,6 +416,36 @@ impl Copies {
             return;
         };
         copy.doom();
+    }
+
+    /// No hand stands any more of the copies of the task's objects. Takes a walk over the copies, and no memory.
+    pub fn end_hands(&mut self, task: TaskNo)
+        ensures { self.new ≡ hands_ended task self.old }
+    {
+        self.by_id.retain(|id, copy| {
+            copy.end_hands(id, task);
+            true
+        });
+    }
+
+    /// Whether the copy is doomed; not if there is none.
+    pub fn is_doomed(&self, id: &ObjectId) -> bool
+        ensures { result ≡ is_doomed_at self.now id.now }
+    {
+        let Some(copy) = self.get(id) else {
+            return false;
+        };
+        copy.doomed()
+    }
+
+    /// Whether the task borrows the copy; not if there is none.
+    pub fn borrows(&self, id: &ObjectId, task: TaskNo) -> bool
+        ensures { result ≡ borrows_at task self.now id.now }
+    {
+        let Some(copy) = self.get(id) else {
+            return false;
+        };
+        copy.borrows(task)
     }
 
     /// Whether the copy would be in scope if its owner task kept it no longer; not if there is none.

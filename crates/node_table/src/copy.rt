@@ -1,31 +1,50 @@
 //! One copy of a row.
-ghost use Rattle.std.specs.Prelude.{◌≡◌, ◌≢◌, ◌+◌, ◌==◌, nat_le, if◌then◌else◌, true, false, Some, None, IfOk, IfErr, IfSome, IfNone, OnOk, OnErr, IsErrOf, IsOk, is_some, option_map};
+ghost use Rattle.std.specs.Prelude.{◌≡◌, ◌≢◌, ◌+◌, ◌&&◌, ◌==◌, nat_le, if◌then◌else◌, true, false, Some, None, IfOk, IfErr, IfSome, IfNone, OnOk, OnErr, IsErrOf, IsOk, is_some, option_map};
+ghost use Rattle.std.specs.List.{list_all};
 ghost use Rattle.std.specs.Option.{option_copied, option_map_or};
 ghost use Rattle.obj_id.specs.declared.refusals.Refusal.{Refusal};
 ghost use Rattle.obj_id.specs.declared.refusals.Refusal.TheVariants.{NoMemory};
+ghost use Rattle.obj_id.specs.Ids.{same_task};
 ghost use Rattle.obj_id.specs.Kinds.{is_primary};
-ghost use Rattle.private_store.specs.Copies.{extent_of, is_created, is_held, in_scope};
-ghost use Rattle.private_store.specs.Commands.{holds_of as holds_of_lem, without_borrower, counted, chunk_count};
+ghost use Rattle.private_store.specs.Copies.{extent_of, is_created, is_away, is_held, in_scope, was_sealed};
+ghost use Rattle.private_store.specs.Commands.{holds_of as holds_of_lem, has_borrower, without_borrower};
 ghost use Rattle.private_store.specs.Extents.{rounded as rounded_lem};
 ghost use Rattle.node_table.specs.RoomPlans.{facts_of};
-ghost use Rattle.node_table.specs.Kept.{new_kept, fetched_kept, released, left, sealed, spilling, spilling_if, can_spill, unpinned, borrowed, given_up, doomed, scoped, fetch_of, fault_told, unplaced, is_unasked, pulled};
+ghost use Rattle.node_table.specs.Kept.{new_kept, fetched_kept, released, left, sealed, spilling, spilling_if, can_spill, unpinned, borrowed, given_up, doomed, ungranted, scoped, fetch_of, fault_told, unplaced, is_unasked, pulled, restoring, placed_for, CanAwait, written, restored, lost};
+ghost use Rattle.node_table.specs.declared.copy.Awaited.TheVariants.{Chunks, Device};
+ghost use Rattle.private_store.specs.Kept.{is_restoring};
+ghost use Rattle.node_table.specs.Answering.{has_bytes as has_bytes_lem};
 ghost use Rattle.node_table.specs.Checks.{release_check_of as release_check, borrow_check_of};
 ghost use Rattle.node_table.specs.Scope.{farewell as farewell_of};
 ghost use Rattle.private_store.specs.Contents.{is_sized};
 ghost use Rattle.node_table.specs.Holding.{IsHeld, IsUnready, IsHoldRefused};
 ghost use Rattle.node_table.specs.Usages.{is_spilling as is_spilling_lem};
 ghost use Rattle.node_table.specs.Dropping.{is_over as is_over_lem};
+ghost use Rattle.private_store.specs.Kept.{is_fetching};
+ghost use Rattle.node_table.specs.Serving.{was_sealed_with as was_sealed_with_lem};
+ghost use Rattle.node_table.specs.Arriving.{awaits_source, located, asks, fills, lacks_only, gap_closed, brought, unfetched};
 
-use fetch_core::FetchIn;
+use fetch_core::{FetchIn, Stage};
 use lru_evictor::CopyFacts;
 use obj_id::{
-    CopyState, Digest, DirectoryMessage, Extent, Kind, ObjectId, Refusal, TaskNo, WorkKind,
+    CopyState, Digest, DirectoryMessage, Extent, Kind, Location, ObjectId, Refusal, TaskNo,
+    WorkKind,
 };
 use object_state::ObjectCopy;
 use pins_holds::Pins;
-use private_store::{Fault, rounded};
+use private_store::{Fault, FetchFault, WorkVerdict, rounded};
+use sha2::{Digest as _, Sha256};
 use std::alloc::Global;
 use std::marker::Model;
+
+/// What a copy that takes a place waits for.
+#[derive(Drop)]
+pub enum Awaited {
+    /// All chunks of its bytes, if its source is known: these are missing.
+    Chunks(Vec<u32>),
+    /// The read of its bytes from the device.
+    Device,
+}
 
 /// A copy of a job: its marks, what keeps it, where its bytes lie in the job's window, and the fetch that
 /// brings it. A contract sees the store's copy, with its digest and the kind of the work in flight.
@@ -102,6 +121,7 @@ impl RowCopy {
     pub fn offset(&self) -> Option<u64>
         ensures offset { result ≡ self.now.copy.offset }
         ensures unasked { option_map_or (λ f. is_unasked f.phase) self.now.copy.fetch false ≡ true → result ≡ None }
+        ensures away { is_away self.now.copy.state ≡ true → result ≡ None }
     {
         self.offset
     }
@@ -234,6 +254,13 @@ impl RowCopy {
         self.pins.is_held()
     }
 
+    /// Whether the task borrows it.
+    pub fn borrows(&self, task: TaskNo) -> bool
+        ensures { result ≡ has_borrower self.now.copy task }
+    {
+        self.pins.borrows(task)
+    }
+
     /// Whether it would be in scope if the owner task kept it no longer.
     pub fn in_scope_unpinned(&self) -> bool
         ensures { result ≡ in_scope (record self.now.copy { pinned = false }) }
@@ -322,6 +349,16 @@ impl RowCopy {
         self.doom_out_of_scope();
     }
 
+    /// No hand stands any more of the copy of this id, if it is of the task.
+    pub fn end_hands(&mut self, id: &ObjectId, task: TaskNo)
+        ensures { self.new ≡ if same_task task id.now.task then ungranted self.old else self.old }
+    {
+        let own = task == id.task();
+        if own {
+            self.granted = false;
+        }
+    }
+
     /// It is removed as soon as nothing keeps it.
     pub fn doom(&mut self)
         ensures { self.new ≡ doomed self.old }
@@ -362,6 +399,58 @@ impl RowCopy {
         self.marks.begin_spill();
     }
 
+    /// Its write under this number ended: its bytes are on the device, unless that failed.
+    pub fn end_spill(&mut self, number: u64, failed: bool)
+        requires { is_spilling_lem self.old ≡ true }
+        ensures { self.new ≡ written number failed self.old }
+    {
+        self.marks.end_spill(number, failed);
+    }
+
+    /// Its read ended, and its bytes are in their place: it is sealed again.
+    pub fn end_restore(&mut self)
+        requires { is_restoring self.old.copy.state ≡ true }
+        ensures { self.new ≡ restored self.old }
+    {
+        self.marks.end_restore(WorkVerdict::Fine);
+    }
+
+    /// Its read ended without its bytes: it is away again, without a place, and the next Get is told the fault.
+    pub fn lose(&mut self, fault: Fault)
+        requires { is_restoring self.old.copy.state ≡ true }
+        ensures { self.new ≡ lost fault self.old }
+    {
+        self.marks.end_restore(match fault {
+            Fault::DeviceFailed => WorkVerdict::Failed,
+            Fault::Damaged => WorkVerdict::Damaged,
+        });
+        self.offset = None;
+    }
+
+    /// Whether these are its bytes, by length and digest. Hashes them once if the length is right.
+    pub fn has_bytes(&self, bytes: &[u8]) -> bool
+        requires { was_sealed self.now.copy.state ≡ true }
+        ensures { result ≡ has_bytes_lem self.now bytes.now }
+    {
+        let Some(digest) = self.marks.digest() else {
+            unreachable!()
+        };
+        bytes.len() == self.length() as usize && Digest(Sha256::digest(bytes)) == digest
+    }
+
+    /// Whether it was sealed with this length and digest.
+    pub fn was_sealed_with(&self, length: u32, digest: &Digest) -> bool
+        ensures { result ≡ was_sealed_with_lem length digest.now self.now }
+    {
+        if !self.marks.was_sealed() {
+            return false;
+        }
+        let Some(own) = self.marks.digest() else {
+            unreachable!()
+        };
+        self.length() == length && *digest == own
+    }
+
     /// It has no place in the window any more, and is away if it is sealed and its bytes are on the device.
     pub fn give_up_place(&mut self)
         ensures { self.new ≡ unplaced self.old }
@@ -372,16 +461,137 @@ impl RowCopy {
         self.offset = None;
     }
 
-    /// It has a place at the offset, and if its source is known its bytes are asked for there: these chunks are missing,
-    /// which are all.
-    pub fn begin_pull(&mut self, offset: u64, missing: Vec<u32>)
-        requires { missing.items ≡ counted 0 (chunk_count self.old.copy.length) }
+    /// It has a place at the offset, and waits for this there.
+    pub fn take_place(&mut self, offset: u64, awaited: Awaited)
+        requires { CanAwait awaited self.old }
+        ensures { self.new ≡ placed_for awaited offset self.old }
+    {
+        match awaited {
+            Awaited::Chunks(missing) => self.begin_pull(offset, missing),
+            Awaited::Device => self.begin_restore(offset),
+        }
+    }
+
+    /// It has a place at the offset, and all chunks of its bytes are missing.
+    fn begin_pull(&mut self, offset: u64, missing: Vec<u32>)
+        requires { CanAwait (Chunks missing) self.old }
         ensures { self.new ≡ pulled offset self.old }
     {
-        if let Some(fetch) = self.fetch.as_mut() {
-            fetch.begin_with(missing);
-        }
+        let Some(fetch) = self.fetch.as_mut() else {
+            unreachable!()
+        };
+        fetch.begin_with(missing);
         self.offset = Some(offset);
+    }
+
+    /// It has a place at the offset again, and the read of its bytes is in flight.
+    fn begin_restore(&mut self, offset: u64)
+        requires { CanAwait Device self.old }
+        ensures { self.new ≡ restoring offset self.old }
+    {
+        self.marks.begin_restore();
+        self.offset = Some(offset);
+    }
+
+    /// Whether the directory's answer of this number is of its fetch, whose source isn't known.
+    pub fn awaits_source(&self, number: u64) -> bool
+        ensures { result ≡ awaits_source number self.now }
+    {
+        let Some(fetch) = self.fetch.as_ref() else {
+            return false;
+        };
+        let is_locating = matches!(fetch.stage(), Stage::Locating);
+        self.is_fetching() && self.offset.is_none() && fetch.number() == number && is_locating
+    }
+
+    /// The directory's answer at this node: the first entry of another node is the source of its fetch. Without one the
+    /// fetch has failed. Does nothing unless it is of this fetch, and the source isn't known.
+    pub fn locate(&mut self, node: u32, number: u64, entries: &[Location])
+        ensures { self.new ≡ located node number entries.now self.old }
+    {
+        if !self.awaits_source(number) {
+            return;
+        }
+        let Some(fetch) = self.fetch.as_mut() else {
+            return;
+        };
+        fetch.located(node, number, entries);
+        match fetch.digest() {
+            Some(digest) => self.marks.sized(fetch.length(), digest),
+            None => self.marks.fetch_failed(),
+        }
+    }
+
+    /// Whether its fetch has this number and asks this source.
+    pub fn asks(&self, number: u64, from: u32) -> bool
+        ensures { result ≡ asks number from self.now }
+    {
+        let Some(fetch) = self.fetch.as_ref() else {
+            return false;
+        };
+        let is_asked = match fetch.stage() {
+            Stage::Pulling(source) => number == fetch.number() && from == source,
+            _ => false,
+        };
+        self.is_fetching() && is_asked
+    }
+
+    /// Whether a chunk of `len` bytes fills a gap: it is of its fetch, from its source, missing, and as long as that chunk
+    /// is. Then the digest of all bytes is known.
+    pub fn is_filled_by(&self, number: u64, from: u32, index: u32, len: usize) -> bool
+        ensures { result ≡ fills number from index len self.now }
+    {
+        let Some(fetch) = self.fetch.as_ref() else {
+            return false;
+        };
+        self.is_fetching() && fetch.fills_one(number, from, index, len)
+    }
+
+    /// Whether no chunk but this one is missing.
+    pub fn lacks_only(&self, index: u32) -> bool
+        ensures { result ≡ lacks_only index self.now }
+    {
+        let Some(fetch) = self.fetch.as_ref() else {
+            return false;
+        };
+        are_all(fetch.missing(), index)
+    }
+
+    /// A chunk of `len` bytes came: the gap that it fills is closed.
+    pub fn take_chunk(&mut self, number: u64, from: u32, index: u32, len: usize)
+        ensures { self.new ≡ gap_closed number from index len self.old }
+    {
+        if let Some(fetch) = self.fetch.as_mut() {
+            fetch.take_chunk(number, from, index, len);
+        }
+    }
+
+    /// All its bytes are there: it is sealed.
+    pub fn bring(&mut self)
+        requires { is_fetching self.old.copy.state && is_some self.old.digest ≡ true }
+        ensures { self.new ≡ brought self.old }
+    {
+        self.marks.fetched();
+        self.fetch = None;
+    }
+
+    /// Its fetch is over without it: it has no place, and the next Get is told why.
+    pub fn fail_fetch(&mut self, fault: FetchFault)
+        requires { is_fetching self.old.copy.state ≡ true }
+        ensures { self.new ≡ unfetched fault self.old }
+    {
+        if let Some(fetch) = self.fetch.as_mut() {
+            fetch.fail(fault);
+        }
+        self.marks.fetch_failed();
+        self.offset = None;
+    }
+
+    /// Whether it is on its way.
+    fn is_fetching(&self) -> bool
+        ensures { result ≡ is_fetching self.now.copy.state }
+    {
+        matches!(self.state(), CopyState::Fetching)
     }
 
     /// A write of it is in flight, where it is a sealed primary that isn't on the device and has no work.
@@ -394,4 +604,11 @@ impl RowCopy {
             self.begin_spill();
         }
     }
+}
+
+/// Whether these are all this index.
+fn are_all(indexes: &[u32], index: u32) -> bool
+    ensures { result ≡ list_all (λ i. i == index) indexes.now }
+{
+    indexes.iter().all(|i| *i == index)
 }

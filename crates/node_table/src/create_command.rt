@@ -11,7 +11,7 @@ ghost use Rattle.private_store.specs.Hands.{Hand};
 ghost use Rattle.spill_work.specs.Line.{same_job, IsSameFor};
 ghost use Rattle.node_table.specs.Asked.{HasAsked};
 ghost use Rattle.node_table.specs.Checks.{create_check as create_check_lem};
-ghost use Rattle.node_table.specs.Evicting.{removals as removals_lem};
+ghost use Rattle.node_table.specs.Evicting.{fits_without, removals as removals_lem};
 ghost use Rattle.node_table.specs.Kept.{Kept};
 ghost use Rattle.private_store.specs.Tables.{ById};
 ghost use Rattle.node_table.specs.Outcomes.{given_of};
@@ -57,7 +57,7 @@ impl JobRow {
         if let Some(refusal) = self.create_check(id, len) {
             return told(alloc, refusal);
         }
-        match self.room_for(alloc, id.job(), works, len)? {
+        match self.room_for(alloc, works, id, len)? {
             MadeRoom::Place(victims) => {
                 self.create_in_place(alloc, node, id, kind, len, victims.as_slice())
             }
@@ -75,7 +75,8 @@ impl JobRow {
         len: u32,
         victims: &[ObjectId],
     ) -> Result<Outcome, Refusal>
-        requires { create_check_lem self.old id.now len ≡ None }
+        requires checked { create_check_lem self.old id.now len ≡ None }
+        requires fits { fits_without self.old id.now len victims.now ≡ true }
         ensures ok { IfOk result (λ o. (session : ℕ) (beside : Beside) (contents : Contents) → (id.now.job.0 == self.old.job) ≡ true → IsShown self.old beside contents
             → MakesPlace (make_room self.old.order (shape_of self.old beside) len) (shape_of self.old beside) len victims.now
             → TakesStep node self.old beside contents (input.Call session (command.Create id.now kind len)) (given_of o) self.new beside) }
@@ -83,18 +84,12 @@ impl JobRow {
         ensures memory { (r : Refusal) → IsErrOf result r → r ≡ NoMemory }
         ensures err { OnErr result (self.new ≡ self.old) }
     {
-        // the id has no copy, so that it is neither a victim nor in the order of use
-        if self.is_listed(id, victims) {
+        // what has no copy isn't in the order of use
+        if self.is_listed(id) {
             return told(alloc, Refusal::Exists);
         }
-        // each victim is another copy
-        if victims.len() > self.copies().len() {
-            return told(alloc, Refusal::Full);
-        }
         let messages = removals(alloc, node, self.copies(), victims)?;
-        let Some(extent) = self.replace_copies(alloc, id, kind, len, victims)? else {
-            return told(alloc, Refusal::Full);
-        };
+        let extent = self.replace_copies(alloc, id, kind, len, victims)?;
         Ok(Outcome {
             reply: Reply::Placed(extent.offset as u32, extent.length as u32),
             messages,

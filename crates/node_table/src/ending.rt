@@ -32,7 +32,7 @@ impl JobRow {
     }
 
     /// The device key of the copy, if it is backed.
-    fn device_key(&self, id: &ObjectId) -> Option<DeviceKey>
+    pub(crate) fn device_key(&self, id: &ObjectId) -> Option<DeviceKey>
         ensures { result ≡ key_at self.now id.now }
     {
         let number = self.copies().get(id)?.backed()?;

@@ -2,12 +2,16 @@
 //! sessions do to them. A row knows no other job.
 #![tactic(auto)]
 
+mod arrivals;
 mod begin_pull;
 mod bytes_commands;
 mod checks;
+mod chunks;
 mod copies;
 mod copy;
 mod create_command;
+mod device_works;
+mod end_task;
 mod ending;
 mod get_away;
 mod get_command;
@@ -15,12 +19,15 @@ mod get_fetching;
 mod hold_commands;
 mod listing;
 mod outcome;
+mod requota;
 mod restore;
 mod room;
 mod row;
 mod scope_commands;
+mod serve_pull;
 
 pub use copies::Copies;
 pub use copy::RowCopy;
+pub use device_works::Answered;
 pub use outcome::{Erase, Outcome};
 pub use row::JobRow;

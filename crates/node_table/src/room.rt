@@ -1,23 +1,28 @@
 //! How room is made in a row's window.
-ghost use Rattle.std.specs.Prelude.{◌≡◌, ℕ, List, false, IfOk, OnOk, OnErr, IsErrOf};
+ghost use Rattle.std.specs.Prelude.{◌≡◌, ℕ, ◌<◌, ◌≤◌, List, true, false, not, ◌&&◌, nat_le, length, IfOk, OnOk, OnErr, IsErrOf};
 ghost use Rattle.obj_id.specs.declared.ids.JobNo.{JobNo};
 ghost use Rattle.obj_id.specs.declared.refusals.Refusal.TheVariants.{NoMemory};
-ghost use Rattle.spill_work.specs.Line.{same_job, IsSameFor};
+ghost use Rattle.spill_work.specs.Line.{same_job, IsSameFor, room_for as room_for_lem};
 ghost use Rattle.node_table.specs.Asked.{HasAsked};
-ghost use Rattle.node_table.specs.MadeRooms.{IsMade, WaitsForPlace};
+ghost use Rattle.node_table.specs.MadeRooms.{IsMade, WaitsForPlace, is_told};
+ghost use Rattle.node_table.specs.Evicting.{fits_without as fits_without_lem};
+ghost use Rattle.node_table.specs.Kept.{is_sealed_at};
+ghost use Rattle.private_store.specs.Limits.{longest_object};
+ghost use Rattle.private_store.specs.Extents.{is_size};
+ghost use Rattle.private_store.specs.Tables.{is_among as is_among_lem};
 ghost use Rattle.obj_id.specs.declared.refusals.Refusal.{Refusal};
 ghost use Rattle.obj_id.specs.declared.ids.ObjectId.{ObjectId};
 ghost use Rattle.private_store.specs.Room.{make_room};
 ghost use Rattle.private_store.specs.Hands.{Hand};
 ghost use Rattle.private_store.specs.Contents.{Contents};
 ghost use Rattle.lru_evictor.specs.Plans.{shown};
-ghost use Rattle.node_table.specs.Row.{beside_of, shape_of};
+ghost use Rattle.node_table.specs.Row.{beside_of, shape_of, place_of, ArePlaced};
 ghost use Rattle.node_table.specs.Shown.{IsShown};
 ghost use Rattle.node_table.specs.RoomPlans.{AsksWrites, IsPlanned, plan_by};
 
 use crate::copies::Copies;
 use crate::row::JobRow;
-use lru_evictor::{CopyFacts, CopyLookup, DeviceRoom, Plan};
+use lru_evictor::{CopyFacts, CopyLookup, DeviceRoom, Plan, extents_by_offset};
 use obj_id::{Items, JobNo, ObjectId, Refusal, WorkKind};
 use spill_work::Works;
 use std::alloc::Global;
@@ -93,35 +98,72 @@ impl JobRow {
 }
 
 impl JobRow {
-    /// Room for an object of `len` bytes in the window of the row's job, as far as it can be made without an eviction:
+    /// Room for the object, of `len` bytes, in the window of the row's job, as far as it can be made without an eviction:
     /// the writes that it needs are asked for, and that a spill failed is told and forgotten. The error is out of
     /// memory, and then nothing has changed. The works that it asks for come last in the line, and those before them
     /// stay.
     pub(crate) fn room_for(
         &mut self,
         alloc: Global,
-        job: JobNo,
         works: &mut Works,
+        id: &ObjectId,
         len: u32,
     ) -> Result<MadeRoom, Refusal>
-        ensures ok { IfOk result (λ made. (hands : List Hand) (bytes : ObjectId → List ℕ) (contents : Contents) → job ≡ record { 0 = self.old.job } → IsShown self.old (beside_of works.old hands bytes self.old.job) contents
+        requires { is_sealed_at self.old.copies id.now ≡ false }
+        ensures ok { IfOk result (λ made. (hands : List Hand) (bytes : ObjectId → List ℕ) (contents : Contents) → id.now.job ≡ record { 0 = self.old.job } → IsShown self.old (beside_of works.old hands bytes self.old.job) contents
+            → 0 < len → len ≤ longest_object
             → IsMade made self.old (beside_of works.old hands bytes self.old.job) contents len self.new (beside_of works.new hands bytes self.old.job)) }
-        ensures place { IfOk result (λ made. WaitsForPlace made self.old works.old self.new works.new) }
-        ensures line { OnOk result (HasAsked works.old job works.new) }
-        ensures others { (other : JobNo) → same_job job other ≡ false → IsSameFor other works.old works.new }
+        ensures place { IfOk result (λ made. WaitsForPlace made self.old works.old id.now len self.new works.new) }
+        ensures line { OnOk result (HasAsked works.old id.now.job works.new) }
+        ensures others { (other : JobNo) → same_job id.now.job other ≡ false → IsSameFor other works.old works.new }
         ensures memory { (r : Refusal) → IsErrOf result r → r ≡ NoMemory }
         ensures err { OnErr result (self.new ≡ self.old) }
         ensures works { OnErr result (works.new ≡ works.old) }
     {
         match self.plan_room(alloc, works, len)? {
-            RoomPlan::Place(victims) => Ok(MadeRoom::Place(victims)),
-            RoomPlan::Ask(ids) => self.ask_writes(alloc, job, works, ids.as_slice()),
+            RoomPlan::Place(victims) => {
+                // the copies that go are others, and make room
+                if !self.fits_without(alloc, id, len, victims.as_slice())? {
+                    return Ok(MadeRoom::Told(Refusal::Full));
+                }
+                Ok(MadeRoom::Place(victims))
+            }
+            RoomPlan::Ask(ids) => self.ask_writes(alloc, id.job(), works, ids.as_slice()),
             RoomPlan::TellFailedSpill => {
                 self.forget_failed_spill();
                 Ok(MadeRoom::Told(Refusal::DeviceFailed))
             }
             RoomPlan::Refuse(refusal) => Ok(MadeRoom::Told(refusal)),
         }
+    }
+
+    /// Whether the object, of `len` bytes, can take a place once these copies are evicted. The error is out of memory.
+    fn fits_without(
+        &self,
+        alloc: Global,
+        id: &ObjectId,
+        len: u32,
+        victims: &[ObjectId],
+    ) -> Result<bool, Refusal>
+        ensures ok { IfOk result (λ fits. fits ≡ fits_without_lem self.now id.now len victims.now) }
+        ensures placed { ArePlaced self.now.window.placed (place_of self.now.copies) }
+        ensures memory { (r : Refusal) → result ≡ Err r → r ≡ Refusal.NoMemory }
+    {
+        let copies = self.copies();
+        if !self.may_replace(id, len, victims) {
+            return Ok(false);
+        }
+        let gone = extents_by_offset(alloc, copies, victims)?;
+        Ok(self.window().fits_without(&gone, len).is_some())
+    }
+
+    /// Whether the object is none of these copies, which are no more than there are, and of a length for the window.
+    fn may_replace(&self, id: &ObjectId, len: u32, victims: &[ObjectId]) -> bool
+        ensures { result ≡ not (is_among_lem victims.now id.now) && (nat_le (length victims.now) (length self.now.copies) && is_size self.now.window.quota len) }
+    {
+        !is_among(victims, id)
+            && victims.len() <= self.copies().len()
+            && self.window().may_have(len)
     }
 
     /// Asks for the job's writes of these copies, which is told `Pending`.
@@ -135,7 +177,7 @@ impl JobRow {
         ensures ok { IfOk result (λ made. (hands : List Hand) (bytes : ObjectId → List ℕ) (contents : Contents) (n : ℕ) → job ≡ record { 0 = self.old.job } → IsShown self.old (beside_of works.old hands bytes self.old.job) contents
             → AsksWrites (make_room self.old.order (shape_of self.old (beside_of works.old hands bytes self.old.job)) n) (shape_of self.old (beside_of works.old hands bytes self.old.job)) ids.now
             → IsMade made self.old (beside_of works.old hands bytes self.old.job) contents n self.new (beside_of works.new hands bytes self.old.job)) }
-        ensures place { IfOk result (λ made. WaitsForPlace made self.old works.old self.new works.new) }
+        ensures told { IfOk result (λ made. is_told made ≡ true) }
         ensures line { OnOk result (HasAsked works.old job works.new) }
         ensures others { (other : JobNo) → same_job job other ≡ false → IsSameFor other works.old works.new }
         ensures memory { (r : Refusal) → IsErrOf result r → r ≡ NoMemory }
@@ -150,6 +192,13 @@ impl JobRow {
         self.spill_copies(ids);
         Ok(MadeRoom::Told(Refusal::Pending))
     }
+}
+
+/// Whether the id is one of these.
+fn is_among(ids: &[ObjectId], id: &ObjectId) -> bool
+    ensures { result ≡ is_among_lem ids.now id.now }
+{
+    ids.contains(id)
 }
 
 /// What a plan is to a job whose works had numbers up to this one, and of which a spill failed or not.

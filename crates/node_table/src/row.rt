@@ -1,35 +1,40 @@
 //! The row of one job.
-ghost use Rattle.std.specs.Prelude.{◌≡◌, ◌≢◌, ◌||◌, ℕ, ◌+◌, ◌^◌, ◌≤◌, ◌<◌, nat_eq, take, drop, length, true, false, Some, None, IfOk, IfErr, IfSome, IfNone, OnOk, OnErr, IsOk, IsErrOf, option_to_list};
+ghost use Rattle.std.specs.Prelude.{◌≡◌, ◌≢◌, ◌||◌, ℕ, ◌+◌, ◌^◌, ◌≤◌, ◌<◌, nat_eq, take, drop, length, true, false, Some, None, IfOk, IfErr, IfSome, IfNone, OnOk, OnErr, IsOk, IsErr, IsErrOf, option_to_list, ◌&&◌, is_some};
 ghost use Rattle.std.specs.Map.{set_value};
 ghost use Rattle.obj_id.specs.declared.works.Extent.{Extent};
 ghost use Rattle.obj_id.specs.declared.refusals.Refusal.{Refusal};
 ghost use Rattle.obj_id.specs.declared.refusals.Refusal.TheVariants.{NoMemory};
 ghost use Rattle.private_store.specs.Tables.{at, with_entry, is_among};
-ghost use Rattle.private_store.specs.Extents.{first, is_size};
 ghost use Rattle.private_store.specs.Copies.{extent_of};
 ghost use Rattle.private_store.specs.Contents.{overwritten};
-ghost use Rattle.private_store.specs.Commands.{counted, chunk_count};
-ghost use Rattle.job_region.specs.Region.{bytes_at as placed_bytes, extents_of};
+ghost use Rattle.job_region.specs.Region.{bytes_at as placed_bytes, resize_check};
 ghost use Rattle.std.specs.Option.{option_map_or};
 ghost use Rattle.private_store.specs.Copies.{is_created};
-ghost use Rattle.private_store.specs.Kept.{is_remembered};
+ghost use Rattle.private_store.specs.Kept.{is_remembered, is_restoring};
+ghost use Rattle.node_table.specs.Usages.{is_spilling};
+ghost use Rattle.node_table.specs.Answering.{written_row, refilled, lost_row};
 ghost use Rattle.lru_evictor.specs.Orders.{order_of, touched, last_used};
 ghost use Rattle.node_table.specs.Entries.{changed, all_changed, each_changed};
-ghost use Rattle.node_table.specs.Kept.{Kept, sealed, held, released, left, spilling_if, fetched_kept, unpinned, borrowed, given_up, doomed, fault_told, new_kept, waits_for_place, pulled};
+ghost use Rattle.node_table.specs.Kept.{Kept, sealed, held, released, left, spilling_if, fetched_kept, unpinned, borrowed, given_up, doomed, fault_told, new_kept, waits_for_place, placed_for, CanAwait};
 ghost use Rattle.node_table.specs.Checks.{release_check, borrow_check};
+ghost use Rattle.node_table.specs.Quotas.{requoted};
 ghost use Rattle.node_table.specs.Scope.{with_copy};
 ghost use Rattle.node_table.specs.Row.{Row, new_row, place_of, ArePlaced};
+ghost use Rattle.node_table.specs.EndingTasks.{task_row};
 ghost use Rattle.node_table.specs.Dropping.{dropped, settled_row, keys_settled, unheld_row};
 ghost use Rattle.node_table.specs.Holding.{IsUnreadyAt, IsHoldRefusedAt, IsRowHeld};
-ghost use Rattle.node_table.specs.Evicting.{placed_without, without_missing, IsReplaced};
+ghost use Rattle.node_table.specs.Evicting.{fits_without, without_missing, IsReplaced};
+ghost use Rattle.private_store.specs.Kept.{is_fetching};
+ghost use Rattle.node_table.specs.Arriving.{located, gap_closed, brought, unfetched_row};
 
 use crate::copies::Copies;
-use crate::copy::RowCopy;
+use crate::copy::{Awaited, RowCopy};
 use indexmap::IndexSet;
 use job_region::Window;
 use lru_evictor::{UseOrder, extents_by_offset};
-use obj_id::{DeviceKey, Digest, Extent, JobNo, Kind, ObjectId, Quota, Refusal, TaskNo};
-use std::alloc::Global;
+use obj_id::{DeviceKey, Digest, Extent, JobNo, Kind, Location, ObjectId, Quota, Refusal, TaskNo};
+use private_store::{Fault, FetchFault};
+use std::alloc::{AllocError, Global};
 use std::marker::Model;
 
 /// What a node keeps of one live job. A contract sees the job's store without contents in it, and the
@@ -97,6 +102,23 @@ impl JobRow {
         }
     }
 
+    /// The job may have so many bytes in its window and on the device. The error is out of memory, which a narrower window
+    /// never is, and then nothing has changed.
+    pub(crate) fn set_quota(&mut self, quota: Quota) -> Result<(), AllocError>
+        requires { resize_check self.old.window quota.window ≡ None }
+        ensures ok { OnOk result (self.new ≡ requoted self.old quota) }
+        ensures memory { IsErr result → self.old.window.quota < quota.window }
+        ensures err { OnErr result (self.new ≡ self.old) }
+    {
+        match self.window.resize(quota.window) {
+            Err(_) => Err(AllocError),
+            Ok(()) => {
+                self.device = quota.device;
+                Ok(())
+            }
+        }
+    }
+
     /// Its copies.
     pub(crate) fn copies(&self) -> &Copies
         ensures copies { result.now ≡ self.now.copies }
@@ -134,11 +156,11 @@ impl JobRow {
         &self.order
     }
 
-    /// Whether the id is in the order of use, or among these.
-    pub(crate) fn is_listed(&self, id: &ObjectId, ids: &[ObjectId]) -> bool
-        ensures { result ≡ is_among ids.now id.now || is_among self.now.order id.now }
+    /// Whether the id is in the order of use.
+    pub(crate) fn is_listed(&self, id: &ObjectId) -> bool
+        ensures { result ≡ is_among self.now.order id.now }
     {
-        ids.contains(id) || self.order.has(self.job, id)
+        self.order.has(self.job, id)
     }
 
     /// Where the copy lies in the window, if it is there and resident.
@@ -215,11 +237,38 @@ impl JobRow {
         self.spill_failed = false;
     }
 
+    /// Whether a spill failed since room was last refused for it, put back after a step that isn't to tell of it.
+    pub(crate) fn put_spill_failed(&mut self, spill_failed: bool)
+        ensures { self.new ≡ record self.old { spill_failed = spill_failed } }
+    {
+        self.spill_failed = spill_failed;
+    }
+
     /// Whether the task has ended here. Looks it up once.
     pub(crate) fn has_ended(&self, task: TaskNo) -> bool
         ensures { result ≡ is_remembered self.now.ended_tasks task }
     {
         self.ended_tasks.contains(&task)
+    }
+
+    /// How many tasks have ended here.
+    pub(crate) fn ended_count(&self) -> usize
+        ensures { result ≡ length self.now.ended_tasks }
+    {
+        self.ended_tasks.len()
+    }
+
+    /// The task is remembered as the last one that ended, and no hand of its objects stands any more. The error is
+    /// out of memory, and then nothing has changed.
+    pub(crate) fn remember_end(&mut self, task: TaskNo) -> Result<(), AllocError>
+        requires { is_remembered self.old.ended_tasks task ≡ false }
+        ensures ok { OnOk result (self.new ≡ task_row task self.old) }
+        ensures placed { OnOk result (ArePlaced self.old.window.placed (place_of self.old.copies)) }
+        ensures err { OnErr result (self.new ≡ self.old) }
+    {
+        self.ended_tasks.insert(task)?;
+        self.copies.end_hands(task);
+        Ok(())
     }
 
     /// A copy that is on its way, under this number, and the most recently used. The error is want of
@@ -244,9 +293,9 @@ impl JobRow {
         Ok(())
     }
 
-    /// The victims are evicted, and a copy to be written, of `len` bytes, takes the first place that there is then:
-    /// it is of zeros, and the most recently used. `None` where there is no place, and then nothing has
-    /// changed, as after an error, which is out of memory.
+    /// The victims are evicted, and the job has a copy of the object to be written, at the first place for its `len` bytes
+    /// that there is then, of zeros; it is the most recently used one. The error is out of memory, and then nothing has
+    /// changed.
     pub(crate) fn replace_copies(
         &mut self,
         alloc: Global,
@@ -254,21 +303,18 @@ impl JobRow {
         kind: Kind,
         len: u32,
         victims: &[ObjectId],
-    ) -> Result<Option<Extent>, Refusal>
-        requires size { is_size self.old.window.quota len ≡ true }
+    ) -> Result<Extent, Refusal>
+        requires fits { fits_without self.old id.now len victims.now ≡ true }
         requires absent { at self.old.copies id.now ≡ None }
         requires unlisted { is_among self.old.order id.now ≡ false }
-        requires stays { is_among victims.now id.now ≡ false }
         ensures placed { ArePlaced self.old.window.placed (place_of self.old.copies) }
-        ensures some { IfOk result (λ o. IfSome o (λ e. IsReplaced self.old (Some id.now) id.now (new_kept kind len) len victims.now e self.new)) }
-        ensures none { IfOk result (λ o. IfNone o (first (extents_of (placed_without self.old victims.now)) self.old.window.quota len ≡ None)) }
-        ensures same { IfOk result (λ o. IfNone o (self.new ≡ self.old)) }
+        ensures ok { IfOk result (λ e. IsReplaced self.old (Some id.now) id.now (new_kept kind len) len victims.now e self.new) }
         ensures memory { (r : Refusal) → IsErrOf result r → r ≡ NoMemory }
         ensures err { OnErr result (self.new ≡ self.old) }
     {
         let gone = extents_by_offset(alloc, &self.copies, victims)?;
         let Some(offset) = self.window.fits_without(&gone, len) else {
-            return Ok(None);
+            unreachable!()
         };
         self.copies
             .insert(*id, RowCopy::created(alloc, kind, len, offset))?;
@@ -285,46 +331,86 @@ impl JobRow {
             Ok(extent) => {
                 self.copies.evict_all(victims);
                 forget_missing(&mut self.order, self.job, &self.copies, victims);
-                Ok(Some(extent))
+                Ok(extent)
             }
         }
     }
 
     /// The victims are evicted, and the copy of the id, which has no place, takes the first one for its `len` bytes that
-    /// there is then: of zeros, and if its source is known all chunks are missing. `None` where there is no place, and
-    /// then nothing has changed, as after an error, which is out of memory.
-    pub(crate) fn pull_copy(
+    /// there is then: of zeros, and it waits for this there. The error is out of memory, and then nothing has changed.
+    pub(crate) fn place_copy(
         &mut self,
         alloc: Global,
         id: &ObjectId,
         len: u32,
         victims: &[ObjectId],
-        missing: Vec<u32>,
-    ) -> Result<Option<Extent>, Refusal>
-        requires size { is_size self.old.window.quota len ≡ true }
+        awaited: Awaited,
+    ) -> Result<Extent, Refusal>
+        requires fits { fits_without self.old id.now len victims.now ≡ true }
         requires waits { option_map_or (waits_for_place len) (at self.old.copies id.now) false ≡ true }
-        requires missing { missing.items ≡ counted 0 (chunk_count len) }
-        requires stays { is_among victims.now id.now ≡ false }
+        requires awaits { (k : Kept) → at self.old.copies id.now ≡ Some k → CanAwait awaited k }
         ensures placed { ArePlaced self.old.window.placed (place_of self.old.copies) }
-        ensures some { IfOk result (λ o. IfSome o (λ e. (k : Kept) → at self.old.copies id.now ≡ Some k → IsReplaced self.old None id.now (λ offset. pulled offset k) len victims.now e self.new)) }
-        ensures none { IfOk result (λ o. IfNone o (first (extents_of (placed_without self.old victims.now)) self.old.window.quota len ≡ None)) }
-        ensures same { IfOk result (λ o. IfNone o (self.new ≡ self.old)) }
+        ensures ok { IfOk result (λ e. (k : Kept) → at self.old.copies id.now ≡ Some k → IsReplaced self.old None id.now (λ offset. placed_for awaited offset k) len victims.now e self.new) }
         ensures memory { (r : Refusal) → IsErrOf result r → r ≡ NoMemory }
         ensures err { OnErr result (self.new ≡ self.old) }
     {
         let gone = extents_by_offset(alloc, &self.copies, victims)?;
-        if self.window.fits_without(&gone, len).is_none() {
-            return Ok(None);
-        }
         match self.window.replace(alloc, &gone, len) {
             Err(_) => Err(Refusal::NoMemory),
             Ok(extent) => {
-                self.copies.begin_pull(id, extent.offset, missing);
+                self.copies.take_place(id, extent.offset, awaited);
                 self.copies.evict_all(victims);
                 forget_missing(&mut self.order, self.job, &self.copies, victims);
-                Ok(Some(extent))
+                Ok(extent)
             }
         }
+    }
+
+    /// The directory's answer at this node, which counts for the copy's fetch of this number while its source isn't
+    /// known. Takes no memory.
+    pub(crate) fn locate_copy(
+        &mut self,
+        id: &ObjectId,
+        node: u32,
+        number: u64,
+        entries: &[Location],
+    )
+        ensures { self.new ≡ with_copy (located node number entries.now) self.old id.now }
+    {
+        self.copies.locate(id, node, number, entries);
+    }
+
+    /// A chunk of `len` bytes came: the gap of the copy that it fills is closed. Takes no memory.
+    pub(crate) fn take_chunk(
+        &mut self,
+        id: &ObjectId,
+        number: u64,
+        from: u32,
+        index: u32,
+        len: usize,
+    )
+        ensures { self.new ≡ with_copy (gap_closed number from index len) self.old id.now }
+    {
+        self.copies.take_chunk(id, number, from, index, len);
+    }
+
+    /// All bytes of the copy are there: it is sealed. Takes no memory.
+    pub(crate) fn bring_copy(&mut self, id: &ObjectId)
+        requires { option_map_or (λ k. is_fetching k.copy.state && is_some k.digest) (at self.old.copies id.now) true ≡ true }
+        ensures { self.new ≡ with_copy brought self.old id.now }
+    {
+        self.copies.bring(id);
+    }
+
+    /// The fetch of the copy is over without it: its place is free, and the next Get is told why. Takes no memory.
+    pub(crate) fn fail_fetch(&mut self, id: &ObjectId, fault: FetchFault)
+        requires { option_map_or (λ k. is_fetching k.copy.state) (at self.old.copies id.now) true ≡ true }
+        ensures row { self.new ≡ unfetched_row fault self.old id.now }
+        ensures placed { ArePlaced self.old.window.placed (place_of self.old.copies) }
+    {
+        let gone = self.place(id);
+        self.window.give_back_all(gone.as_slice());
+        self.copies.fail_fetch(id, fault);
     }
 
     /// Writes of these copies are in flight, where they can be. Takes no memory.
@@ -332,6 +418,37 @@ impl JobRow {
         ensures { self.new ≡ record self.old { copies = each_changed spilling_if self.old.copies ids.now } }
     {
         self.copies.begin_spills(ids);
+    }
+
+    /// The write of the copy under this number ended: its bytes are on the device; or it failed, and the next one that
+    /// waits for room by spilling is told so. Takes no memory.
+    pub(crate) fn end_spill(&mut self, id: &ObjectId, number: u64, failed: bool)
+        requires { option_map_or is_spilling (at self.old.copies id.now) true ≡ true }
+        ensures { self.new ≡ written_row number failed self.old id.now }
+    {
+        self.copies.end_spill(id, number, failed);
+        self.spill_failed = failed || self.spill_failed;
+    }
+
+    /// The read of the copy ended, and brought these bytes: it is sealed again, with the bytes in its place. Takes no
+    /// memory.
+    pub(crate) fn end_restore(&mut self, id: &ObjectId, bytes: &[u8])
+        requires { option_map_or (λ k. is_restoring k.copy.state) (at self.old.copies id.now) true ≡ true }
+        ensures { (e : Extent) → place_of self.old.copies id.now ≡ Some e → length bytes.now ≤ e.length → self.new ≡ refilled e bytes.now self.old id.now }
+    {
+        self.put_bytes(id, 0, bytes);
+        self.copies.end_restore(id);
+    }
+
+    /// The read of the copy ended without its bytes: it is away again with this fault, and its place is free. Takes no
+    /// memory.
+    pub(crate) fn lose(&mut self, id: &ObjectId, fault: Fault)
+        requires { option_map_or (λ k. is_restoring k.copy.state) (at self.old.copies id.now) true ≡ true }
+        ensures { self.new ≡ lost_row fault self.old id.now }
+    {
+        let gone = self.place(id);
+        self.window.give_back_all(gone.as_slice());
+        self.copies.lose(id, fault);
     }
 
     /// One hold of the session on the copy less. `Absent`, `NotHeld` where it has none; a refusal changes
@@ -427,7 +544,8 @@ impl JobRow {
 
     /// Writes bytes into a resident copy from the offset on.
     pub(crate) fn put_bytes(&mut self, id: &ObjectId, offset: u32, bytes: &[u8])
-        ensures { (e : Extent) → place_of self.old.copies id.now ≡ Some e → offset + length bytes.now ≤ e.length
+        ensures copies { self.new.copies ≡ self.old.copies }
+        ensures row { (e : Extent) → place_of self.old.copies id.now ≡ Some e → offset + length bytes.now ≤ e.length
             → self.new ≡ record self.old { window = record self.old.window { placed = set_value (nat_eq e.offset) self.old.window.placed (overwritten (placed_bytes e self.old.window.placed) offset bytes.now) } } }
     {
         let Some(extent) = self.place(id) else {

@@ -13,4 +13,4 @@ returns-clause-plan c hands bytes contents h =
     plan_exit c.args.self.now (beside_of c.args.works.now hands bytes c.args.self.now.job) contents h c.copies-copies.ensures.placed c.args.len c.job-job.result c.job-job.ensures
     c.window-window.result.now c.window-window.ensures c.copies-copies.result.now c.copies-copies.ensures.copies c.device.result c.device_bytes.result c.in_flight.result
     c.device.ensures c.device_bytes.ensures c.args.works.now refl refl c.in_flight.ensures c.use_order-order.result.now c.use_order-order.ensures
-    c.in_ok-plan.plan c.in_ok-plan.ensures.plan c.asked.result c.asked.ensures c.spill_failed.result c.spill_failed.ensures c.room_plan.result c.room_plan.ensures
+    c.in_ok-plan.plan c.in_ok-plan.ensures.plan c.asked.result c.asked.ensures.last c.spill_failed.result c.spill_failed.ensures c.room_plan.result c.room_plan.ensures

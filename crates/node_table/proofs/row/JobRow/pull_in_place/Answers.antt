@@ -1,5 +1,4 @@
 use Rattle.std.proofs.Common.{◌≡◌, Some, None, length, List, Option, [], ◌∷◌, ◌++◌, sym, ap, subst, ◌∙◌, arith}
-use Rattle.std.specs.Prelude.{IfSome, IfNone}
 use Rattle.obj_id.specs.declared.commands.Command.TheVariants as command
 use Rattle.obj_id.specs.declared.commands.CopyState.TheVariants.{Fetching}
 use Rattle.obj_id.specs.declared.commands.Reply.TheVariants as reply
@@ -8,56 +7,32 @@ use Rattle.obj_id.specs.declared.works.Extent.{Extent}
 use Rattle.job_region.specs.Region.{extents_of}
 use Rattle.private_store.specs.declared.inputs.Input.TheVariants as input
 use Rattle.private_store.specs.Extents.{first}
+use Rattle.private_store.specs.Commands.{counted, chunk_count}
+use Rattle.private_store.specs.Kept.{is_fetching}
 use Rattle.private_store.specs.Private.{Post}
 use Rattle.private_store.specs.Room.{make_room}
 use Rattle.private_store.specs.Shape.{sized}
 use Rattle.private_store.specs.Tables.{at}
 use Rattle.private_store.proofs.Tests.{true_false, some_value}
-use Rattle.node_table.specs.Evicting.{IsReplaced, placed_without, replaced, removals}
+use Rattle.node_table.specs.Evicting.{IsReplaced, placed_without, fits_without, replaced, removals}
 use Rattle.node_table.specs.Kept.{Kept, pulled}
 use Rattle.node_table.specs.RoomPlans.{MakesPlace}
 use Rattle.node_table.specs.Row.{shape_of}
 use Rattle.node_table.specs.Shown.{Given, TakesStep}
 use Rattle.node_table.proofs.Evicting.{length-removals}
 use Rattle.node_table.proofs.Fetching.{phase_is}
-use Rattle.node_table.proofs.Getting.{each_ok, some_at}
-use Rattle.node_table.proofs.Pulling.{waiting, sized_at, quiet_get, f, by_room, no_victim_here, pull_done, still_plain, length_more}
-use Rattle.node_table.proofs.Rooms.{has_place, few_victims}
+use Rattle.node_table.proofs.Getting.{some_at, seen_at}
+use Rattle.node_table.proofs.Pulling.{waiting, sized_at, quiet_get, stays_of, few_of, pull_done, length_more}
 use Rattle.node_table.proofs.row.JobRow.pull_in_place.Goals as goal
 
-pub returns-then-is_among-clause-ok : goal.returns-then-is_among-clause-ok
-returns-then-is_among-clause-ok c =
-    let v = some_at c.args.self.now.copies c.args.id.now Fetching c.requires.visible in
-    let z = sized_at c.args.self.now c.args.id.now v.k v.found c.requires.sized in
-    let w = waiting c.args.self.now.copies c.args.id.now c.args.len c.requires.waits in
-    let long : c.args.len ≡ v.k.copy.length = sym w.long ∙ ap (λ (y : Kept). y.copy.length) (some_value w.k v.k (sym w.found ∙ v.found)) in
-    each_ok c.told.result (λ o said session beside contents mine h makes.
-    true_false (sym (no_victim_here c.args.node c.args.self.now beside contents h (input.Call session (command.Get c.args.id.now)) (quiet_get c.args.node c.args.self.now beside contents session c.args.id.now) c.args.id.now v.k v.found v.is z.fetch z.source z.fetched z.is z.fine (phase_is c.args.node c.args.self.now beside contents session c.args.id.now mine c.requires.alive h v.k v.found v.stays v.is z.fetch z.fetched (sized z.source) z.is) c.args.victims.now (subst (λ n. MakesPlace (make_room c.args.self.now.order (shape_of c.args.self.now beside) n) (shape_of c.args.self.now beside) n c.args.victims.now) long makes)) ∙ sym c.is_among.ensures ∙ c.if-is_among.true)) c.told.ensures.ok
+pub place_copy-requires-clause-waits : goal.place_copy-requires-clause-waits
+place_copy-requires-clause-waits c = c.requires.waits
 
-pub returns-then-victims-len-clause-ok : goal.returns-then-victims-len-clause-ok
-returns-then-victims-len-clause-ok c =
-    let v = some_at c.args.self.now.copies c.args.id.now Fetching c.requires.visible in
-    let z = sized_at c.args.self.now c.args.id.now v.k v.found c.requires.sized in
+pub place_copy-requires-clause-awaits : goal.place_copy-requires-clause-awaits
+place_copy-requires-clause-awaits c k found =
+    let st = seen_at c.args.self.now.copies c.args.id.now Fetching k found c.requires.visible in
     let w = waiting c.args.self.now.copies c.args.id.now c.args.len c.requires.waits in
-    let long : c.args.len ≡ v.k.copy.length = sym w.long ∙ ap (λ (y : Kept). y.copy.length) (some_value w.k v.k (sym w.found ∙ v.found)) in
-    each_ok c.told-then-victims-len.result (λ o said session beside contents mine h makes.
-    let few = few_victims c.args.node c.args.self.now beside contents h (input.Call session (command.Get c.args.id.now)) (quiet_get c.args.node c.args.self.now beside contents session c.args.id.now) v.k.copy.length (f c.args.node c.args.self.now beside contents h (input.Call session (command.Get c.args.id.now)) (quiet_get c.args.node c.args.self.now beside contents session c.args.id.now) c.args.id.now v.k v.found v.is z.fetch z.source z.fetched z.is z.fine (phase_is c.args.node c.args.self.now beside contents session c.args.id.now mine c.requires.alive h v.k v.found v.stays v.is z.fetch z.fetched (sized z.source) z.is)) (by_room c.args.node c.args.self.now beside contents h (input.Call session (command.Get c.args.id.now)) (quiet_get c.args.node c.args.self.now beside contents session c.args.id.now) c.args.id.now v.k v.found v.is z.fetch z.source z.fetched z.is z.fine (phase_is c.args.node c.args.self.now beside contents session c.args.id.now mine c.requires.alive h v.k v.found v.stays v.is z.fetch z.fetched (sized z.source) z.is)) c.args.victims.now (subst (λ n. MakesPlace (make_room c.args.self.now.order (shape_of c.args.self.now beside) n) (shape_of c.args.self.now beside) n c.args.victims.now) long makes) in
-    let counted = c.len.ensures.len ∙ ap length c.copies.ensures.copies in
-    let more = c.if-victims-len.true in
-    absurd (omega (arith, few, counted, more))) c.told-then-victims-len.ensures.ok
-
-pub pull_copy-requires-clause-waits : goal.pull_copy-requires-clause-waits
-pull_copy-requires-clause-waits c = c.requires.waits
-
-pub returns-in_default-clause-ok : goal.returns-in_default-clause-ok
-returns-in_default-clause-ok c =
-    let v = some_at c.args.self.now.copies c.args.id.now Fetching c.requires.visible in
-    let z = sized_at c.args.self.now c.args.id.now v.k v.found c.requires.sized in
-    let w = waiting c.args.self.now.copies c.args.id.now c.args.len c.requires.waits in
-    let long : c.args.len ≡ v.k.copy.length = sym w.long ∙ ap (λ (y : Kept). y.copy.length) (some_value w.k v.k (sym w.found ∙ v.found)) in
-    let none = subst (λ o. IfNone o (first (extents_of (placed_without c.args.self.now c.args.victims.now)) c.args.self.now.window.quota c.args.len ≡ None)) c.in_default.is c.in_ok-_extent.ensures.none in
-    each_ok c.told-in_default.result (λ o said session beside contents mine h makes.
-    absurd (has_place c.args.node c.args.self.now beside contents h (input.Call session (command.Get c.args.id.now)) (quiet_get c.args.node c.args.self.now beside contents session c.args.id.now) v.k.copy.length (f c.args.node c.args.self.now beside contents h (input.Call session (command.Get c.args.id.now)) (quiet_get c.args.node c.args.self.now beside contents session c.args.id.now) c.args.id.now v.k v.found v.is z.fetch z.source z.fetched z.is z.fine (phase_is c.args.node c.args.self.now beside contents session c.args.id.now mine c.requires.alive h v.k v.found v.stays v.is z.fetch z.fetched (sized z.source) z.is)) (by_room c.args.node c.args.self.now beside contents h (input.Call session (command.Get c.args.id.now)) (quiet_get c.args.node c.args.self.now beside contents session c.args.id.now) c.args.id.now v.k v.found v.is z.fetch z.source z.fetched z.is z.fine (phase_is c.args.node c.args.self.now beside contents session c.args.id.now mine c.requires.alive h v.k v.found v.stays v.is z.fetch z.fetched (sized z.source) z.is)) c.args.victims.now (subst (λ n. MakesPlace (make_room c.args.self.now.order (shape_of c.args.self.now beside) n) (shape_of c.args.self.now beside) n c.args.victims.now) long makes) c.pull_copy.ensures.placed (ap (λ n. first (extents_of (placed_without c.args.self.now c.args.victims.now)) c.args.self.now.window.quota n) (sym long) ∙ none))) c.told-in_default.ensures.ok
+    (ap is_fetching st.1, c.in_ok-missing.ensures ∙ ap (λ n. counted 0 (chunk_count n)) (sym w.long ∙ ap (λ (y : Kept). y.copy.length) (some_value w.k k (sym w.found ∙ found))))
 
 pub returns-clause-ok : goal.returns-clause-ok
 returns-clause-ok c session beside contents mine h makes =
@@ -65,23 +40,21 @@ returns-clause-ok c session beside contents mine h makes =
     let z = sized_at c.args.self.now c.args.id.now v.k v.found c.requires.sized in
     let w = waiting c.args.self.now.copies c.args.id.now c.args.len c.requires.waits in
     let long : c.args.len ≡ v.k.copy.length = sym w.long ∙ ap (λ (y : Kept). y.copy.length) (some_value w.k v.k (sym w.found ∙ v.found)) in
-    let e = c.in-Some._extent in
-    let r : IsReplaced c.args.self.now None c.args.id.now (λ offset. pulled offset v.k) c.args.len c.args.victims.now e c.pull_copy.new.self =
-    subst (λ (o : Option Extent). IfSome o (λ e. (k : Kept) → at c.args.self.now.copies c.args.id.now ≡ Some k → IsReplaced c.args.self.now None c.args.id.now (λ offset. pulled offset k) c.args.len c.args.victims.now e c.pull_copy.new.self)) c.in-Some.is c.in_ok-_extent.ensures.some v.k v.found in
+    let e = c.in_ok-place_copy.field-0 in
+    let r : IsReplaced c.args.self.now None c.args.id.now (λ offset. pulled offset v.k) c.args.len c.args.victims.now e c.place_copy.new.self =
+    c.in_ok-place_copy.ensures.ok v.k v.found in
     let posts_is = c.in_ok-push.ensures.ok
-    ∙ (λ i. (c.in_ok-messages.ensures ∙ ap (λ t. removals c.args.node t c.args.victims.now) c.copies-2.ensures.copies) i ++ c.in_ok-question.ensures v.k z.fetch z.source v.found z.fetched z.is i ∷ []) in
-    subst (λ g. TakesStep c.args.node c.args.self.now beside contents (input.Call session (command.Get c.args.id.now)) g c.pull_copy.new.self beside) (sym c.pending.ensures)
+    ∙ (λ i. (c.in_ok-messages.ensures ∙ ap (λ t. removals c.args.node t c.args.victims.now) c.copies.ensures.copies) i ++ c.in_ok-question.ensures v.k z.fetch z.source v.found z.fetched z.is i ∷ []) in
+    subst (λ g. TakesStep c.args.node c.args.self.now beside contents (input.Call session (command.Get c.args.id.now)) g c.place_copy.new.self beside) (sym c.pending.ensures)
     (subst (λ row. TakesStep c.args.node c.args.self.now beside contents (input.Call session (command.Get c.args.id.now)) (record { reply = reply.Refused Pending; posts = c.push.new.self; erased = [] }) row beside) (sym (r.row ∙ ap (λ n. replaced c.args.self.now None c.args.id.now (pulled e.offset v.k) n e.offset c.args.victims.now) long))
     (subst (λ (ps : List Post). TakesStep c.args.node c.args.self.now beside contents (input.Call session (command.Get c.args.id.now)) (record { reply = reply.Refused Pending; posts = ps; erased = [] }) (replaced c.args.self.now None c.args.id.now (pulled e.offset v.k) v.k.copy.length e.offset c.args.victims.now) beside) (sym posts_is)
-    (pull_done c.args.node c.args.self.now beside contents h (input.Call session (command.Get c.args.id.now)) (quiet_get c.args.node c.args.self.now beside contents session c.args.id.now) c.args.id.now v.k v.found v.is z.fetch z.source z.fetched z.is z.fine (phase_is c.args.node c.args.self.now beside contents session c.args.id.now mine c.requires.alive h v.k v.found v.stays v.is z.fetch z.fetched (sized z.source) z.is) c.args.victims.now (subst (λ n. MakesPlace (make_room c.args.self.now.order (shape_of c.args.self.now beside) n) (shape_of c.args.self.now beside) n c.args.victims.now) long makes) c.pull_copy.ensures.placed w.nowhere e.offset
-    (ap (λ n. first (extents_of (placed_without c.args.self.now c.args.victims.now)) c.args.self.now.window.quota n) (sym long) ∙ r.least) r.fresh
-    (still_plain e.offset v.k v.is (h.plain c.args.id.now v.k v.found)))))
+    (pull_done c.args.node c.args.self.now beside contents h (input.Call session (command.Get c.args.id.now)) (quiet_get c.args.node c.args.self.now beside contents session c.args.id.now) c.args.id.now v.k v.found v.is z.fetch z.source z.fetched z.is z.fine (phase_is c.args.node c.args.self.now beside contents session c.args.id.now mine c.requires.alive h v.k v.found v.stays v.is z.fetch z.fetched (sized z.source) z.is) c.args.victims.now (subst (λ n. MakesPlace (make_room c.args.self.now.order (shape_of c.args.self.now beside) n) (shape_of c.args.self.now beside) n c.args.victims.now) long makes) c.place_copy.ensures.placed w.nowhere (stays_of c.args.self.now c.args.id.now v.k.copy.length c.args.victims.now (ap (λ n. fits_without c.args.self.now c.args.id.now n c.args.victims.now) (sym long) ∙ c.requires.fits)) e.offset
+    (ap (λ n. first (extents_of (placed_without c.args.self.now c.args.victims.now)) c.args.self.now.window.quota n) (sym long) ∙ r.least) r.fresh)))
 
 pub returns-clause-few : goal.returns-clause-few
 returns-clause-few c =
-    let counted = c.len.ensures.len ∙ ap length c.copies.ensures.copies in
-    let few = c.if-victims-len.false in
-    let sent = length-removals c.args.node c.copies-2.result.now c.args.victims.now in
+    let few = few_of c.args.self.now c.args.id.now c.args.len c.args.victims.now c.requires.fits in
+    let sent = length-removals c.args.node c.copies.result.now c.args.victims.now in
     let told = ap length c.in_ok-messages.ensures in
     let all = ap (λ (g : Given). length g.posts) c.pending.ensures ∙ ap length c.in_ok-push.ensures.ok ∙ length_more c.in_ok-messages.messages c.in_ok-question.field-0 in
-    omega (arith, counted, few, sent, told, all)
+    omega (arith, few, sent, told, all)

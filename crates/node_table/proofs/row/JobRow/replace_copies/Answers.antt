@@ -1,26 +1,28 @@
-use Rattle.std.proofs.Common.{◌≡◌, ℕ, nat_eq, false, replicate, List, Some, None, refl, sym, ap, subst, ◌∙◌}
+use Rattle.std.proofs.Common.{◌≡◌, ℕ, nat_eq, false, replicate, List, Some, None, is_some, refl, sym, ap, subst, ◌∙◌}
 use Rattle.std.specs.Map.{lookup}
 use Rattle.std.specs.Option.{option_and_then}
 use Rattle.private_store.specs.Copies.{extent_of}
 use Rattle.obj_id.specs.declared.ids.ObjectId.{ObjectId}
 use Rattle.private_store.specs.Tables.{ById, at, with_entry, without_entry, is_among}
 use Rattle.private_store.specs.Extents.{first}
-use Rattle.private_store.proofs.Tests.{some_value}
+use Rattle.private_store.proofs.Tests.{some_value, true_false}
 use Rattle.job_region.specs.Region.{Region, extents_of, put_in}
 use Rattle.lru_evictor.specs.Orders.{order_of, without_id}
 use Rattle.node_table.specs.Evicting.{all_evicted, placed_without, replaced, without_missing}
 use Rattle.node_table.specs.Kept.{Kept, new_kept}
 use Rattle.node_table.specs.Row.{Row, place_of, ArePlaced}
 use Rattle.node_table.proofs.Changes.{put_back, of_err, of_ok}
+use Rattle.node_table.proofs.Pulling.{stays_of, place_there}
 use Rattle.node_table.proofs.Replacing.{left_sorted, forgotten, replaced_placed}
 use Rattle.node_table.proofs.row.JobRow.replace_copies.Goals as goal
 
-pub returns-in_default-clause-none : goal.returns-in_default-clause-none
-returns-in_default-clause-none c =
-    ap (λ (r : Row). first (extents_of (placed_without r c.args.victims.now)) r.window.quota c.args.len) (sym c.self.view_is)
+pub unreachable-requires : goal.unreachable-requires
+unreachable-requires c =
+    let none = ap (λ (r : Row). first (extents_of (placed_without r c.args.victims.now)) r.window.quota c.args.len) (sym c.self.view_is)
     ∙ ap (λ ps. first (extents_of ps) c.self.inside.window.quota c.args.len)
     (sym (left_sorted c.self.inside.copies c.args.victims.now c.self.inside.window.placed c.in_ok-gone.gone.items c.deref.result.now c.in_ok-gone.ensures.permutation c.deref.ensures.value))
-    ∙ sym c.fits_without.ensures ∙ c.in_default.is
+    ∙ sym c.fits_without.ensures ∙ c.in_default.is in
+    true_false (sym (ap is_some none) ∙ place_there c.args.self.now c.args.id.now c.args.len c.args.victims.now c.requires.fits)
 
 pub invariant_of-self-then-is_err : goal.invariant_of-self-then-is_err
 invariant_of-self-then-is_err c =
@@ -71,10 +73,10 @@ invariant_of-self-in-Ok c =
     subst (λ t. ArePlaced c.replace.new.self.placed (place_of t)) (sym copies)
     (subst (λ ps. ArePlaced ps (place_of (all_evicted c.args.victims.now (with_entry c.self.inside.copies c.args.id.now (new_kept c.args.kind c.args.len c.in-Ok.extent.offset))))) (sym placed)
     (replaced_placed c.self.inside.copies c.self.inside.window.placed c.self.invariant c.args.victims.now c.args.id.now (new_kept c.args.kind c.args.len c.in-Ok.extent.offset) c.args.len c.in-Ok.extent.offset
-    (ap (option_and_then (λ (k : Kept). extent_of k.copy)) none) c.requires.stays refl fresh))
+    (ap (option_and_then (λ (k : Kept). extent_of k.copy)) none) (stays_of c.args.self.now c.args.id.now c.args.len c.args.victims.now c.requires.fits) refl fresh))
 
-pub returns-clause-some : goal.returns-clause-some
-returns-clause-some c =
+pub returns-clause-ok : goal.returns-clause-ok
+returns-clause-ok c =
     let left = left_sorted c.self.inside.copies c.args.victims.now c.self.inside.window.placed c.in_ok-gone.gone.items c.deref.result.now c.in_ok-gone.ensures.permutation c.deref.ensures.value in
     let left_then = left_sorted c.self.inside.copies c.args.victims.now c.self.inside.window.placed c.in_ok-gone.gone.items c.deref-2.result.now c.in_ok-gone.ensures.permutation c.deref-2.ensures.value in
     let offset = some_value c.in-Some.offset c.in-Ok.extent.offset

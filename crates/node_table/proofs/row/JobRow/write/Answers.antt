@@ -16,5 +16,5 @@ pub returns : goal.returns
 returns c node beside contents mine h =
     let passed = ap (λ t. write_check t c.args.id.now c.args.offset (length c.args.bytes.now)) (sym c.copies.ensures.copies) ∙ sym c.write_check.ensures ∙ c.in_default.is in
     subst (λ r. TakesStep node c.args.self.now beside contents (input.Call c.args.session (command.Write c.args.id.now c.args.offset c.args.bytes.now)) (only reply.Ok) r beside)
-    (sym (put_so node c.args.self.now beside contents c.args.session c.args.id.now c.args.offset mine h c.args.bytes.now passed c.put_bytes.new.self c.put_bytes.ensures))
+    (sym (put_so node c.args.self.now beside contents c.args.session c.args.id.now c.args.offset mine h c.args.bytes.now passed c.put_bytes.new.self c.put_bytes.ensures.row))
     (write_done node c.args.self.now beside contents c.args.session c.args.id.now c.args.offset mine h c.args.bytes.now passed c.copies.ensures.placed)

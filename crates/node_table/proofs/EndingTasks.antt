@@ -1,0 +1,643 @@
+-- A row takes EndTask: the hands of the task's own objects end, and two walks over all copies follow.
+use Rattle.std.proofs.Common.{◌≡◌, ℕ, Bool, true, false, not, ◌&&◌, ◌||◌, ◌==◌, cond, nat_le, List, [], ◌∷◌, ◌++◌, length, fold, filter, map, flat_map, take, Option, Some, None, is_some, is_none, option_map, unwrap_or, inl, inr, refl, sym, ap, subst, ◌∙◌, T, arith}
+use Rattle.std.specs.Prelude.{option_to_list}
+use Rattle.std.proofs.lemmas.List.{append-nil, append_assoc}
+use Rattle.std.proofs.lemmas.Bool.Decides.{nat_tests}
+use Rattle.std.specs.List.{cons_option}
+use Rattle.std.specs.Option.{option_map_or, option_and_then}
+use Rattle.std.specs.FinMap.Entries.{is_sorted, is_sorted-put, is_sorted-where_key, below_all}
+use Rattle.obj_id.specs.declared.ids.TaskNo.{TaskNo}
+use Rattle.obj_id.specs.declared.ids.ObjectId.{ObjectId}
+use Rattle.obj_id.specs.declared.works.DeviceKey.{DeviceKey}
+use Rattle.obj_id.specs.declared.works.Extent.{Extent}
+use Rattle.obj_id.specs.declared.refusals.Refusal.{Refusal}
+use Rattle.obj_id.specs.declared.refusals.Refusal.TheVariants.{Gone, TooMany}
+use Rattle.obj_id.specs.declared.commands.Command.TheVariants as command
+use Rattle.obj_id.specs.declared.commands.Reply.TheVariants as reply
+use Rattle.obj_id.specs.declared.messages.DirectoryMessage.TheVariants.{RemoveLocation, Free}
+use Rattle.obj_id.specs.Ids.{id_cmp, same_id, same_task}
+use Rattle.obj_id.specs.Kinds.{is_primary}
+use Rattle.obj_id.proofs.SameIds.{same_id-equal, id_cmp-IsTotalOrder}
+use Rattle.private_store.specs.declared.inputs.Input.{Input}
+use Rattle.private_store.specs.declared.inputs.Input.TheVariants as input
+use Rattle.private_store.specs.Limits.{most_ended_tasks}
+use Rattle.private_store.specs.Tables.{ById, at, with_entry, ids_of, is_among}
+use Rattle.private_store.specs.Shape.{Copy, Shape, Change, Sending, HandGiven, free, remove_location}
+use Rattle.private_store.specs.Copies.{extent_of, is_held, is_granted, is_working, is_idle, in_scope, was_sealed}
+use Rattle.private_store.specs.Room.{set_copy, drop_copy}
+use Rattle.private_store.specs.Change.{done, sending, erasing, settled, keys_gone, doom, doom_notice, has_ended}
+use Rattle.private_store.specs.Change as changes
+use Rattle.private_store.specs.Commands.{at_each, give_up_one, of_task, task_ended, end_task, has_borrower, without_borrower}
+use Rattle.private_store.specs.Commands as commands
+use Rattle.private_store.specs.Contents.{Contents, View, judge, keeps_digest, no_digest}
+use Rattle.private_store.specs.Kept.{has_hand}
+use Rattle.private_store.specs.Private.{Post, key_of, posts_of, view_after}
+use Rattle.private_store.specs.Step.{step, reordered}
+use Rattle.private_store.proofs.Checks.{checked-nil}
+use Rattle.private_store.proofs.Filling.{filled}
+use Rattle.private_store.proofs.Tests.{T_true, and_right, none_some, some_value}
+use Rattle.job_region.specs.Region.{bytes_at as placed_bytes}
+use Rattle.lru_evictor.specs.Orders.{AreThere}
+use Rattle.lru_evictor.proofs.Reorders.{reordered-unused}
+use Rattle.node_table.specs.Checks.{end_task_check}
+use Rattle.node_table.specs.Dropping.{dropped, is_over, settled_row}
+use Rattle.node_table.specs.Entries.{by_rising_id}
+use Rattle.node_table.specs.EndingTasks.{hands_ended, beside_ended, beside_after, task_row, doomed_row, doom_posts, given_up_row, give_up_posts, told_each, keys_of_copies, gone_keys, gone_key}
+use Rattle.node_table.specs.Kept.{Kept, doomed, given_up, ungranted}
+use Rattle.node_table.specs.Row.{Row, Beside, copies_of, shape_of, place_of, ArePlaced}
+use Rattle.node_table.specs.Scope.{farewell, farewell_at, posted, with_copy}
+use Rattle.node_table.specs.Shown.{seen, work_on, IsShown, Given, only, TakesStep}
+use Rattle.node_table.proofs.ByChecks.{called, first-check, unless_refused, sending-is}
+use Rattle.node_table.proofs.Changes.{changed-absent}
+use Rattle.node_table.proofs.Changing.{From, from_changed, there_with}
+use Rattle.node_table.proofs.CopyTables.{at-first, at-rest, at-copies, at-copies_found, at-copies_none, copies-changed, copies-without, sorted-copies}
+use Rattle.node_table.proofs.Described.{working-on, idle_same}
+use Rattle.node_table.proofs.Dropping.{moves_left, left_placed}
+use Rattle.node_table.proofs.LeavingEach.{reordered-with, ids-copies}
+use Rattle.node_table.proofs.Places.{changed_placed, same_places}
+use Rattle.node_table.proofs.Rising.{each-rising}
+use Rattle.node_table.proofs.Scoping.{doom-is, scoped-is, scoped-copy, scoped_copy, scoped_told, scoped-minor, doomed-minor, notice_of}
+use Rattle.node_table.proofs.Settling.{IsMinor}
+use Rattle.node_table.proofs.Stepping.{Moves, moved, change, bytes_now, digests_now, same_bytes, received_stays, stays}
+
+-- ---- the hands that end
+
+module _ (job : ℕ) (task : TaskNo) where
+  abbrev lasts : HandGiven → Bool
+  lasts hand = not (hand.id.job.0 == job && same_task task hand.id.task)
+
+  has_hand-ended : (given : List HandGiven) (id : ObjectId) → (id.job.0 == job) ≡ true → has_hand (filter lasts given) id ≡ cond (same_task task id.task) false (has_hand given id)
+  has_hand-ended [] id mine = by (same_task task id.task)
+    where
+      by : (b : Bool) → false ≡ cond b false false
+      by true = refl
+      by false = refl
+  has_hand-ended (hand ∷ given) id mine = by (same_id id hand.id) refl (has_hand-ended given id mine)
+    where
+      rest : List HandGiven
+      rest = filter lasts given
+
+      other : same_id id hand.id ≡ false → (t : Bool) → has_hand (cond t (hand ∷ rest) rest) id ≡ has_hand rest id
+      other s true = ap (λ b. b || has_hand rest id) s
+      other s false = refl
+
+      own : same_id id hand.id ≡ true → (t : Bool) → has_hand rest id ≡ cond t false (has_hand given id) → has_hand (cond (not t) (hand ∷ rest) rest) id ≡ cond t false true
+      own s true later = later
+      own s false later = ap (λ b. b || has_hand rest id) s
+
+      of_it : same_id id hand.id ≡ true → (hand.id.job.0 == job && same_task task hand.id.task) ≡ same_task task id.task
+      of_it s = ap (λ (i : ObjectId). i.job.0 == job && same_task task i.task) (sym (same_id-equal id hand.id s)) ∙ ap (λ b. b && same_task task id.task) mine
+
+      by : (b : Bool) → same_id id hand.id ≡ b → has_hand rest id ≡ cond (same_task task id.task) false (has_hand given id)
+          → has_hand (cond (lasts hand) (hand ∷ rest) rest) id ≡ cond (same_task task id.task) false (b || has_hand given id)
+      by true s later = ap (λ c. has_hand (cond (not c) (hand ∷ rest) rest) id) (of_it s) ∙ own s (same_task task id.task) later
+      by false s later = other s (lasts hand) ∙ later
+
+-- the table of which the hands of the task's objects have ended
+module _ (task : TaskNo) where
+  abbrev pub ended : ObjectId → Kept → Kept
+  ended id k = cond (same_task task id.task) (ungranted k) k
+
+  same_part : {X : Type 0} (part : Kept → X) → ((z : Kept) → part (ungranted z) ≡ part z) → (b : Bool) (z : Kept) → part (cond b (ungranted z) z) ≡ part z
+  same_part part same true z = same z
+  same_part part same false z = refl
+
+  pub ended-rising : (es : List (ObjectId × Kept)) → by_rising_id (map (λ e. (e.0, ended e.0 e.1)) es) ≡ hands_ended task (by_rising_id es)
+  ended-rising es = each-rising ended es
+
+  pub at-ended : (es : ById Kept) (q : ObjectId) → at (hands_ended task es) q ≡ option_map (ended q) (at es q)
+  at-ended [] q = refl
+  at-ended (e ∷ es) q = by (same_id q e.0) refl (at-ended es q)
+    where
+      by : (b : Bool) → same_id q e.0 ≡ b → at (hands_ended task es) q ≡ option_map (ended q) (at es q)
+          → cond b (Some (ended e.0 e.1)) (at (hands_ended task es) q) ≡ option_map (ended q) (cond b (Some e.1) (at es q))
+      by true s later = ap (λ i. Some (ended i e.1)) (sym (same_id-equal q e.0 s))
+      by false s later = later
+
+  pub copies-ended : (es : ById Kept) → copies_of (hands_ended task es) ≡ copies_of es
+  copies-ended [] = refl
+  copies-ended (e ∷ es) = λ i. (e.0, same_part (λ k. k.copy) (λ z. refl) (same_task task e.0.task) e.1 i) ∷ copies-ended es i
+
+  from_ended : (es : ById Kept) (q : ObjectId) (y : Kept) → at (hands_ended task es) q ≡ Some y → (k : Kept) × (at es q ≡ Some k) × (y ≡ ended q k)
+  from_ended es q y found = by (at es q) refl (sym (at-ended es q) ∙ found)
+    where
+      by : (o : Option Kept) → at es q ≡ o → option_map (ended q) o ≡ Some y → (k : Kept) × (at es q ≡ Some k) × (y ≡ ended q k)
+      by None e f = none_some y f
+      by (Some k) e f = (k, e, sym (some_value (ended q k) y f))
+
+  pub ended_placed : (placed : List (ℕ × List ℕ)) (es : ById Kept) → ArePlaced placed (place_of es) → ArePlaced placed (place_of (hands_ended task es))
+  ended_placed placed es h = same_places placed (place_of es) (place_of (hands_ended task es)) (λ q. ap (λ o. option_and_then (λ (k : Kept). extent_of k.copy) o) (at-ended es q) ∙ by q (at es q)) h
+    where
+      by : (q : ObjectId) (o : Option Kept) → option_and_then (λ (k : Kept). extent_of k.copy) (option_map (ended q) o) ≡ option_and_then (λ (k : Kept). extent_of k.copy) o
+      by q None = refl
+      by q (Some k) = same_part (λ z. extent_of z.copy) (λ z. refl) (same_task task q.task) k
+
+-- ---- the definition's walks
+
+abbrev Plain : Change → Type 0
+Plain c = c ≡ record (done c.shape) { sent = c.sent }
+
+doom-plain : (s : Shape) (id : ObjectId) → Plain (doom s id)
+unfolding sending
+doom-plain s id = refl
+
+give_up-plain : (task : TaskNo) (s : Shape) (id : ObjectId) → Plain (give_up_one task s id)
+give_up-plain task s id = by (at s.copies id)
+  where
+    scoped-plain : (copy : Copy) (b : Bool) → Plain (cond b (done (set_copy s id copy)) (doom (set_copy s id copy) id))
+    scoped-plain copy true = refl
+    scoped-plain copy false = doom-plain (set_copy s id copy) id
+
+    one : (copy : Copy) (d b : Bool) → Plain (cond d (done (set_copy s id copy)) (cond b (commands.scoped s id copy) (done s)))
+    one copy true b = refl
+    one copy false true = scoped-plain copy (in_scope copy)
+    one copy false false = refl
+
+    by : (o : Option Copy) → Plain (option_map_or (λ copy.
+        cond copy.doomed (done (set_copy s id (without_borrower copy task))) (cond (has_borrower copy task) (commands.scoped s id (without_borrower copy task)) (done s))) o (done s))
+    by None = refl
+    by (Some copy) = one (without_borrower copy task) copy.doomed (has_borrower copy task)
+
+module _ (f : Shape → ObjectId → Change) (p : ObjectId → Bool) where
+  -- the change at one id, if it is meant
+  abbrev meant : Shape → ObjectId → Change
+  meant s id = cond (p id) (f s id) (done s)
+
+  abbrev shape_each : Shape → List ObjectId → Shape
+  shape_each s ids = fold (λ t id. (meant t id).shape) s ids
+
+  abbrev sent_each : Shape → List ObjectId → List Sending
+  sent_each s [] = []
+  sent_each s (id ∷ ids) = (meant s id).sent ++ sent_each (meant s id).shape ids
+
+  at_each-is : ((s : Shape) (id : ObjectId) → Plain (f s id)) → (ids : List ObjectId) (s : Shape) (l : List Sending)
+      → at_each f (filter p ids) (record (done s) { sent = l }) ≡ record (done (shape_each s ids)) { sent = l ++ sent_each s ids }
+  at_each-is plain [] s l = ap (λ k. record (done s) { sent = k }) (sym (append-nil l))
+  at_each-is plain (id ∷ ids) s l = by (p id) (at_each-is plain ids)
+    where
+      by : (b : Bool)
+          → ((t : Shape) (k : List Sending) → at_each f (filter p ids) (record (done t) { sent = k }) ≡ record (done (shape_each t ids)) { sent = k ++ sent_each t ids })
+          → at_each f (cond b (id ∷ filter p ids) (filter p ids)) (record (done s) { sent = l })
+          ≡ record (done (shape_each (cond b (f s id) (done s)).shape ids)) { sent = l ++ ((cond b (f s id) (done s)).sent ++ sent_each (cond b (f s id) (done s)).shape ids) }
+      by true later =
+          ap (λ c. at_each f (filter p ids) c) (sending-is l (f s id) ∙ ap (λ (c : Change). record c { sent = l ++ c.sent }) (plain s id))
+          ∙ later (f s id).shape (l ++ (f s id).sent)
+          ∙ ap (λ k. record (done (shape_each (f s id).shape ids)) { sent = k }) (append_assoc l (f s id).sent (sent_each (f s id).shape ids))
+      by false later = later s l
+
+filter-all : (ids : List ObjectId) → filter (λ id. true) ids ≡ ids
+filter-all [] = refl
+filter-all (id ∷ ids) = ap (λ t. id ∷ t) (filter-all ids)
+
+flat_map-append : {X Y : Type 0} (f : X → List Y) (xs ys : List X) → flat_map f (xs ++ ys) ≡ flat_map f xs ++ flat_map f ys
+flat_map-append f [] ys = refl
+flat_map-append f (x ∷ xs) ys = ap (λ t. f x ++ t) (flat_map-append f xs ys) ∙ sym (append_assoc (f x) (flat_map f xs) (flat_map f ys))
+
+-- ---- what is told of one copy that is doomed
+
+doom_told : (node : ℕ) (id : ObjectId) (o : View) (x : Input) (k : Kept) → posted (cond (not k.copy.doomed) (farewell node id k) None) ≡ flat_map (posts_of node o x) (option_to_list (notice_of id k.copy))
+doom_told node id o x k = by (was_sealed k.copy.state) (is_primary k.copy.kind) k.copy.doomed
+  where
+    by : (b p d : Bool) → posted (cond (not d) (cond b (Some (cond p (Free id) (RemoveLocation id node))) None) None)
+        ≡ flat_map (posts_of node o x) (option_to_list (cond (b && not d) (cond p (Some (free id)) (Some (remove_location id))) None))
+    by true true true = refl
+    by true true false = refl
+    by true false true = refl
+    by true false false = refl
+    by false p true = refl
+    by false p false = refl
+
+-- ---- a row on its way
+
+module _ (node : ℕ) (row : Row) (beside : Beside) (contents : Contents) (h : IsShown row beside contents) (x : Input) (after : Beside) where
+  abbrev s_of : Row → Shape
+  s_of r = shape_of r after
+
+  record Good (r : Row) : Type 0 where
+    pub moves : Moves node row beside contents h x (done (s_of r)) (only reply.Ok) r after
+    pub placed : ArePlaced r.window.placed (place_of r.copies)
+    pub sorted : T (is_sorted id_cmp (copies_of r.copies))
+
+  -- one copy is changed where it lies
+  module _ (r : Row) (g : Good r) (id : ObjectId) (k : Kept) (found : at r.copies id ≡ Some k) (f : Kept → Kept) (minor : (z : Kept) → IsMinor f z) where
+    abbrev r_now : Row
+    r_now = with_copy f r id
+
+    copies_is : copies_of r_now.copies ≡ with_entry (copies_of r.copies) id (f k).copy
+    copies_is = copies-changed f r.copies id k found
+
+    touched-shape : s_of r_now ≡ set_copy (s_of r) id (f k).copy
+    touched-shape = ap (λ t. record (s_of r) { copies = t }) copies_is
+
+    carried : (P : Kept → Type 0) → ((z : Kept) → P z → P (f z)) → (q : ObjectId) (y : Kept) → at r_now.copies q ≡ Some y → ((z : Kept) → at r.copies q ≡ Some z → P z) → P y
+    carried P still q y e was = by (from_changed f r.copies id k found q y e)
+      where
+        by : (z : Kept) × (at r.copies q ≡ Some z) × From f r.copies id q y z → P y
+        by (z, there, inl t) = subst P (sym t.1) (still z (was z there))
+        by (z, there, inr t) = subst P (sym t.1) (was z there)
+
+    same_extent : (z : Kept) → extent_of (f z).copy ≡ extent_of z.copy
+    same_extent z = ap (λ p. extent_of (record (f z).copy { offset = p })) ((minor z).lies z).0 ∙ ap (λ n. extent_of (record z.copy { length = n })) ((minor z).lies z).1
+
+    touched : Good r_now
+    touched = record {
+      moves = record {
+        shape = refl;
+        order =
+            ap (λ t. reordered row.order t None) copies_is
+            ∙ reordered-with row.order (copies_of r.copies) id (f k).copy (ap is_some (at-copies_found r.copies id k found)) ∙ g.moves.order;
+        there = subst (λ t. AreThere t r.order) (sym copies_is) (there_with (copies_of r.copies) id (f k).copy r.order g.moves.there);
+        listed = λ q y e. carried (λ z. is_among r.order q ≡ true) (λ z p. p) q y e (λ z there. g.moves.listed q z there);
+        bytes = λ q y e found lies.
+            carried (λ z. (e : Extent) → extent_of z.copy ≡ Some e → filled (at (bytes_now node row beside contents h x (done (s_of r))) q) z.copy ≡ take z.copy.length (placed_bytes e r.window.placed))
+            (λ z p e lies.
+            ap (λ n. filled (at (bytes_now node row beside contents h x (done (s_of r))) q) (record z.copy { length = n })) ((minor z).lies z).1
+            ∙ p e (sym (same_extent z) ∙ lies) ∙ ap (λ n. take n (placed_bytes e r.window.placed)) (sym ((minor z).lies z).1))
+            q y found (λ z there e lies. g.moves.bytes q z e there lies) e lies;
+        digests = λ q y found keeps.
+            carried (λ z. keeps_digest z.copy ≡ true → unwrap_or (at (digests_now node row beside contents h x (done (s_of r))) q) no_digest ≡ unwrap_or z.digest no_digest)
+            (λ z p keep. p ((minor z).keeps keep) ∙ ap (λ d. unwrap_or d no_digest) (sym (minor z).digest)) q y found (λ z there keep. g.moves.digests q z there keep) keeps;
+        working = λ q y found. carried (λ z. z.working ≡ work_on after.works q) (λ z p. (minor z).working ∙ p) q y found (λ z there. g.moves.working q z there);
+        granted = λ q y found. carried (λ z. z.granted ≡ has_hand after.given q) (λ z p. (minor z).granted ∙ p) q y found (λ z there. g.moves.granted q z there);
+        received = g.moves.received;
+        reply = g.moves.reply;
+        erased = g.moves.erased;
+      };
+      placed = changed_placed r.window.placed r.copies g.placed f same_extent id;
+      sorted = subst (λ t. T (is_sorted id_cmp t)) (sym copies_is) (is_sorted-put id_cmp id_cmp-IsTotalOrder id (f k).copy (copies_of r.copies) g.sorted);
+    }
+
+  -- and removed if nothing keeps it
+  module _ (r : Row) (g : Good r) (id : ObjectId) where
+    over_is : (k : Kept) → at r.copies id ≡ Some k → is_over k ≡ k.copy.doomed && is_idle (s_of r) id k.copy
+    over_is k found =
+        ap (λ b. k.copy.doomed && b)
+        (idle_same (is_held k.copy) k.granted (is_granted (s_of r) id) (is_working (s_of r) id) k.working (g.moves.granted id k found) (ap is_some (g.moves.working id k found) ∙ working-on after.works id))
+
+    left : Moves node row beside contents h x (done (drop_copy (s_of r) id)) (only reply.Ok) (dropped r id) after
+    left = moves_left node row beside contents h x (done (s_of r)) (only reply.Ok) r after g.moves refl g.placed id [] (only reply.Ok) refl refl
+
+    dropped_good : Good (dropped r id)
+    dropped_good = record {
+      moves = subst (λ s. Moves node row beside contents h x (done s) (only reply.Ok) (dropped r id) after) left.shape left;
+      placed = left_placed r.window.placed r.copies g.placed id;
+      sorted = subst (λ t. T (is_sorted id_cmp t)) (sym (copies-without r.copies id)) (is_sorted-where_key id_cmp (λ k. not (same_id id k)) (copies_of r.copies) g.sorted);
+    }
+
+    settled_shape : settled (s_of r) id ≡ s_of (settled_row r id)
+    settled_shape = by (at r.copies id) refl
+      where
+        last : (b : Bool) → cond b (drop_copy (s_of r) id) (s_of r) ≡ s_of (cond b (dropped r id) r)
+        last true = left.shape
+        last false = refl
+
+        by : (o : Option Kept) → at r.copies id ≡ o → settled (s_of r) id ≡ s_of (option_map_or (λ kept. cond (is_over kept) (dropped r id) r) o r)
+        by None none = ap (λ o. option_map_or (λ (copy : Copy). cond (copy.doomed && is_idle (s_of r) id copy) (drop_copy (s_of r) id) (s_of r)) o (s_of r)) (at-copies_none r.copies id none)
+        by (Some k) found =
+            ap (λ o. option_map_or (λ (copy : Copy). cond (copy.doomed && is_idle (s_of r) id copy) (drop_copy (s_of r) id) (s_of r)) o (s_of r)) (at-copies_found r.copies id k found)
+            ∙ ap (λ b. cond b (drop_copy (s_of r) id) (s_of r)) (sym (over_is k found)) ∙ last (is_over k)
+
+    settled_good : Good (settled_row r id)
+    settled_good = by (at r.copies id)
+      where
+        over : (b : Bool) → Good (cond b (dropped r id) r)
+        over true = dropped_good
+        over false = g
+
+        by : (o : Option Kept) → Good (option_map_or (λ kept. cond (is_over kept) (dropped r id) r) o r)
+        by None = g
+        by (Some k) = over (is_over k)
+
+  untouched : (r : Row) (id : ObjectId) (f : Kept → Kept) → at r.copies id ≡ None → settled_row (with_copy f r id) id ≡ r
+  untouched r id f none =
+      ap (λ t. settled_row (record r { copies = t }) id) (changed-absent f id r.copies none)
+      ∙ ap (λ o. option_map_or (λ kept. cond (is_over kept) (dropped r id) r) o r) none
+
+  -- the row after this change, and what it tells
+  record Fits (c : Change) (r : Row) (said : List Post) : Type 0 where
+    pub good : Good r
+    pub shape : c.shape ≡ s_of r
+    pub told : (o : View) → said ≡ flat_map (posts_of node o x) c.sent
+
+  fits_as : (c d : Change) (r t : Row) (said told : List Post) → c ≡ d → r ≡ t → said ≡ told → Fits d t told → Fits c r said
+  fits_as c d r t said told cd rt st fits = subst (λ z. Fits z r said) (sym cd) (subst (λ z. Fits d z said) (sym rt) (subst (λ z. Fits d t z) (sym st) fits))
+
+  -- ---- a walk
+
+  module _ (f : Shape → ObjectId → Change) (p : ObjectId → Bool) (next : Row → ObjectId → Row) (says : Row → ObjectId → List Post)
+      (one : (r : Row) → Good r → (id : ObjectId) → Fits (meant f p (s_of r) id) (next r id) (says r id)) where
+    each_good : (ids : List ObjectId) (r : Row) → Good r → Good (fold next r ids)
+    each_good [] r g = g
+    each_good (id ∷ ids) r g = each_good ids (next r id) (one r g id).good
+
+    each_shape : (ids : List ObjectId) (r : Row) → Good r → shape_each f p (s_of r) ids ≡ s_of (fold next r ids)
+    each_shape [] r g = refl
+    each_shape (id ∷ ids) r g = ap (λ s. shape_each f p s ids) (one r g id).shape ∙ each_shape ids (next r id) (one r g id).good
+
+    each_told : (o : View) (ids : List ObjectId) (r : Row) → Good r → told_each next says r ids ≡ flat_map (posts_of node o x) (sent_each f p (s_of r) ids)
+    each_told o [] r g = refl
+    each_told o (id ∷ ids) r g =
+        ap (λ t. t ++ told_each next says (next r id) ids) ((one r g id).told o)
+        ∙ ap (λ t. flat_map (posts_of node o x) (meant f p (s_of r) id).sent ++ t)
+        (each_told o ids (next r id) (one r g id).good ∙ ap (λ s. flat_map (posts_of node o x) (sent_each f p s ids)) (sym (one r g id).shape))
+        ∙ sym (flat_map-append (posts_of node o x) (meant f p (s_of r) id).sent (sent_each f p (meant f p (s_of r) id).shape ids))
+
+  -- ---- the first walk: the task's copies are doomed
+
+  module _ (task : TaskNo) (r : Row) (g : Good r) (id : ObjectId) where
+    abbrev row_doomed : Row
+    row_doomed = settled_row (with_copy doomed r id) id
+
+    abbrev doomed_said : Option Kept → List Post
+    doomed_said o = posted (cond (not (option_map_or (λ (k : Kept). k.copy.doomed) o false)) (option_and_then (farewell node id) o) None)
+
+    doom_fits : Fits (doom (s_of r) id) row_doomed (doomed_said (at r.copies id))
+    doom_fits = by (at r.copies id) refl
+      where
+        by : (o : Option Kept) → at r.copies id ≡ o → Fits (doom (s_of r) id) row_doomed (doomed_said (at r.copies id))
+        by None none =
+            fits_as (doom (s_of r) id) (done (s_of r)) row_doomed r (doomed_said (at r.copies id)) []
+            (sending-is (option_to_list (doom_notice (s_of r) id)) (done (changes.doomed (s_of r) id))
+            ∙ ap (λ (o : Option Copy). record (done (option_map_or (λ copy. settled (set_copy (s_of r) id (record copy { doomed = true })) id) o (s_of r))) { sent = option_to_list (option_map_or (notice_of id) o None) ++ [] }) (at-copies_none r.copies id none))
+            (untouched r id doomed none) (ap doomed_said none)
+            (record { good = g; shape = refl; told = λ o. refl })
+        by (Some k) found =
+            let again = touched r g id k found doomed doomed-minor in
+            fits_as (doom (s_of r) id) (record (done (settled (set_copy (s_of r) id (record k.copy { doomed = true })) id)) { sent = option_to_list (notice_of id k.copy) }) row_doomed row_doomed (doomed_said (at r.copies id)) (doomed_said (Some k))
+            (doom-is (s_of r) id k.copy (at-copies_found r.copies id k found)) refl (ap doomed_said found)
+            (record {
+              good = settled_good (with_copy doomed r id) again id;
+              shape = ap (λ t. settled t id) (sym (touched-shape r g id k found doomed doomed-minor)) ∙ settled_shape (with_copy doomed r id) again id;
+              told = λ o. doom_told node id o x k;
+            })
+
+    first_fits : Fits (meant doom (λ id. same_task task id.task) (s_of r) id) (doomed_row task r id) (doom_posts node task r id)
+    first_fits = by (same_task task id.task)
+      where
+        by : (b : Bool) → Fits (cond b (doom (s_of r) id) (done (s_of r))) (cond b row_doomed r)
+            (posted (farewell_at node r.copies id (b && not (option_map_or (λ (k : Kept). k.copy.doomed) (at r.copies id) false))))
+        by true = doom_fits
+        by false = record { good = g; shape = refl; told = λ o. refl }
+
+    -- ---- the second walk: its borrows are given up
+
+    abbrev row_given_up : Row
+    row_given_up = with_copy (given_up task) r id
+
+    abbrev given_up_said : Bool → Bool → Bool → List Post
+    given_up_said d b i = posted (farewell_at node r.copies id (not d && (b && not i)))
+
+    module _ (k : Kept) (found : at r.copies id ≡ Some k) where
+      abbrev without : Kept
+      without = record k { copy = without_borrower k.copy task }
+
+      minor : (z : Kept) → IsMinor (given_up task) z
+      minor z = scoped-minor (λ y. record y { copy = without_borrower y.copy task }) z
+          (record { lies = λ y. (refl, refl); digest = refl; keeps = λ keep. keep; working = refl; granted = refl; backed = refl })
+
+      again : Good row_given_up
+      again = touched r g id k found (given_up task) minor
+
+      shape_is : s_of row_given_up ≡ set_copy (s_of r) id (scoped_copy without.copy)
+      shape_is = touched-shape r g id k found (given_up task) minor ∙ ap (λ a. set_copy (s_of r) id a) (scoped-copy without)
+
+      doomed_still : k.copy.doomed ≡ true → (b : Bool) → cond b without.copy (record without.copy { doomed = true }) ≡ without.copy
+      doomed_still d true = refl
+      doomed_still d false = ap (λ b. record without.copy { doomed = b }) (sym d)
+
+      by_state : (d : Bool) → k.copy.doomed ≡ d → (b : Bool)
+          → Fits (cond d (done (set_copy (s_of r) id without.copy)) (cond b (commands.scoped (s_of r) id without.copy) (done (s_of r))))
+          (cond d row_given_up (cond b (settled_row row_given_up id) r)) (given_up_said d b (in_scope without.copy))
+      by_state true d b = record {
+        good = again;
+        shape = sym (shape_is ∙ ap (λ a. set_copy (s_of r) id a) (doomed_still d (in_scope without.copy)));
+        told = λ o. refl;
+      }
+      by_state false d true =
+          let is = scoped-is (s_of r) id without.copy g.sorted d in
+          record {
+            good = settled_good row_given_up again id;
+            shape = ap (λ (c : Change). c.shape) is ∙ ap (λ t. settled t id) (sym shape_is) ∙ settled_shape row_given_up again id;
+            told = λ o. scoped_told node id o x k without.copy refl refl d r.copies found ∙ sym (ap (λ (c : Change). flat_map (posts_of node o x) c.sent) is);
+          }
+      by_state false d false = record { good = g; shape = refl; told = λ o. refl }
+
+    abbrev changed_by : Option Copy → Change
+    changed_by o = option_map_or (λ copy.
+        cond copy.doomed (done (set_copy (s_of r) id (without_borrower copy task))) (cond (has_borrower copy task) (commands.scoped (s_of r) id (without_borrower copy task)) (done (s_of r)))) o (done (s_of r))
+
+    abbrev row_by : Option Kept → Row
+    row_by o = cond (option_map_or (λ (k : Kept). k.copy.doomed) o false) row_given_up (cond (option_map_or (λ (k : Kept). has_borrower k.copy task) o false) (settled_row row_given_up id) r)
+
+    abbrev said_by : Option Kept → List Post
+    said_by o = given_up_said (option_map_or (λ (k : Kept). k.copy.doomed) o false) (option_map_or (λ (k : Kept). has_borrower k.copy task) o false) (option_map_or (λ (k : Kept). in_scope (without_borrower k.copy task)) o false)
+
+    second_fits : Fits (give_up_one task (s_of r) id) (given_up_row task r id) (give_up_posts node task r id)
+    second_fits = by (at r.copies id) refl
+      where
+        by : (o : Option Kept) → at r.copies id ≡ o → Fits (give_up_one task (s_of r) id) (given_up_row task r id) (give_up_posts node task r id)
+        by None none =
+            fits_as (give_up_one task (s_of r) id) (done (s_of r)) (given_up_row task r id) r (give_up_posts node task r id) []
+            (ap changed_by (at-copies_none r.copies id none)) (ap row_by none) (ap said_by none)
+            (record { good = g; shape = refl; told = λ o. refl })
+        by (Some k) found =
+            fits_as (give_up_one task (s_of r) id) (changed_by (Some k.copy)) (given_up_row task r id) (row_by (Some k)) (give_up_posts node task r id) (said_by (Some k))
+            (ap changed_by (at-copies_found r.copies id k found)) (ap row_by found) (ap said_by found)
+            (by_state k found k.copy.doomed refl (has_borrower k.copy task))
+
+-- ---- device keys
+
+keys-gone : (row after : Row) (es : ById Kept) → T (is_sorted id_cmp es) → ((q : ObjectId) (k : Kept) → at es q ≡ Some k → at row.copies q ≡ Some k)
+    → gone_keys after (keys_of_copies row (ids_of es)) ≡ map (key_of row.job) (keys_gone (copies_of es) (copies_of after.copies))
+keys-gone row after [] sorted are = refl
+keys-gone row after (e ∷ es) sorted are =
+    flat_map-append (gone_key after) (keyed (option_and_then (λ (kept : Kept). option_map (key_of row.job) kept.copy.backed) (at row.copies e.0))) (keys_of_copies row (ids_of es))
+    ∙ (λ i. flat_map (gone_key after) (keyed (option_and_then (λ (kept : Kept). option_map (key_of row.job) kept.copy.backed) (are e.0 e.1 (at-first e es) i)))
+    ++ keys-gone row after es (and_right (below_all id_cmp e.0 es) _ sorted) (λ q k found. are q k (at-rest e es sorted q k found)) i)
+    ∙ by e.1.copy.backed
+    ∙ ap (λ o. map (key_of row.job) (cons_option (cond (is_none o) e.1.copy.backed None) rest)) (sym (at-copies after.copies e.0))
+  where
+    keyed : Option DeviceKey → List (ObjectId × DeviceKey)
+    keyed o = option_to_list (option_map (λ key. (e.0, key)) o)
+
+    rest : List ℕ
+    rest = keys_gone (copies_of es) (copies_of after.copies)
+
+    now : Option Kept → Option ℕ → List DeviceKey
+    now o n = map (key_of row.job) (cons_option (cond (is_none (option_map (λ (k : Kept). k.copy) o)) n None) rest)
+
+    none : (o : Option Kept) → map (key_of row.job) rest ≡ now o None
+    none None = refl
+    none (Some k) = refl
+
+    some : (n : ℕ) (o : Option Kept) → (cond (is_some o) [] (key_of row.job n ∷ []) ++ []) ++ map (key_of row.job) rest ≡ now o (Some n)
+    some n None = refl
+    some n (Some k) = refl
+
+    by : (n : Option ℕ) → flat_map (gone_key after) (keyed (option_map (key_of row.job) n)) ++ map (key_of row.job) rest ≡ now (at after.copies e.0) n
+    by None = none (at after.copies e.0)
+    by (Some n) = some n (at after.copies e.0)
+
+-- ---- the step
+
+same_number : (n : ℕ) → (n == n) ≡ true
+same_number n = grind (arith, nat_tests)
+
+module _ (node : ℕ) (row : Row) (beside : Beside) (contents : Contents) (session : ℕ) (task : TaskNo) (h : IsShown row beside contents) where
+  abbrev s : Shape
+  s = shape_of row beside
+
+  abbrev x : Input
+  x = input.Call session (command.EndTask task)
+
+  abbrev after : Beside
+  after = beside_ended row.job task beside
+
+  abbrev pub r0 : Row
+  r0 = task_row task row
+
+  abbrev ids : List ObjectId
+  ids = ids_of row.copies
+
+  abbrev pub r1 : Row
+  r1 = fold (doomed_row task) r0 ids
+
+  abbrev pub r2 : Row
+  r2 = fold (given_up_row task) r1 ids
+
+  abbrev first_said : List Post
+  first_said = told_each (doomed_row task) (doom_posts node task) r0 ids
+
+  abbrev second_said : List Post
+  second_said = told_each (given_up_row task) (give_up_posts node task) r1 ids
+
+  abbrev pub given : Given
+  given = record { reply = reply.Ok; posts = first_said ++ second_said; erased = gone_keys r2 (keys_of_copies row ids) }
+
+  -- why it is refused, and else what is done
+  abbrev walks : Change
+  walks = at_each (give_up_one task) (ids_of s.copies) (at_each doom (of_task task (ids_of s.copies)) (done (task_ended s task)))
+
+  end_task-by : end_task s task ≡ unless_refused s (end_task_check row task) walks
+  end_task-by = first-check s (has_ended s task) Gone _ _ _ walks (first-check s (nat_le most_ended_tasks (length s.ended_tasks)) TooMany [] _ None walks (checked-nil s walks))
+
+  end_task-is : (check : Option Refusal) → end_task_check row task ≡ check → change node row beside contents h x ≡ erasing s (unless_refused s check walks)
+  end_task-is check e = called row beside session (command.EndTask task) ∙ ap (erasing s) (end_task-by ∙ ap (λ o. unless_refused s o walks) e)
+
+  refused_so : (r : Refusal) → end_task_check row task ≡ Some r → TakesStep node row beside contents x (only (reply.Refused r)) row beside
+  refused_so r e = stays node row beside contents h x (reply.Refused r) (end_task-is (Some r) e) refl refl refl
+
+  pub end_task_refused : (r : Refusal) → end_task_check row task ≡ Some r → TakesStep node row beside contents x (only (reply.Refused r)) row (beside_after row task beside)
+  end_task_refused r e =
+      subst (λ o. TakesStep node row beside contents x (only (reply.Refused r)) row (option_map_or (λ (q : Refusal). beside) o after)) (sym e) (refused_so r e)
+
+  -- where it isn't refused
+
+  own : (q : ObjectId) (k : Kept) → at row.copies q ≡ Some k → (q.job.0 == row.job) ≡ true
+  own q k found = ap (λ n. n == row.job) (h.kept.kept.shape.each q k.copy (at-copies_found row.copies q k found)).own ∙ same_number row.job
+
+  granted_now : (b : Bool) (q : ObjectId) (k : Kept) → at row.copies q ≡ Some k → (cond b (ungranted k) k).granted ≡ cond b false (has_hand beside.given q)
+  granted_now true q k found = refl
+  granted_now false q k found = h.granted q k found
+
+  start_shape : task_ended s task ≡ shape_of r0 after
+  start_shape = ap (λ t. record (shape_of r0 after) { copies = t }) (sym (copies-ended task row.copies))
+
+  module _ (placed : ArePlaced row.window.placed (place_of row.copies)) where
+    begins : Good node row beside contents h x after r0
+    begins = record {
+      moves = record {
+        shape = refl;
+        order = ap (λ t. reordered row.order t None) (copies-ended task row.copies) ∙ sym (reordered-unused row.order (copies_of row.copies) h.there);
+        there = subst (λ t. AreThere t row.order) (sym (copies-ended task row.copies)) h.there;
+        listed = λ q y found. let z = from_ended task row.copies q y found in h.listed q z.0 z.1;
+        bytes = λ q y e found lies.
+            let z = from_ended task row.copies q y found in
+            let same = ap (λ (k : Kept). k.copy) z.2 ∙ same_part task (λ k. k.copy) (λ k. refl) (same_task task q.task) z.0 in
+            subst (λ c. extent_of c ≡ Some e → filled (at (bytes_now node row beside contents h x (done (shape_of r0 after))) q) c ≡ take c.length (placed_bytes e row.window.placed)) (sym same)
+            (λ lies. same_bytes node row beside contents h x q z.0 e z.1 lies) lies;
+        digests = λ q y found keep.
+            let z = from_ended task row.copies q y found in
+            let same = ap (λ (k : Kept). k.copy) z.2 ∙ same_part task (λ k. k.copy) (λ k. refl) (same_task task q.task) z.0 in
+            let digest = ap (λ (k : Kept). k.digest) z.2 ∙ same_part task (λ k. k.digest) (λ k. refl) (same_task task q.task) z.0 in
+            h.digests q z.0 z.1 (ap keeps_digest (sym same) ∙ keep) ∙ ap (λ d. unwrap_or d no_digest) (sym digest);
+        working = λ q y found.
+            let z = from_ended task row.copies q y found in
+            ap (λ (k : Kept). k.working) z.2 ∙ same_part task (λ k. k.working) (λ k. refl) (same_task task q.task) z.0 ∙ h.working q z.0 z.1;
+        granted = λ q y found.
+            let z = from_ended task row.copies q y found in
+            ap (λ (k : Kept). k.granted) z.2 ∙ granted_now (same_task task q.task) q z.0 z.1 ∙ sym (has_hand-ended row.job task beside.given q (own q z.0 z.1));
+        received = received_stays node row beside contents h x refl;
+        reply = refl;
+        erased = refl;
+      };
+      placed = ended_placed task row.window.placed row.copies placed;
+      sorted = subst (λ t. T (is_sorted id_cmp t)) (sym (copies-ended task row.copies)) (T_true _ h.kept.kept.shape.by_id);
+    }
+
+    one_doomed : (r : Row) → Good node row beside contents h x after r → (id : ObjectId)
+        → Fits node row beside contents h x after (meant doom (λ id. same_task task id.task) (shape_of r after) id) (doomed_row task r id) (doom_posts node task r id)
+    one_doomed r g id = first_fits node row beside contents h x after task r g id
+
+    one_given_up : (r : Row) → Good node row beside contents h x after r → (id : ObjectId)
+        → Fits node row beside contents h x after (meant (give_up_one task) (λ id. true) (shape_of r after) id) (given_up_row task r id) (give_up_posts node task r id)
+    one_given_up r g id = second_fits node row beside contents h x after task r g id
+
+    g1 : Good node row beside contents h x after r1
+    g1 = each_good node row beside contents h x after doom (λ id. same_task task id.task) (doomed_row task) (doom_posts node task) one_doomed ids r0 begins
+
+    g2 : Good node row beside contents h x after r2
+    g2 = each_good node row beside contents h x after (give_up_one task) (λ id. true) (given_up_row task) (give_up_posts node task) one_given_up ids r1 g1
+
+    abbrev first_sent : List Sending
+    first_sent = sent_each doom (λ id. same_task task id.task) (shape_of r0 after) ids
+
+    abbrev second_sent : List Sending
+    second_sent = sent_each (give_up_one task) (λ id. true) (shape_of r1 after) ids
+
+    abbrev ended_change : Change
+    ended_change = record (done (shape_of r2 after)) { sent = first_sent ++ second_sent }
+
+    first_walk : at_each doom (of_task task ids) (done (task_ended s task)) ≡ record (done (shape_of r1 after)) { sent = first_sent }
+    first_walk =
+        ap (λ t. at_each doom (of_task task ids) (done t)) start_shape
+        ∙ at_each-is doom (λ id. same_task task id.task) doom-plain ids (shape_of r0 after) []
+        ∙ ap (λ t. record (done t) { sent = first_sent }) (each_shape node row beside contents h x after doom (λ id. same_task task id.task) (doomed_row task) (doom_posts node task) one_doomed ids r0 begins)
+
+    walks-are : walks ≡ ended_change
+    walks-are =
+        ap (λ is. at_each (give_up_one task) is (at_each doom (of_task task is) (done (task_ended s task)))) (ids-copies row.copies)
+        ∙ ap (λ is. at_each (give_up_one task) is (at_each doom (of_task task ids) (done (task_ended s task)))) (sym (filter-all ids))
+        ∙ ap (λ c. at_each (give_up_one task) (filter (λ id. true) ids) c) first_walk
+        ∙ at_each-is (give_up_one task) (λ id. true) (give_up-plain task) ids (shape_of r1 after) first_sent
+        ∙ ap (λ t. record (done t) { sent = first_sent ++ second_sent }) (each_shape node row beside contents h x after (give_up_one task) (λ id. true) (given_up_row task) (give_up_posts node task) one_given_up ids r1 g1)
+
+    abbrev c : Change
+    c = erasing s ended_change
+
+    m : Moves node row beside contents h x c given r2 after
+    m = record {
+      shape = refl;
+      order = g2.moves.order;
+      there = g2.moves.there;
+      listed = g2.moves.listed;
+      bytes = g2.moves.bytes;
+      digests = g2.moves.digests;
+      working = g2.moves.working;
+      granted = g2.moves.granted;
+      received = g2.moves.received;
+      reply = refl;
+      erased = keys-gone row r2 row.copies (subst T (sorted-copies row.copies) (T_true _ h.kept.kept.shape.by_id)) (λ q k f. f);
+    }
+
+    said : (o : View) → first_said ++ second_said ≡ flat_map (posts_of node o x) (first_sent ++ second_sent)
+    said o =
+        (λ i. each_told node row beside contents h x after doom (λ id. same_task task id.task) (doomed_row task) (doom_posts node task) one_doomed o ids r0 begins i
+        ++ each_told node row beside contents h x after (give_up_one task) (λ id. true) (given_up_row task) (give_up_posts node task) one_given_up o ids r1 g1 i)
+        ∙ sym (flat_map-append (posts_of node o x) first_sent second_sent)
+
+    pub end_task_done : end_task_check row task ≡ None → TakesStep node row beside contents x given r2 (beside_after row task beside)
+    end_task_done passed =
+        subst (λ o. TakesStep node row beside contents x given r2 (option_map_or (λ (q : Refusal). beside) o after)) (sym passed)
+        (moved node row beside contents h x c (end_task-is None passed ∙ ap (erasing s) walks-are) given r2 after m
+        (said (view_after node (seen row beside contents) x (judge node (seen row beside contents) x) c)))

@@ -1,0 +1,40 @@
+use Rattle.std.proofs.Common.{◌≡◌, Bool, not, ◌&&◌, ◌++◌, cond, sym, ap, ◌∙◌}
+use Rattle.std.proofs.lemmas.List.{append-nil}
+use Rattle.obj_id.specs.declared.ids.TaskNo.{TaskNo}
+use Rattle.obj_id.specs.Ids.{same_task}
+use Rattle.pins_holds.proofs.TaskLemmas.{task_eq, task_eq-same}
+use Rattle.node_table.specs.Dropping.{settled_row}
+use Rattle.node_table.specs.Kept.{doomed}
+use Rattle.node_table.specs.Scope.{farewell_at, posted, with_copy}
+use Rattle.node_table.specs.EndingTasks.{is_doomed_at}
+use Rattle.node_table.proofs.row.JobRow.doom_one.Goals as goal
+
+own : (task of : TaskNo) (b : Bool) → b ≡ task_eq task of → same_task task of ≡ b
+own task of b is = sym (is ∙ task_eq-same task of)
+
+pub returns-then-not-own-clause-row : goal.returns-then-not-own-clause-row
+returns-then-not-own-clause-row c =
+    let r = c.args.self.now in
+    let id = c.args.id.now in
+    sym (ap (λ b. cond b (settled_row (with_copy doomed r id) id) r) (own c.args.task c.args.id.now.task c.eq-own.result (c.eq-own.ensures ∙ ap (λ t. task_eq c.args.task t) c.task.ensures) ∙ c.if-not-own.true))
+
+pub returns-then-not-own-clause-told : goal.returns-then-not-own-clause-told
+returns-then-not-own-clause-told c =
+    let r = c.args.self.now in
+    let id = c.args.id.now in
+    sym (ap (λ b. c.args.messages.now.items ++ posted (farewell_at c.args.node r.copies id (b && not (is_doomed_at r.copies id)))) (own c.args.task c.args.id.now.task c.eq-own.result (c.eq-own.ensures ∙ ap (λ t. task_eq c.args.task t) c.task.ensures) ∙ c.if-not-own.true) ∙ append-nil c.args.messages.now.items)
+
+pub returns-clause-row : goal.returns-clause-row
+returns-clause-row c =
+    let r = c.args.self.now in
+    let id = c.args.id.now in
+    c.settle.ensures.row ∙ ap (λ t. settled_row t id) c.doom_copy.ensures
+    ∙ sym (ap (λ b. cond b (settled_row (with_copy doomed r id) id) r) (own c.args.task c.args.id.now.task c.eq-own.result (c.eq-own.ensures ∙ ap (λ t. task_eq c.args.task t) c.task.ensures) ∙ c.if-not-own.false))
+
+pub returns-clause-told : goal.returns-clause-told
+returns-clause-told c =
+    let r = c.args.self.now in
+    let id = c.args.id.now in
+    c.push_message.ensures.items
+    ∙ ap (λ o. c.args.messages.now.items ++ posted o) (c.last_words.ensures ∙ ap (λ b. farewell_at c.args.node r.copies id (not b)) (c.is_doomed.ensures ∙ ap (λ t. is_doomed_at t id) c.copies.ensures.copies))
+    ∙ sym (ap (λ b. c.args.messages.now.items ++ posted (farewell_at c.args.node r.copies id (b && not (is_doomed_at r.copies id)))) (own c.args.task c.args.id.now.task c.eq-own.result (c.eq-own.ensures ∙ ap (λ t. task_eq c.args.task t) c.task.ensures) ∙ c.if-not-own.false))

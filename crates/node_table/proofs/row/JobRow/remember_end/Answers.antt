@@ -1,0 +1,29 @@
+use Rattle.std.proofs.Common.{sym, ap, subst, ◌∙◌}
+use Rattle.lru_evictor.specs.Orders.{order_of}
+use Rattle.pins_holds.proofs.TaskLemmas.{insert_key-new}
+use Rattle.private_store.specs.Kept.{is_remembered}
+use Rattle.node_table.specs.EndingTasks.{task_row}
+use Rattle.node_table.specs.Row.{Row, place_of, ArePlaced}
+use Rattle.node_table.proofs.EndingTasks.{ended_placed}
+use Rattle.node_table.proofs.row.JobRow.remember_end.Goals as goal
+
+pub invariant_of-self-2 : goal.invariant_of-self-2
+invariant_of-self-2 c =
+    subst (λ t. ArePlaced c.self.inside.window.placed (place_of t)) (sym c.end_hands.ensures)
+    (ended_placed c.args.task c.self.inside.window.placed c.self.inside.copies c.self.invariant)
+
+pub returns-clause-ok : goal.returns-clause-ok
+returns-clause-ok c =
+    let task = c.args.task in
+    let keys = c.in_ok-insert.ensures.keys ∙ insert_key-new task c.self.inside.ended_tasks.keys (ap (λ (r : Row). is_remembered r.ended_tasks task) c.self.view_is ∙ c.requires) in
+    (λ i. record {
+      job = c.self.inside.job.0;
+      window = c.self.inside.window;
+      device = c.self.inside.device;
+      copies = c.end_hands.ensures i;
+      order = order_of c.self.inside.job.0 c.self.inside.order;
+      fetches_begun = c.self.inside.fetches_begun;
+      spill_failed = c.self.inside.spill_failed;
+      ended_tasks = keys i;
+    })
+    ∙ ap (task_row task) c.self.view_is

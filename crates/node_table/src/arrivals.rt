@@ -1,0 +1,56 @@
+//! Messages that arrive for a copy that is on its way: the directory's answer, and that the source has no such copy.
+ghost use Rattle.std.specs.Prelude.{◌≡◌, ◌≤◌, ℕ, length, IfOk, OnErr};
+ghost use Rattle.obj_id.specs.declared.commands.Reply.TheVariants as reply;
+ghost use Rattle.obj_id.specs.declared.messages.Arrival.TheVariants as arrival;
+ghost use Rattle.obj_id.specs.declared.messages.PeerMessage.TheVariants as peer;
+ghost use Rattle.private_store.specs.declared.inputs.Input.TheVariants as input;
+ghost use Rattle.private_store.specs.Contents.{Contents};
+ghost use Rattle.node_table.specs.Outcomes.{given_of};
+ghost use Rattle.node_table.specs.Row.{Beside};
+ghost use Rattle.node_table.specs.Shown.{IsShown, TakesStep, only};
+
+use crate::outcome::{Erase, Outcome};
+use crate::row::JobRow;
+use obj_id::{DirectoryMessage, Location, ObjectId, Reply};
+use private_store::FetchFault;
+use std::alloc::{AllocError, Global};
+
+impl JobRow {
+    /// The directory's answer to a fetch of this number: the first entry of another node is its source, and without one
+    /// it has failed. It counts while the source isn't known; otherwise nothing changes. The reply is Ok. Takes no memory.
+    pub fn located(&mut self, node: u32, id: &ObjectId, number: u64, entries: &[Location])
+        ensures { (beside : Beside) (contents : Contents) → IsShown self.old beside contents
+            → TakesStep node self.old beside contents (input.Arrive (arrival.Located id.now number entries.now)) (only reply.Ok) self.new beside }
+    {
+        self.locate_copy(id, node, number, entries);
+    }
+
+    /// A node says that it has no such copy: if a fetch of this number asks that node, it has failed, its place is given
+    /// back, and the directory is told to forget the node; otherwise nothing changes. The error is out of memory, and then
+    /// nothing has changed.
+    pub fn not_here(
+        &mut self,
+        alloc: Global,
+        from: u32,
+        id: &ObjectId,
+        number: u64,
+    ) -> Result<Outcome, AllocError>
+        ensures ok { IfOk result (λ o. (node : ℕ) (beside : Beside) (contents : Contents) → IsShown self.old beside contents
+            → TakesStep node self.old beside contents (input.Arrive (arrival.FromPeer from (peer.NotHere id.now number))) (given_of o) self.new beside) }
+        ensures told { IfOk result (λ o. o.reply ≡ reply.Ok) }
+        ensures few { IfOk result (λ o. length o.messages ≤ 1) }
+        ensures err { OnErr result (self.new ≡ self.old) }
+    {
+        if !self.copies().asks(id, number, from) {
+            return Ok(Outcome::only(alloc, Reply::Ok));
+        }
+        let message = DirectoryMessage::RemoveLocation(*id, from);
+        let messages = Outcome::to_directory(alloc, Some(message))?;
+        self.fail_fetch(id, FetchFault::Absent);
+        Ok(Outcome {
+            reply: Reply::Ok,
+            messages,
+            erase: Erase::NoKey,
+        })
+    }
+}

@@ -1,0 +1,124 @@
+//! Chunks that arrive for a copy that is on its way.
+ghost use Rattle.std.specs.Prelude.{◌≡◌, ◌≤◌, ◌<◌, ◌+◌, ◌*◌, ◌^◌, true, false, Some, length, take, IfOk, OnErr};
+ghost use Rattle.std.specs.Option.{option_map_or};
+ghost use Rattle.obj_id.specs.declared.commands.Reply.TheVariants as reply;
+ghost use Rattle.obj_id.specs.declared.messages.Arrival.TheVariants as arrival;
+ghost use Rattle.obj_id.specs.declared.messages.PeerMessage.TheVariants as peer;
+ghost use Rattle.obj_id.specs.declared.messages.Digest.{Digest};
+ghost use Rattle.obj_id.specs.declared.works.Extent.{Extent};
+ghost use Rattle.private_store.specs.declared.inputs.Input.TheVariants as input;
+ghost use Rattle.private_store.specs.Tables.{at};
+ghost use Rattle.private_store.specs.Copies.{extent_of};
+ghost use Rattle.private_store.specs.Contents.{Contents, has_digest};
+ghost use Rattle.job_region.specs.Region.{bytes_at as placed_bytes};
+ghost use Rattle.node_table.specs.Arriving.{fills, lacks_only, row_written};
+ghost use Rattle.node_table.specs.Kept.{Kept};
+ghost use Rattle.node_table.specs.Outcomes.{given_of};
+ghost use Rattle.node_table.specs.Row.{Beside, place_of};
+ghost use Rattle.node_table.specs.Shown.{IsShown, TakesStep};
+
+use crate::outcome::{Erase, Outcome};
+use crate::row::JobRow;
+use obj_id::limits::CHUNK_SIZE;
+use obj_id::{Digest, DirectoryMessage, Location, ObjectId, Reply};
+use private_store::FetchFault;
+use sha2::{Digest as _, Sha256};
+use std::alloc::{AllocError, Global};
+
+impl JobRow {
+    /// A chunk of a fetch of this number, from a node: if the fetch asks that node, and lacks a chunk of this index and
+    /// length, its bytes are put in the window; otherwise nothing changes. The last chunk seals the copy, and the directory
+    /// is told where it is, if its bytes have the digest that the source told; otherwise the fetch has failed, and its place
+    /// is given back. The error is out of memory, and then nothing has changed.
+    pub fn chunk(
+        &mut self,
+        alloc: Global,
+        node: u32,
+        from: u32,
+        id: &ObjectId,
+        number: u64,
+        index: u32,
+        bytes: &[u8],
+    ) -> Result<Outcome, AllocError>
+        ensures ok { IfOk result (λ o. (beside : Beside) (contents : Contents) → IsShown self.old beside contents
+            → TakesStep node self.old beside contents (input.Arrive (arrival.FromPeer from (peer.Chunk id.now number index bytes.now))) (given_of o) self.new beside) }
+        ensures told { IfOk result (λ o. o.reply ≡ reply.Ok) }
+        ensures few { IfOk result (λ o. length o.messages ≤ 1) }
+        ensures err { OnErr result (self.new ≡ self.old) }
+    {
+        let fills = self
+            .copies()
+            .is_filled_by(id, number, from, index, bytes.len());
+        if !fills {
+            return Ok(Outcome::only(alloc, Reply::Ok));
+        }
+        if self.copies().lacks_only(id, index) {
+            return self.last_chunk(alloc, node, from, id, number, index, bytes);
+        }
+        self.put_chunk(id, index, bytes);
+        self.take_chunk(id, number, from, index, bytes.len());
+        Ok(Outcome::only(alloc, Reply::Ok))
+    }
+
+    /// The chunk that fills the last gap.
+    fn last_chunk(
+        &mut self,
+        alloc: Global,
+        node: u32,
+        from: u32,
+        id: &ObjectId,
+        number: u64,
+        index: u32,
+        bytes: &[u8],
+    ) -> Result<Outcome, AllocError>
+        requires fills { option_map_or (fills number from index (length bytes.now)) (at self.old.copies id.now) false ≡ true }
+        requires last { option_map_or (lacks_only index) (at self.old.copies id.now) false ≡ true }
+        ensures ok { IfOk result (λ o. (beside : Beside) (contents : Contents) → IsShown self.old beside contents
+            → TakesStep node self.old beside contents (input.Arrive (arrival.FromPeer from (peer.Chunk id.now number index bytes.now))) (given_of o) self.new beside) }
+        ensures told { IfOk result (λ o. o.reply ≡ reply.Ok) }
+        ensures few { IfOk result (λ o. length o.messages ≤ 1) }
+        ensures err { OnErr result (self.new ≡ self.old) }
+    {
+        let Some(copy) = self.copies().get(id) else {
+            unreachable!()
+        };
+        let Some(digest) = copy.digest() else {
+            unreachable!()
+        };
+        let entry = Location {
+            node,
+            length: copy.length(),
+            digest,
+        };
+        let message = DirectoryMessage::AddLocation(*id, entry);
+        let messages = Outcome::to_directory(alloc, Some(message))?;
+        self.put_chunk(id, index, bytes);
+        if !self.has_digest(id, &digest) {
+            self.fail_fetch(id, FetchFault::Damaged);
+            return Ok(Outcome::only(alloc, Reply::Ok));
+        }
+        self.bring_copy(id);
+        Ok(Outcome {
+            reply: Reply::Ok,
+            messages,
+            erase: Erase::NoKey,
+        })
+    }
+
+    /// The bytes of the chunk of this index are put in their place.
+    fn put_chunk(&mut self, id: &ObjectId, index: u32, bytes: &[u8])
+        ensures copies { self.new.copies ≡ self.old.copies }
+        ensures row { (e : Extent) → place_of self.old.copies id.now ≡ Some e → 65536 * index < 2 ^ 32 → 65536 * index + length bytes.now ≤ e.length
+            → self.new ≡ row_written self.old e (65536 * index) bytes.now }
+    {
+        self.put_bytes(id, index.saturating_mul(CHUNK_SIZE), bytes);
+    }
+
+    /// Whether the bytes of the copy have the digest, if it is resident. Hashes them once.
+    fn has_digest(&self, id: &ObjectId, digest: &Digest) -> bool
+        ensures { (k : Kept) (e : Extent) → at self.now.copies id.now ≡ Some k → extent_of k.copy ≡ Some e
+            → result ≡ has_digest (take k.copy.length (placed_bytes e self.now.window.placed)) digest.now }
+    {
+        Digest(Sha256::digest(self.bytes(id))) == *digest
+    }
+}

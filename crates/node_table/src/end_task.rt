@@ -1,0 +1,230 @@
+//! EndTask: a task of the job ends.
+ghost use Rattle.std.specs.Prelude.{◌≡◌, ◌==◌, ℕ, [], true, None, map, fold, length, IfOk, OnOk, OnErr, ◌++◌, ◌+◌, ◌*◌, ◌≤◌, ◌<◌, vec_len, vec_capacity, option_to_list, option_map};
+ghost use Rattle.obj_id.specs.declared.commands.Command.TheVariants as command;
+ghost use Rattle.private_store.specs.declared.inputs.Input.TheVariants as input;
+ghost use Rattle.private_store.specs.Contents.{Contents};
+ghost use Rattle.node_table.specs.Checks.{end_task_check as end_task_check_lem};
+ghost use Rattle.node_table.specs.EndingTasks.{beside_after, doomed_row, doom_posts, given_up_row, give_up_posts, told_each, keys_of_copies, gone_key, gone_keys as gone_keys_lem};
+ghost use Rattle.node_table.specs.Ending.{key_at};
+ghost use Rattle.node_table.specs.Outcomes.{given_of};
+ghost use Rattle.node_table.specs.Row.{Beside, place_of, ArePlaced};
+ghost use Rattle.node_table.specs.Scope.{posted, farewell_at};
+ghost use Rattle.node_table.specs.Shown.{IsShown, TakesStep};
+
+use crate::hold_commands::push_key;
+use crate::outcome::{Erase, Outcome};
+use crate::row::JobRow;
+use obj_id::{
+    DeviceKey, DirectoryMessage, Items, Message, ObjectId, OwnItem, Place, Reply, TaskNo,
+};
+use std::alloc::{AllocError, Global};
+
+impl JobRow {
+    /// EndTask: the task is remembered, the hands of its own objects end, its copies are doomed, and its borrows given
+    /// up. `Gone` if it has ended already, `TooMany` at 1,024 ended tasks. Takes walks over the job's copies, a sort,
+    /// and memory for each copy. The error is out of memory, and then nothing has changed.
+    pub fn end_task(
+        &mut self,
+        alloc: Global,
+        node: u32,
+        session: u32,
+        task: TaskNo,
+    ) -> Result<Outcome, AllocError>
+        ensures ok { IfOk result (λ o. (beside : Beside) (contents : Contents) → IsShown self.old beside contents
+            → TakesStep node self.old beside contents (input.Call session (command.EndTask task)) (given_of o) self.new (beside_after self.old task beside)) }
+        ensures few { IfOk result (λ o. length o.messages ≤ 2 * length self.old.copies) }
+        ensures late { OnErr result (end_task_check_lem self.old task ≡ None) }
+        ensures err { OnErr result (self.new ≡ self.old) }
+    {
+        if let Some(refusal) = self.end_task_check(task) {
+            return Ok(Outcome::only(alloc, Reply::Refused(refusal)));
+        }
+        let items = self.copies().items(alloc)?;
+        let keys = self.keys_with_ids(alloc, items.as_slice())?;
+        let mut messages = Vec::with_capacity(alloc, 2 * self.copies().len())?;
+        let mut erased = Vec::with_capacity(alloc, keys.as_slice().len())?;
+        self.remember_end(task)?;
+        self.doom_each(node, task, items.as_slice(), &mut messages);
+        self.give_up_each(node, task, items.as_slice(), &mut messages);
+        self.push_gone(keys.as_slice(), &mut erased);
+        Ok(Outcome {
+            reply: Reply::Ok,
+            messages: Items::from_vec(messages),
+            erase: Erase::Many(Items::from_vec(erased)),
+        })
+    }
+
+    /// The device keys of those of these copies that are backed, each with its id. The error is out of memory.
+    fn keys_with_ids(
+        &self,
+        alloc: Global,
+        items: &[OwnItem],
+    ) -> Result<Items<(ObjectId, DeviceKey)>, AllocError>
+        ensures { IfOk result (λ keys. keys ≡ keys_of_copies self.now (map (λ item. item.id) items.now)) }
+    {
+        let mut keys = Vec::with_capacity(alloc, items.len())?;
+        for item in items {
+            push_last(&mut keys, self.key_with_id(&item.id));
+        }
+        Ok(Items::from_vec(keys))
+    }
+
+    /// The id and the device key of the copy, if it is backed.
+    fn key_with_id(&self, id: &ObjectId) -> Option<(ObjectId, DeviceKey)>
+        ensures { result ≡ option_map (λ key. (id.now, key)) (key_at self.now id.now) }
+    {
+        let key = self.device_key(id)?;
+        Some((*id, key))
+    }
+
+    /// The key, if its copy is gone.
+    fn key_if_gone(&self, entry: &(ObjectId, DeviceKey)) -> Option<DeviceKey>
+        ensures { option_to_list result ≡ gone_key self.now entry.now }
+    {
+        let (id, key) = entry;
+        if self.copies().has(id) {
+            return None;
+        }
+        Some(*key)
+    }
+
+    /// The keys of those of these copies that are gone come last. There is room for all.
+    fn push_gone(&self, keys: &[(ObjectId, DeviceKey)], erased: &mut Vec<DeviceKey>)
+        requires { vec_len erased.old + length keys.now ≤ vec_capacity erased.old }
+        ensures { erased.new.items ≡ erased.old.items ++ gone_keys_lem self.now keys.now }
+    {
+        for item in keys {
+            push_key(erased, self.key_if_gone(item));
+        }
+    }
+
+    /// Those of these copies that are the task's are doomed, one after another, and what the directory is told of them
+    /// comes last. There is room for a message of each.
+    fn doom_each(
+        &mut self,
+        node: u32,
+        task: TaskNo,
+        items: &[OwnItem],
+        messages: &mut Vec<(Place, Message)>,
+    )
+        requires { vec_len messages.old + length items.now ≤ vec_capacity messages.old }
+        ensures row { self.new ≡ fold (doomed_row task) self.old (map (λ item. item.id) items.now) }
+        ensures told { messages.new.items ≡ messages.old.items ++ told_each (doomed_row task) (doom_posts node task) self.old (map (λ item. item.id) items.now) }
+        ensures len { vec_len messages.new ≤ vec_len messages.old + length items.now }
+        ensures capacity { vec_capacity messages.old ≤ vec_capacity messages.new }
+    {
+        for item in items {
+            self.doom_one(node, task, &item.id, messages);
+        }
+    }
+
+    /// The task's borrows of these copies are given up, one after another, and what the directory is told of those that
+    /// are doomed by it comes last. There is room for a message of each.
+    fn give_up_each(
+        &mut self,
+        node: u32,
+        task: TaskNo,
+        items: &[OwnItem],
+        messages: &mut Vec<(Place, Message)>,
+    )
+        requires { vec_len messages.old + length items.now ≤ vec_capacity messages.old }
+        ensures row { self.new ≡ fold (given_up_row task) self.old (map (λ item. item.id) items.now) }
+        ensures told { messages.new.items ≡ messages.old.items ++ told_each (given_up_row task) (give_up_posts node task) self.old (map (λ item. item.id) items.now) }
+        ensures len { vec_len messages.new ≤ vec_len messages.old + length items.now }
+        ensures capacity { vec_capacity messages.old ≤ vec_capacity messages.new }
+    {
+        for item in items {
+            self.give_up_one(node, task, &item.id, messages);
+        }
+    }
+
+    /// The copy is doomed if it is the task's, and removed if nothing keeps it. There is room for a message.
+    fn doom_one(
+        &mut self,
+        node: u32,
+        task: TaskNo,
+        id: &ObjectId,
+        messages: &mut Vec<(Place, Message)>,
+    )
+        requires { vec_len messages.old < vec_capacity messages.old }
+        ensures row { self.new ≡ doomed_row task self.old id.now }
+        ensures told { messages.new.items ≡ messages.old.items ++ doom_posts node task self.old id.now }
+        ensures len { vec_len messages.new ≤ vec_len messages.old + 1 }
+        ensures capacity { vec_capacity messages.old ≤ vec_capacity messages.new }
+    {
+        let own = task == id.task();
+        if !own {
+            return;
+        }
+        push_message(
+            messages,
+            self.last_words(node, id, !self.copies().is_doomed(id)),
+        );
+        self.doom_copy(id);
+        self.settle(id);
+    }
+
+    /// The task's borrow of the copy is given up, if it has one: a copy that isn't in scope then is doomed, and removed
+    /// if nothing keeps it. There is room for a message.
+    fn give_up_one(
+        &mut self,
+        node: u32,
+        task: TaskNo,
+        id: &ObjectId,
+        messages: &mut Vec<(Place, Message)>,
+    )
+        requires { vec_len messages.old < vec_capacity messages.old }
+        ensures row { self.new ≡ given_up_row task self.old id.now }
+        ensures told { messages.new.items ≡ messages.old.items ++ give_up_posts node task self.old id.now }
+        ensures len { vec_len messages.new ≤ vec_len messages.old + 1 }
+        ensures capacity { vec_capacity messages.old ≤ vec_capacity messages.new }
+    {
+        if self.copies().is_doomed(id) {
+            self.give_up_copy(id, task);
+            return;
+        }
+        if !self.copies().borrows(id, task) {
+            return;
+        }
+        let stays = self.copies().in_scope_without(id, task);
+        push_message(messages, self.last_words(node, id, !stays));
+        self.give_up_copy(id, task);
+        self.settle(id);
+    }
+
+    /// What the directory is told of the copy if it is doomed now: nothing, unless it was sealed.
+    fn last_words(&self, node: u32, id: &ObjectId, dooms: bool) -> Option<DirectoryMessage>
+        ensures { result ≡ farewell_at node self.now.copies id.now dooms }
+    {
+        if !dooms {
+            return None;
+        }
+        self.copies().farewell(node, id)
+    }
+}
+
+/// The message to the directory comes last, if there is one. There is room for it.
+fn push_message(messages: &mut Vec<(Place, Message)>, message: Option<DirectoryMessage>)
+    requires { vec_len messages.old < vec_capacity messages.old }
+    ensures items { messages.new.items ≡ messages.old.items ++ posted message }
+    ensures len { vec_len messages.new ≤ vec_len messages.old + 1 }
+    ensures capacity { vec_capacity messages.old ≤ vec_capacity messages.new }
+{
+    if let Some(message) = message {
+        messages
+            .push((Place::Directory, Message::ToDirectory(message)))
+            .unwrap();
+    }
+}
+
+/// The key with its id comes last, if there is one. There is room for it.
+fn push_last(keys: &mut Vec<(ObjectId, DeviceKey)>, key: Option<(ObjectId, DeviceKey)>)
+    requires { vec_len keys.old < vec_capacity keys.old }
+    ensures items { keys.new.items ≡ keys.old.items ++ option_to_list key }
+    ensures len { vec_len keys.new ≤ vec_len keys.old + 1 }
+    ensures capacity { vec_capacity keys.old ≤ vec_capacity keys.new }
+{
+    if let Some(key) = key {
+        keys.push(key).unwrap();
+    }
+}
