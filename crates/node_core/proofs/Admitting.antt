@@ -113,7 +113,6 @@ module _ (number : ℕ) (line : WorkLine) (job : JobNo) (quota : Quota) (good : 
       listed = λ id k found. cc;
       bytes = λ id k e found lies. cc;
       digests = λ id k found keeps. cc;
-      plain = λ id k found. cc;
       working = λ id k found. cc;
       granted = λ id k found. cc;
       received = refl;
@@ -213,12 +212,13 @@ module _ (number : ℕ) (a b : Admissions) (line : WorkLine) (job : JobNo) (quot
     pub admit_steps : StepsOne before (event.Admit job quota key) (only reply.Ok) after
     admit_steps = record {
       number = refl;
-      views = views;
+      views = λ v shows q. views q (v q) (shows q);
       told = λ view h. subst (λ v. IsStepOf number v (input.Begin quota) (only reply.Ok)) (sym (fresh_is view (no_row view h))) (begin_told number line job quota good);
       operator = sym (ap answered passed);
+      by_views = λ v h. refl;
       admissions = is;
       lives = lives;
-      line = refl;
+      line = λ v shows. refl;
       none = refl;
       none_new = refl;
     }

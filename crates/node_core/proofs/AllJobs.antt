@@ -1,14 +1,12 @@
 -- A built event is an input of its own job alone: so what is told of one job at a time is the step of all of them.
-use Rattle.std.proofs.Common.{◌≡◌, ℕ, Bool, true, false, not, cond, ◌==◌, ◌≤◌, ◌&&◌, length, List, [], ◌∷◌, ◌++◌, map, filter, Option, Some, None, option_to_list, refl, sym, ap, subst, ◌∙◌, arith}
-use Rattle.std.specs.Prelude.{option_map, nat_lt, nat_le}
+use Rattle.std.proofs.Common.{◌≡◌, ℕ, Bool, true, false, not, cond, ◌==◌, ◌≤◌, ◌&&◌, List, [], ◌∷◌, ◌++◌, map, filter, Option, Some, None, option_to_list, refl, sym, ap, subst, ◌∙◌, arith}
+use Rattle.std.specs.Prelude.{option_map, nat_lt, nat_le, count_by}
 use Rattle.std.specs.List.{list_all}
 use Rattle.std.specs.Option.{option_map_or}
 use Rattle.std.proofs.lemmas.Bool.Decides.{nat_tests}
 use Rattle.std.proofs.lemmas.List.{append-nil}
 use Rattle.obj_id.specs.declared.ids.JobNo.{JobNo}
-use Rattle.obj_id.specs.declared.works.Quota.{Quota}
-use Rattle.obj_id.specs.declared.works.JobKey.{JobKey}
-use Rattle.obj_id.specs.declared.refusals.Refusal.{Refusal}
+use Rattle.obj_id.specs.declared.works.DeviceAnswer.{DeviceAnswer}
 use Rattle.obj_id.specs.declared.commands.Command.TheVariants as command
 use Rattle.obj_id.specs.declared.commands.Reply.{Reply}
 use Rattle.obj_id.specs.declared.commands.Reply.TheVariants as reply
@@ -21,21 +19,22 @@ use Rattle.private_store.specs.Hands.{Hand, hands_ended}
 use Rattle.private_store.specs.Trace.{ends, hands_by}
 use Rattle.private_store.specs.NodeInputs.{JobInput, Before, wants_memory, own_here, own_due, notes_of, notes_here, hands_after, only_of, inputs_to, withdrawn_here}
 use Rattle.private_store.specs.Contents.{View, judge}
-use Rattle.job_admission.specs.Admissions.{admit_check}
 use Rattle.private_store.specs.Private.{view_step, view_from}
 use Rattle.spill_work.specs.declared.queue.Queued.{Queued}
-use Rattle.spill_work.specs.Line.{shown, is_of, works_of, used_by}
+use Rattle.spill_work.specs.Line.{shown, is_of, is_at, works_of, used_by}
 use Rattle.node_table.specs.Asked.{HasAsked}
 use Rattle.node_table.specs.Row.{Row}
 use Rattle.node_table.specs.Shown.{Given as RowGiven}
 use Rattle.node_core.specs.Hosted.{Hosted, IsViewBy, Shows, ShowsAll, row_at}
 use Rattle.node_core.specs.Built.{is_built}
-use Rattle.node_core.specs.OneJob.{input_of, view_by, view_after, IsGiven as IsRowGiven, IsOperatorAnswer as IsOneAnswer, IsLineAfter, StepsOne}
+use Rattle.node_core.specs.OneJob.{input_of, view_by, view_after, IsGiven as IsRowGiven, IsOperatorAnswer as IsOneAnswer, IsAnswerByViews, IsLineAfter, StepsOne}
 use Rattle.node_core.specs.Outcomes.{with_no_notes}
-use Rattle.node_core.specs.Foreseen.{most_messages, unless_refused, judged_of, IsAsForeseen}
-use Rattle.node_core.specs.Steps.{before_of, job_of_event, IsGiven, answered, end_check, judged_notes, queued, line_left, asked_now, line_after, IsEventAnswer, StepsFrom, Steps}
+use Rattle.node_core.specs.Judged.{is_finish, judged_as, IsCallJudged}
+use Rattle.node_core.specs.Steps.{before_of, job_of_event, IsGiven, answered, judged_notes, stale_unless, queued, taken_if, line_left, asked_now, line_after, IsEventAnswer, StepsFrom, Steps}
+use Rattle.private_store.proofs.Tests.{both, both_left, both_right}
 use Rattle.node_core.proofs.Never.{told_never}
 use Rattle.node_core.proofs.Lines.{above, above-used, asked_now_is}
+use Rattle.node_core.proofs.Taking.{marked-is}
 
 -- ---- what a built event is
 
@@ -43,26 +42,39 @@ use Rattle.node_core.proofs.Lines.{above, above-used, asked_now_is}
 abbrev pub own_of : Event → Reply (List ℕ) → Option JobInput
 own_of e told = option_map (λ x. record { job = job_of_event e; input = x }) (input_of e told)
 
-pub own_due-built : (before : Before) (e : Event) (told : Reply (List ℕ)) → is_built e ≡ true → own_due before (Own e) told ≡ own_of e told
-own_due-built before (event.Admit job quota key) reply.Ok built = refl
-own_due-built before (event.Admit job quota key) _ built = refl
-own_due-built before (event.JobEnd job) reply.Ok built = refl
-own_due-built before (event.JobEnd job) _ built = refl
-own_due-built before (event.Call job session c) told built = refl
-own_due-built before (event.Requota job quota) told built = absurd cc
-own_due-built before event.Take told built = absurd cc
-own_due-built before (event.Finish job number a) told built = absurd cc
+-- a Finish is answered Ok exactly if its work is out
+abbrev pub IsFinishAnswer : Before → Event → Reply (List ℕ) → Type 0
+IsFinishAnswer before (event.Finish job number a) told = told ≡ answered (stale_unless (before.out job.0 number))
+IsFinishAnswer before _ told = told ≡ told
 
-pub own_here-built : (before : Before) (e : Event) (told : Reply (List ℕ)) → is_built e ≡ true → wants_memory told ≡ false → own_here before (Own e) told ≡ own_of e told
-own_here-built before (event.Admit job quota key) reply.Ok built never = refl
-own_here-built before (event.Admit job quota key) _ built never = refl
-own_here-built before (event.JobEnd job) reply.Ok built never = refl
-own_here-built before (event.JobEnd job) _ built never = refl
-own_here-built before (event.Call job session c) told built never =
+finish_own : (job : JobNo) (number : ℕ) (a : DeviceAnswer) (out : Bool) → cond out (Some (record { job = job.0; input = input.Answer number a })) None ≡ own_of (event.Finish job number a) (answered (stale_unless out))
+finish_own job number a true = refl
+finish_own job number a false = refl
+
+pub own_due-built : (before : Before) (e : Event) (told : Reply (List ℕ)) → is_built e ≡ true → IsFinishAnswer before e told → own_due before (Own e) told ≡ own_of e told
+own_due-built before (event.Admit job quota key) reply.Ok built is = refl
+own_due-built before (event.Admit job quota key) _ built is = refl
+own_due-built before (event.JobEnd job) reply.Ok built is = refl
+own_due-built before (event.JobEnd job) _ built is = refl
+own_due-built before (event.Call job session c) told built is = refl
+own_due-built before (event.Requota job quota) reply.Ok built is = refl
+own_due-built before (event.Requota job quota) _ built is = refl
+own_due-built before event.Take told built is = refl
+own_due-built before (event.Finish job number a) told built is = finish_own job number a (before.out job.0 number) ∙ sym (ap (own_of (event.Finish job number a)) is)
+
+pub own_here-built : (before : Before) (e : Event) (told : Reply (List ℕ)) → is_built e ≡ true → IsFinishAnswer before e told → wants_memory told ≡ false → own_here before (Own e) told ≡ own_of e told
+own_here-built before (event.Admit job quota key) reply.Ok built is never = refl
+own_here-built before (event.Admit job quota key) _ built is never = refl
+own_here-built before (event.JobEnd job) reply.Ok built is never = refl
+own_here-built before (event.JobEnd job) _ built is never = refl
+own_here-built before (event.Call job session c) told built is never =
     ap (λ t. cond t None (Some (record { job = job.0; input = input.Call session c }))) never
-own_here-built before (event.Requota job quota) told built never = absurd cc
-own_here-built before event.Take told built never = absurd cc
-own_here-built before (event.Finish job number a) told built never = absurd cc
+own_here-built before (event.Requota job quota) reply.Ok built is never = refl
+own_here-built before (event.Requota job quota) _ built is never = refl
+own_here-built before event.Take told built is never = refl
+own_here-built before (event.Finish job number a) told built is never =
+    ap (λ t. cond t None (cond (before.out job.0 number) (Some (record { job = job.0; input = input.Answer number a })) None)) never
+    ∙ own_due-built before (event.Finish job number a) told built is
 
 -- where no hand stands, no hand ends
 none_end : (o : Option (Hand → Bool)) → option_map_or (λ test. map withdrawn_here (hands_ended test [])) o [] ≡ []
@@ -89,9 +101,9 @@ no_note before (event.Call job session (command.EndTask task)) built none = absu
 no_note before (event.Call job session (command.Grant id target)) built none = absurd cc
 no_note before (event.Call job session (command.Withdraw id target)) built none = absurd cc
 no_note before (event.Call job session (command.Peek id offset n)) built none = absurd cc
-no_note before (event.Requota job quota) built none = absurd cc
-no_note before event.Take built none = absurd cc
-no_note before (event.Finish job number a) built none = absurd cc
+no_note before (event.Requota job quota) built none = refl
+no_note before event.Take built none = refl
+no_note before (event.Finish job number a) built none = refl
 
 pub notes_here-built : (before : Before) (e : Event) (told : Reply (List ℕ)) → is_built e ≡ true → before.hands ≡ [] → notes_here before (Own e) told ≡ []
 notes_here-built before e reply.Ok built none = no_note before e built none
@@ -117,9 +129,9 @@ no_hand (event.Call job session (command.EndTask task)) built = absurd cc
 no_hand (event.Call job session (command.Grant id target)) built = absurd cc
 no_hand (event.Call job session (command.Withdraw id target)) built = absurd cc
 no_hand (event.Call job session (command.Peek id offset n)) built = absurd cc
-no_hand (event.Requota job quota) built = absurd cc
-no_hand event.Take built = absurd cc
-no_hand (event.Finish job number a) built = absurd cc
+no_hand (event.Requota job quota) built = refl
+no_hand event.Take built = refl
+no_hand (event.Finish job number a) built = refl
 
 pub hands_after-built : (e : Event) (told : Reply (List ℕ)) → is_built e ≡ true → hands_after [] (Own e) told ≡ []
 hands_after-built e reply.Ok built = no_hand e built
@@ -127,7 +139,7 @@ hands_after-built e _ built = refl
 
 -- ---- every job's view
 
-one_input : (number job own : ℕ) (view : View) (o : Option Input)
+pub one_input : (number job own : ℕ) (view : View) (o : Option Input)
     → view_from number view (only_of job (option_to_list (option_map (λ x. record { job = own; input = x }) o))) ≡ cond (job == own) (view_by number view o) view
 one_input number job own view None = by (job == own)
   where
@@ -149,6 +161,7 @@ pub record Works (node : Hosted) (job : ℕ) (view : View) : Type 0 where
   pub works : view.shape.works ≡ works_of node.works (record { 0 = job })
   pub asked : view.shape.works_asked ≡ used_by node.works (record { 0 = job })
   pub used : list_all (λ work. nat_lt 0 work.number && nat_le work.number (used_by node.works (record { 0 = job }))) (works_of node.works (record { 0 = job })) ≡ true
+  pub one : (n : ℕ) → count_by (λ work. work.number == n) (works_of node.works (record { 0 = job })) ≤ 1
 
 pub works_shown : (node : Hosted) (job : ℕ) (view : View) → Shows node job view → Works node job view
 works_shown node job view h = by (row_at node (record { 0 = job })) h.by_row
@@ -158,20 +171,34 @@ works_shown node job view h = by (row_at node (record { 0 = job })) h.by_row
       works = ap (λ s. s.works) r.shape;
       asked = ap (λ s. s.works_asked) r.shape;
       used = r.shown.kept.kept.shape.numbers_used;
+      one = r.shown.kept.kept.shape.one_number;
     }
     by None b = record {
       works = ap (λ v. v.shape.works) b.is ∙ sym b.works;
       asked = ap (λ v. v.shape.works_asked) b.is ∙ sym b.used;
       used = ap (list_all (λ work. nat_lt 0 work.number && nat_le work.number (used_by node.works (record { 0 = job })))) b.works;
+      one = λ n. subst (λ ws. count_by (λ work. work.number == n) ws ≤ 1) (sym b.works) (omega arith);
     }
 
-none_of : (job : JobNo) (works : List Queued) → filter (is_of job) (filter (λ work. not (is_of job work)) works) ≡ []
-none_of job [] = refl
-none_of job (w ∷ ws) = by (is_of job w) refl (none_of job ws)
+-- what is left of a job's works is within what they were within
+used_left : (job : JobNo) (stays : Queued → Bool) (used : ℕ) (works : List Queued)
+    → list_all (λ work. nat_lt 0 work.number && nat_le work.number used) (map (λ work. shown work.asked) (filter (is_of job) works)) ≡ true
+    → list_all (λ work. nat_lt 0 work.number && nat_le work.number used) (map (λ work. shown work.asked) (filter (is_of job) (filter stays works))) ≡ true
+used_left job stays used [] h = refl
+used_left job stays used (w ∷ ws) h = by (stays w) (is_of job w) refl h (used_left job stays used ws)
   where
-    by : (t : Bool) → is_of job w ≡ t → filter (is_of job) (filter (λ work. not (is_of job work)) ws) ≡ [] → filter (is_of job) (cond (not t) (w ∷ filter (λ work. not (is_of job work)) ws) (filter (λ work. not (is_of job work)) ws)) ≡ []
-    by true e h = h
-    by false e h = ap (λ b. cond b (w ∷ filter (is_of job) (filter (λ work. not (is_of job work)) ws)) (filter (is_of job) (filter (λ work. not (is_of job work)) ws))) e ∙ h
+    Within : List Queued → Type 0
+    Within vs = list_all (λ work. nat_lt 0 work.number && nat_le work.number used) (map (λ (work : Queued). shown work.asked) vs) ≡ true
+
+    by : (s o : Bool) → is_of job w ≡ o → Within (cond o (w ∷ filter (is_of job) ws) (filter (is_of job) ws)) → (Within (filter (is_of job) ws) → Within (filter (is_of job) (filter stays ws)))
+        → Within (filter (is_of job) (cond s (w ∷ filter stays ws) (filter stays ws)))
+    by true true is h rest =
+        subst (λ o. Within (cond o (w ∷ filter (is_of job) (filter stays ws)) (filter (is_of job) (filter stays ws)))) (sym is)
+        (both _ _ (both_left _ _ h) (rest (both_right _ _ h)))
+    by true false is h rest =
+        subst (λ o. Within (cond o (w ∷ filter (is_of job) (filter stays ws)) (filter (is_of job) (filter stays ws)))) (sym is) (rest h)
+    by false true is h rest = rest (both_right _ _ h)
+    by false false is h rest = rest h
 
 module _ (old new : Hosted) (v : ℕ → View) (shows : ShowsAll old v) where
   -- an input of the job, after which the node shows its step
@@ -189,32 +216,47 @@ module _ (old new : Hosted) (v : ℕ → View) (shows : ShowsAll old v) where
     called_line h = asked_now_is old.works job new.works h own_before.used ∙ ap (λ ws. old.works.works ++ queued job.0 ws) (sym asked_are)
 
     -- where the line is the old one, the job asked for nothing
-    same_line : new.works.works ≡ old.works.works → new.works.works ≡ old.works.works ++ queued job.0 (view_step old.number (v job.0) x).works
+    pub same_line : new.works.works ≡ old.works.works → new.works.works ≡ old.works.works ++ queued job.0 (view_step old.number (v job.0) x).works
     same_line is =
         is ∙ sym (append-nil old.works.works)
         ∙ ap (λ ws. old.works.works ++ queued job.0 ws) (sym (asked_are ∙ ap (λ ws. above (used_by old.works job) (map (λ work. shown work.asked) (filter (is_of job) ws))) is ∙ above-used (used_by old.works job) (works_of old.works job) own_before.used))
 
-    ended_line : new.works.works ≡ filter (λ work. not (is_of job work)) old.works.works
-        → new.works.works ≡ filter (λ work. not (is_of job work)) old.works.works ++ queued job.0 (view_step old.number (v job.0) x).works
-    ended_line is =
-        is ∙ sym (append-nil (filter (λ work. not (is_of job work)) old.works.works))
-        ∙ ap (λ ws. filter (λ work. not (is_of job work)) old.works.works ++ queued job.0 ws) (sym (asked_are ∙ ap (λ ws. above (used_by old.works job) (map (λ work. shown work.asked) (filter (is_of job) ws))) is ∙ ap (λ ws. above (used_by old.works job) (map (λ work. shown work.asked) ws)) (none_of job old.works.works)))
+    -- where works leave the line, the job asked for nothing
+    left_line : (stays : Queued → Bool) → new.works.works ≡ filter stays old.works.works → new.works.works ≡ filter stays old.works.works ++ queued job.0 (view_step old.number (v job.0) x).works
+    left_line stays is =
+        is ∙ sym (append-nil (filter stays old.works.works))
+        ∙ ap (λ ws. filter stays old.works.works ++ queued job.0 ws) (sym (asked_are ∙ ap (λ ws. above (used_by old.works job) (map (λ work. shown work.asked) (filter (is_of job) ws))) is
+        ∙ above-used (used_by old.works job) (map (λ work. shown work.asked) (filter (is_of job) (filter stays old.works.works))) (used_left job stays (used_by old.works job) old.works.works own_before.used)))
 
-  own_shown : (job : JobNo) (x : Input) → Shows new job.0 (cond (job.0 == job.0) (view_step old.number (v job.0) x).view (v job.0)) → Shows new job.0 (view_step old.number (v job.0) x).view
+  pub own_shown : (job : JobNo) (x : Input) → Shows new job.0 (cond (job.0 == job.0) (view_step old.number (v job.0) x).view (v job.0)) → Shows new job.0 (view_step old.number (v job.0) x).view
   own_shown job x h = let same : (job.0 == job.0) ≡ true = grind (arith, nat_tests) in subst (λ t. Shows new job.0 (cond t (view_step old.number (v job.0) x).view (v job.0))) same h
 
   pub line_is : (e : Event) (told : Reply (List ℕ)) → is_built e ≡ true → IsLineAfter old.works e told new.works → ((job : ℕ) → Shows new job (view_after old.number job (v job) e told))
       → new.works.works ≡ line_left old.works.works (Own e) told ++ asked_now old.number v (own_of e told)
   line_is (event.Admit job quota key) reply.Ok built h after = same_line job (input.Begin quota) (own_shown job (input.Begin quota) (after job.0)) h
   line_is (event.Admit job quota key) _ built h after = h ∙ sym (append-nil old.works.works)
-  line_is (event.JobEnd job) reply.Ok built h after = ended_line job input.End (own_shown job input.End (after job.0)) h
+  line_is (event.JobEnd job) reply.Ok built h after = left_line job input.End (own_shown job input.End (after job.0)) (λ work. not (is_of job work)) h
   line_is (event.JobEnd job) _ built h after = h ∙ sym (append-nil old.works.works)
   line_is (event.Call job session c) told built h after = called_line job (input.Call session c) (own_shown job (input.Call session c) (after job.0)) h
-  line_is (event.Requota job quota) told built h after = absurd cc
-  line_is event.Take told built h after = absurd cc
-  line_is (event.Finish job number a) told built h after = absurd cc
+  line_is (event.Requota job quota) reply.Ok built h after = same_line job (input.Requota quota) (own_shown job (input.Requota quota) (after job.0)) h
+  line_is (event.Requota job quota) _ built h after = h ∙ sym (append-nil old.works.works)
+  line_is event.Take (reply.Work work) built h after =
+      h ∙ sym (marked-is work.job work.number old.works.works (works_shown old work.job.0 (v work.job.0) (shows work.job.0)).one)
+      ∙ sym (append-nil (map (taken_if work.job work.number) old.works.works))
+  line_is event.Take _ built h after = h ∙ sym (append-nil old.works.works)
+  line_is (event.Finish job number a) reply.Ok built h after =
+      left_line job (input.Answer number a) (own_shown job (input.Answer number a) (after job.0)) (λ work. not (is_at job number work && work.taken)) h
+  line_is (event.Finish job number a) _ built h after = h ∙ sym (append-nil (filter (λ work. not (is_at job number work && work.taken)) old.works.works))
 
 -- ---- the step
+
+pub finish_answer : (old : Hosted) (v : ℕ → View) (e : Event) (told : Reply (List ℕ)) → IsEventAnswer old v e told → IsFinishAnswer (before_of old v) e told
+finish_answer old v (event.Admit job quota key) told is = refl
+finish_answer old v (event.JobEnd job) told is = refl
+finish_answer old v (event.Call job session c) told is = refl
+finish_answer old v (event.Requota job quota) told is = refl
+finish_answer old v event.Take told is = refl
+finish_answer old v (event.Finish job number a) told is = is
 
 module _ (old new : Hosted) (e : Event) (given : RowGiven) (built : is_built e ≡ true) (h : StepsOne old e given new) where
   module _ (v : ℕ → View) (shows : ShowsAll old v) where
@@ -225,19 +267,22 @@ module _ (old new : Hosted) (e : Event) (given : RowGiven) (built : is_built e �
     told_is (Some x) g = record { reply = g.reply; posts = g.posts; erased = g.erased }
     told_is None g = record { posts = g.posts; erased = g.erased }
 
-    told : IsGiven old.number v (own_due before (Own e) given.reply) (with_no_notes given)
-    told = subst (λ o. IsGiven old.number v o (with_no_notes given)) (sym (own_due-built before e given.reply built)) (told_is (input_of e given.reply) (h.told (v (job_of_event e)) (shows (job_of_event e))))
-
     operator : IsEventAnswer old v e given.reply
-    operator = by e built h.operator
+    operator = by e built h.operator (h.by_views v shows)
       where
-        by : (e : Event) → is_built e ≡ true → IsOneAnswer old.admissions e given.reply → IsEventAnswer old v e given.reply
-        by (event.Admit job quota key) built is = is
-        by (event.JobEnd job) built is = is
-        by (event.Call job session c) built is = is
-        by (event.Requota job quota) built is = absurd cc
-        by event.Take built is = absurd cc
-        by (event.Finish job number a) built is = absurd cc
+        by : (e : Event) → is_built e ≡ true → IsOneAnswer old e given.reply → IsAnswerByViews old v e given.reply → IsEventAnswer old v e given.reply
+        by (event.Admit job quota key) built is by_views = is
+        by (event.JobEnd job) built is by_views = is
+        by (event.Call job session c) built is by_views = is
+        by (event.Requota job quota) built is by_views = by_views
+        by event.Take built is by_views = by_views
+        by (event.Finish job number a) built is by_views = by_views
+
+    answer : IsFinishAnswer before e given.reply
+    answer = finish_answer old v e given.reply operator
+
+    told : IsGiven old.number v (own_due before (Own e) given.reply) (with_no_notes given)
+    told = subst (λ o. IsGiven old.number v o (with_no_notes given)) (sym (own_due-built before e given.reply built answer)) (told_is (input_of e given.reply) (h.told (v (job_of_event e)) (shows (job_of_event e))))
 
     -- an answer is never that there is no memory
     never : wants_memory given.reply ≡ false
@@ -245,18 +290,18 @@ module _ (old new : Hosted) (e : Event) (given : RowGiven) (built : is_built e �
 
     inputs_are : (job : ℕ) → inputs_to before (Own e) given.reply job ≡ only_of job (option_to_list (own_of e given.reply))
     inputs_are job =
-        ap (only_of job) ((λ i. option_to_list (own_here-built before e given.reply built never i) ++ notes_here-built before e given.reply built h.none i)
+        ap (only_of job) ((λ i. option_to_list (own_here-built before e given.reply built answer never i) ++ notes_here-built before e given.reply built h.none i)
         ∙ append-nil (option_to_list (own_of e given.reply)))
 
     view_is : (job : ℕ) → view_from old.number (v job) (inputs_to before (Own e) given.reply job) ≡ view_after old.number job (v job) e given.reply
     view_is job = ap (view_from old.number (v job)) (inputs_are job) ∙ one_input old.number job (job_of_event e) (v job) (input_of e given.reply)
 
     views : ShowsAll new (λ job. view_from old.number (v job) (inputs_to before (Own e) given.reply job))
-    views job = subst (Shows new job) (sym (view_is job)) (h.views job (v job) (shows job))
+    views job = subst (Shows new job) (sym (view_is job)) (h.views v shows job)
 
     line : new.works.works ≡ line_after old v (Own e) given.reply
-    line = line_is old new v shows e given.reply built h.line (λ job. h.views job (v job) (shows job))
-        ∙ ap (λ o. line_left old.works.works (Own e) given.reply ++ asked_now old.number v o) (sym (own_here-built before e given.reply built never))
+    line = line_is old new v shows e given.reply built (h.line v shows) (h.views v shows)
+        ∙ ap (λ o. line_left old.works.works (Own e) given.reply ++ asked_now old.number v o) (sym (own_here-built before e given.reply built answer never))
 
     from : StepsFrom old v (Own e) (with_no_notes given) new
     from = record {
@@ -276,33 +321,31 @@ module _ (old new : Hosted) (e : Event) (given : RowGiven) (built : is_built e �
     each = from;
   }
 
--- ---- what was foreseen
+-- ---- what it was to its job
 
-foreseen_is : (number : ℕ) (view : View) (check : Option Refusal) (x : Input) → option_map (judge number view) (option_map_or (λ _. None) check (Some x)) ≡ unless_refused check (judge number view x)
-foreseen_is number view None x = refl
-foreseen_is number view (Some r) x = refl
+pub judged_is : (place : ℕ) (view : View) (e : Event) (answer : Reply (List ℕ)) → is_finish e ≡ false → option_map (judge place view) (input_of e answer) ≡ judged_as e answer
+judged_is place view (event.Admit job quota key) reply.Ok other = refl
+judged_is place view (event.Admit job quota key) _ other = refl
+judged_is place view (event.JobEnd job) reply.Ok other = refl
+judged_is place view (event.JobEnd job) _ other = refl
+judged_is place view (event.Call job session c) answer other = refl
+judged_is place view (event.Requota job quota) reply.Ok other = refl
+judged_is place view (event.Requota job quota) _ other = refl
+judged_is place view event.Take answer other = refl
+judged_is place view (event.Finish job number a) answer other = absurd cc
 
-admit_input : (job : JobNo) (quota : Quota) (key : JobKey) (check : Option Refusal) → input_of (event.Admit job quota key) (answered check) ≡ option_map_or (λ _. None) check (Some (input.Begin quota))
-admit_input job quota key None = refl
-admit_input job quota key (Some r) = refl
+pub call_judged : (e : Event) (answer : Reply (List ℕ)) → IsCallJudged e (judged_as e answer)
+call_judged (event.Admit job quota key) _ = refl
+call_judged (event.JobEnd job) _ = refl
+call_judged (event.Call job session c) _ = refl
+call_judged (event.Requota job quota) _ = refl
+call_judged event.Take _ = refl
+call_judged (event.Finish job number a) _ = refl
 
-end_input : (job : JobNo) (check : Option Refusal) → input_of (event.JobEnd job) (answered check) ≡ option_map_or (λ _. None) check (Some input.End)
-end_input job None = refl
-end_input job (Some r) = refl
-
-pub as_foreseen : (old new : Hosted) (e : Event) (given : RowGiven) → is_built e ≡ true → StepsOne old e given new → length given.posts ≤ most_messages old e → IsAsForeseen old e (with_no_notes given)
-as_foreseen old new e given built h few = record { few = few; judged = λ view _. by e built h.operator view }
-  where
-    by : (e : Event) → is_built e ≡ true → IsOneAnswer old.admissions e given.reply → (view : View) → option_map (judge old.number view) (input_of e given.reply) ≡ judged_of old e
-    by (event.Admit job quota key) built is view =
-        ap (λ told. option_map (judge old.number view) (input_of (event.Admit job quota key) told)) is
-        ∙ ap (option_map (judge old.number view)) (admit_input job quota key (admit_check old.admissions job quota))
-        ∙ foreseen_is old.number view (admit_check old.admissions job quota) (input.Begin quota)
-    by (event.JobEnd job) built is view =
-        ap (λ told. option_map (judge old.number view) (input_of (event.JobEnd job) told)) is
-        ∙ ap (option_map (judge old.number view)) (end_input job (end_check old.admissions job))
-        ∙ foreseen_is old.number view (end_check old.admissions job) input.End
-    by (event.Call job session c) built is view = refl
-    by (event.Requota job quota) built is view = absurd cc
-    by event.Take built is view = absurd cc
-    by (event.Finish job number a) built is view = absurd cc
+pub no_finish : (e : Event) → ((job : JobNo) (number : ℕ) (a : DeviceAnswer) → e ≡ event.Finish job number a → ⊥) → is_finish e ≡ false
+no_finish (event.Admit job quota key) other = refl
+no_finish (event.JobEnd job) other = refl
+no_finish (event.Call job session c) other = refl
+no_finish (event.Requota job quota) other = refl
+no_finish event.Take other = refl
+no_finish (event.Finish job number a) other = absurd (other job number a refl)

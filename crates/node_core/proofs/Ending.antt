@@ -175,14 +175,15 @@ module _ (number : ℕ) (a b : Admissions) (line after_line : WorkLine) (job : J
   pub end_steps : StepsOne before (event.JobEnd job) given after
   end_steps = record {
     number = refl;
-    views = views;
+    views = λ v shows q. views q (v q) (shows q);
     told = λ view h.
         let r = row_view view h in
         subst (λ w. IsStepOf number w input.End given) (sym (view_is own_row line job.0 view r)) (end_told number own_row line job.0 view.contents r.shown erased keys);
     operator = sym (ap (λ t. answered (cond t None (Some NotAdmitted))) is_live);
+    by_views = λ v h. refl;
     admissions = is;
     lives = lives;
-    line = drops.works;
+    line = λ v shows. drops.works;
     none = refl;
     none_new = refl;
   }

@@ -16,6 +16,7 @@ use Rattle.node_core.specs.Hosted.{Hosted, alone, IsRowView, IsViewBy}
 use Rattle.node_core.specs.Built.{is_built, is_built_command}
 use Rattle.node_core.specs.Late.{is_accepted, IsLate, IsUnrefused, IsEventUnrefused}
 use Rattle.node_core.specs.Steps.{answered}
+use Rattle.node_core.proofs.Taking.{front_given}
 use Rattle.node_core.proofs.Views.{view_is}
 
 module _ (node : ℕ) (row : Row) (beside : Beside) (contents : Contents) (session : ℕ) (h : IsShown row beside contents) where
@@ -46,6 +47,6 @@ event_late node (event.Call job session c) built u v shows =
     let r : IsRowView u.row node.works job.0 (v job.0) = subst (IsViewBy node.admissions.greatest node.works job.0 (v job.0)) u.found (shows job.0).by_row in
     subst (λ w. may_grow w.shape (view_step node.number w (input.Call session c)).reply ≡ true) (sym (view_is u.row node.works job.0 (v job.0) r))
     (row_late node.number u.row (alone node.works job.0) (v job.0).contents session r.shown c built (subst (λ n. IsUnrefused u.row n session c) (sym r.own) u.unrefused))
-event_late node (event.Requota job quota) built u v shows = absurd cc
-event_late node event.Take built u v shows = absurd cc
-event_late node (event.Finish job number a) built u v shows = absurd cc
+event_late node (event.Requota job quota) built u v shows = ap (λ check. is_accepted (answered check)) (u (v job.0) (shows job.0))
+event_late node event.Take built u v shows = ap is_accepted (front_given node u.asked u.first u.row u.found v shows).1
+event_late node (event.Finish job number a) built u v shows = absurd u

@@ -23,7 +23,6 @@ other_row row line after q view same h =
         listed = h.shown.listed;
         bytes = h.shown.bytes;
         digests = h.shown.digests;
-        plain = h.shown.plain;
         working = λ id k found. h.shown.working id k found ∙ ap (λ ws. work_on ws id) (sym same.works);
         granted = h.shown.granted;
         received = h.shown.received;

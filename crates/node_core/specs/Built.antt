@@ -4,6 +4,9 @@ use Rattle.obj_id.specs.declared.commands.Command.{Command}
 use Rattle.obj_id.specs.declared.commands.Command.TheVariants as command
 use Rattle.private_store.specs.declared.schedules.Event.{Event}
 use Rattle.private_store.specs.declared.schedules.Event.TheVariants as event
+use Rattle.obj_id.specs.declared.messages.Arrival.{Arrival}
+use Rattle.obj_id.specs.declared.messages.Arrival.TheVariants as arrival
+use Rattle.obj_id.specs.declared.messages.PeerMessage.TheVariants as peer
 
 -- the commands that are built
 abbrev pub is_built_command : Command (List ℕ) → Bool
@@ -22,9 +25,16 @@ is_built_command command.Usage = true
 is_built_command command.Leave = true
 is_built_command _ = false
 
+-- the arrivals that are built
+abbrev pub is_built_arrival : Arrival → Bool
+is_built_arrival (arrival.FromPeer from (peer.Pull id number n digest indexes)) = false
+is_built_arrival _ = true
+
 -- the events that are built
 abbrev pub is_built : Event → Bool
 is_built (event.Admit job quota key) = true
+is_built (event.Requota job quota) = true
 is_built (event.JobEnd job) = true
+is_built event.Take = true
 is_built (event.Call job session c) = is_built_command c
-is_built _ = false
+is_built (event.Finish job number a) = true

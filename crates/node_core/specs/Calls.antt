@@ -44,4 +44,5 @@ takes_no_memory row _ = false
 -- an event that takes none
 abbrev pub is_frugal : Hosted → Event → Bool
 is_frugal node (event.Call job session c) = takes_no_memory (row_at node job) c
+is_frugal node (event.Finish job number a) = true
 is_frugal node _ = false

@@ -12,10 +12,12 @@ use Rattle.private_store.specs.Contents.{View}
 use Rattle.private_store.specs.Private.{view_step}
 use Rattle.obj_id.specs.declared.ids.JobNo.{JobNo}
 use Rattle.job_admission.specs.Admissions.{live_at, admit_check}
+use Rattle.spill_work.specs.declared.queue.Asked.{Asked}
+use Rattle.spill_work.specs.Line.{front_of}
 use Rattle.node_table.specs.Row.{Row}
 use Rattle.node_table.specs.Checks.{early_check}
 use Rattle.node_table.specs.Late.{may_grow}
-use Rattle.node_core.specs.Hosted.{Hosted, row_at, ShowsAll}
+use Rattle.node_core.specs.Hosted.{Hosted, row_at, Shows, ShowsAll}
 use Rattle.node_core.specs.Calls.{is_own, takes_no_memory}
 use Rattle.node_core.specs.Steps.{is_taken, answered, end_check, requota_check, stale_unless, take_told}
 
@@ -58,8 +60,17 @@ pub record IsCallUnrefused (node : Hosted) (job : JobNo) (session : ℕ) (c : Co
   pub found : row_at node job ≡ Some row
   pub unrefused : IsUnrefused row job.0 session c
 
+-- a work that nobody has taken, of a job that has a row
+pub record IsFront (node : Hosted) : Type 0 where
+  pub asked : Asked
+  pub first : front_of node.works.works ≡ Some asked
+  pub row : Row
+  pub found : row_at node asked.job ≡ Some row
+
 abbrev pub IsEventUnrefused : Hosted → Event → Type 0
 IsEventUnrefused node (event.Admit job quota key) = admit_check node.admissions job quota ≡ None
 IsEventUnrefused node (event.JobEnd job) = end_check node.admissions job ≡ None
+IsEventUnrefused node (event.Requota job quota) = (view : View) → Shows node job.0 view → requota_check node.admissions view job quota ≡ None
+IsEventUnrefused node event.Take = IsFront node
 IsEventUnrefused node (event.Call job session c) = IsCallUnrefused node job session c
-IsEventUnrefused node _ = Unit {0}
+IsEventUnrefused node (event.Finish job number a) = ⊥

@@ -1,9 +1,11 @@
 pub mod Hosted
 pub mod Built
 pub mod Steps
+pub mod Quotas
 pub mod OneJob
 pub mod Outcomes
 pub mod Calls
 pub mod Borrowed
 pub mod Foreseen
+pub mod Judged
 pub mod Late

@@ -1,5 +1,5 @@
 -- What a built event does at a node, told of one job at a time: it is an input of its own job alone.
-use Rattle.std.specs.Prelude.{◌≡◌, ℕ, ◌==◌, if◌then◌else◌, not, List, [], filter, Option, Some, None}
+use Rattle.std.specs.Prelude.{◌≡◌, ℕ, ◌==◌, if◌then◌else◌, not, ◌&&◌, List, [], filter, Option, Some, None}
 use Rattle.std.specs.Option.{option_map_or}
 use Rattle.obj_id.specs.declared.commands.Reply.{Reply}
 use Rattle.obj_id.specs.declared.commands.Reply.TheVariants as reply
@@ -9,18 +9,22 @@ use Rattle.private_store.specs.declared.schedules.Event.{Event}
 use Rattle.private_store.specs.declared.schedules.Event.TheVariants as event
 use Rattle.private_store.specs.Contents.{View}
 use Rattle.private_store.specs.Private.{view_step}
-use Rattle.spill_work.specs.Line.{WorkLine, is_of}
+use Rattle.spill_work.specs.Line.{WorkLine, is_of, is_at, marked}
 use Rattle.node_table.specs.Asked.{HasAsked}
 use Rattle.node_table.specs.Shown.{Given}
 use Rattle.private_store.specs.declared.schedules.NodeEvent.TheVariants.{Own}
-use Rattle.node_core.specs.Hosted.{Hosted, Shows}
-use Rattle.node_core.specs.Steps.{job_of_event, answered, end_check, admissions_after, lives_after}
-use Rattle.job_admission.specs.Admissions.{Admissions, lives_of, admit_check}
+use Rattle.node_core.specs.Hosted.{Hosted, Shows, ShowsAll}
+use Rattle.node_core.specs.Steps.{job_of_event, is_taken, answered, end_check, requota_check, stale_unless, take_told, admissions_after, lives_after}
+use Rattle.job_admission.specs.Admissions.{lives_of, admit_check}
+use Rattle.node_core.specs.Quotas.{requota_refusal}
 
--- what an event with this answer is to its own job: an admission or an end that was refused is nothing
+-- what an event with this answer is to its own job: an admission, a change of quota, an end or a Finish that was refused is
+-- nothing
 abbrev pub input_of : Event → Reply (List ℕ) → Option Input
 input_of (event.Admit job quota key) reply.Ok = Some (input.Begin quota)
+input_of (event.Requota job quota) reply.Ok = Some (input.Requota quota)
 input_of (event.JobEnd job) reply.Ok = Some input.End
+input_of (event.Finish job number a) reply.Ok = Some (input.Answer number a)
 input_of (event.Call job session c) told = Some (input.Call session c)
 input_of _ _ = None
 
@@ -47,28 +51,40 @@ abbrev pub IsGiven : ℕ → View → Option Input → Given → Type 0
 IsGiven node view (Some x) given = IsStepOf node view x given
 IsGiven node view None given = IsSilent given
 
--- what the operator is answered, of admissions and ends
-abbrev pub IsOperatorAnswer : Admissions → Event → Reply (List ℕ) → Type 0
-IsOperatorAnswer a (event.Admit job quota key) told = told ≡ answered (admit_check a job quota)
-IsOperatorAnswer a (event.JobEnd job) told = told ≡ answered (end_check a job)
-IsOperatorAnswer a _ told = told ≡ told
+-- what the operator is answered
+abbrev pub IsOperatorAnswer : Hosted → Event → Reply (List ℕ) → Type 0
+IsOperatorAnswer node (event.Admit job quota key) told = told ≡ answered (admit_check node.admissions job quota)
+IsOperatorAnswer node (event.Requota job quota) told = told ≡ answered (requota_refusal node job quota)
+IsOperatorAnswer node (event.JobEnd job) told = told ≡ answered (end_check node.admissions job)
+IsOperatorAnswer node _ told = told ≡ told
 
--- the line of works: an end takes the job's works out, and a command's works come last
+-- what is answered by what the views say: a Take, a Finish, and a change of quota
+abbrev pub IsAnswerByViews : Hosted → (ℕ → View) → Event → Reply (List ℕ) → Type 0
+IsAnswerByViews node v (event.Requota job quota) told = told ≡ answered (requota_check node.admissions (v job.0) job quota)
+IsAnswerByViews node v event.Take told = told ≡ take_told node.works.works v
+IsAnswerByViews node v (event.Finish job number a) told = told ≡ answered (stale_unless (is_taken node.works.works job.0 number))
+IsAnswerByViews node v _ told = told ≡ told
+
+-- the line of works: a Take marks the work that it gives, a Finish takes its taken work out, an end takes the job's works out,
+-- and a command's works come last
 abbrev pub IsLineAfter : WorkLine → Event → Reply (List ℕ) → WorkLine → Type 0
+IsLineAfter old event.Take (reply.Work work) new = new.works ≡ marked work.job work.number old.works
 IsLineAfter old (event.JobEnd job) reply.Ok new = new.works ≡ filter (λ work. not (is_of job work)) old.works
+IsLineAfter old (event.Finish job number a) told new = new.works ≡ filter (λ work. not (is_at job number work && work.taken)) old.works
 IsLineAfter old (event.Call job session c) told new = HasAsked old job new
 IsLineAfter old _ _ new = new.works ≡ old.works
 
 pub record StepsOne (old : Hosted) (e : Event) (given : Given) (new : Hosted) : Type 0 where
   pub number : new.number ≡ old.number
   -- every job's view is the private step of the view before on what the event is to that job
-  pub views : (job : ℕ) (view : View) → Shows old job view → Shows new job (view_after old.number job view e given.reply)
+  pub views : (v : ℕ → View) → ShowsAll old v → (job : ℕ) → Shows new job (view_after old.number job (v job) e given.reply)
   -- and what it gives is that step's
   pub told : (view : View) → Shows old (job_of_event e) view → IsGiven old.number view (input_of e given.reply) given
-  pub operator : IsOperatorAnswer old.admissions e given.reply
+  pub operator : IsOperatorAnswer old e given.reply
+  pub by_views : (v : ℕ → View) → ShowsAll old v → IsAnswerByViews old v e given.reply
   pub admissions : new.admissions ≡ admissions_after old.admissions (Own e) given.reply
   pub lives : lives_of new.admissions.live ≡ lives_after old.admissions.memory (lives_of old.admissions.live) (Own e) given.reply
-  pub line : IsLineAfter old.works e given.reply new.works
+  pub line : (v : ℕ → View) → ShowsAll old v → IsLineAfter old.works e given.reply new.works
   -- and no hand stands
   pub none : old.hands ≡ []
   pub none_new : new.hands ≡ []

@@ -1,9 +1,9 @@
 //! Which events are built.
 ghost use Rattle.std.specs.Prelude.{◌≡◌};
-ghost use Rattle.node_core.specs.Built.{is_built as is_built_lem, is_built_command as is_built_command_lem};
+ghost use Rattle.node_core.specs.Built.{is_built as is_built_lem, is_built_arrival as is_built_arrival_lem, is_built_command as is_built_command_lem};
 
 use bytes::Bytes;
-use obj_id::Command;
+use obj_id::{Arrival, Command, PeerMessage};
 use private_store::Event;
 
 /// Whether the event is built.
@@ -11,10 +11,16 @@ pub fn is_built(event: &Event) -> bool
     ensures { result ≡ is_built_lem event.now }
 {
     match event {
-        Event::Admit(..) | Event::JobEnd(_) => true,
         Event::Call(_, _, command) => is_built_command(command),
-        Event::Requota(..) | Event::Take | Event::Finish(..) => false,
+        _ => true,
     }
+}
+
+/// Whether the arrival is built.
+pub fn is_built_arrival(arrival: &Arrival) -> bool
+    ensures { result ≡ is_built_arrival_lem arrival.now }
+{
+    !matches!(arrival, Arrival::FromPeer(_, PeerMessage::Pull { .. }))
 }
 
 /// Whether the command is built.

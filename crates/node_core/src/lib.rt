@@ -21,14 +21,19 @@ ghost use Rattle.node_core.specs.Steps.{Steps, end_check};
 ghost use Rattle.node_core.specs.Late.{IsCallUnrefused, IsEventUnrefused, IsLate};
 ghost use Rattle.node_core.specs.OneJob.{StepsOne};
 ghost use Rattle.node_core.specs.Outcomes.{given_of};
-ghost use Rattle.node_core.specs.Foreseen.{most_by_command, most_messages, IsAsForeseen};
+ghost use Rattle.node_core.specs.Foreseen.{most_by_command, most_messages};
+ghost use Rattle.node_core.specs.Judged.{is_finish, IsJudged};
 
+mod arrivals;
 mod built;
 mod calls;
+mod device_works;
 mod foreseen;
+mod judged;
 mod outcome;
+mod quotas;
 
-pub use built::{is_built, is_built_command};
+pub use built::{is_built, is_built_arrival, is_built_command};
 use bytes::Bytes;
 pub use foreseen::Foreseen;
 use indexmap::IndexMap;
@@ -90,24 +95,32 @@ impl Node {
     ///
     /// For every job number, live or not, the view that the node shows of the job afterwards is what the private steps
     /// make of the view before, on the list of inputs that the event is to that job. `NoMemory` alone, and then nothing
-    /// has changed: it never stands in for a refusal that is known before anything grows, and the commands Write,
-    /// Release, Usage and Leave take no memory. What it gives is as `foresee` says.
+    /// has changed: it never stands in for a refusal that is known before anything grows. A Finish and the commands Write,
+    /// Release and Usage take no memory, nor does Leave while no copy is doomed. It sends no more messages than
+    /// `foresee` says, and tells what it was to its own job.
     pub fn apply(&mut self, event: &Event) -> Result<Outcome, Refusal>
         requires { is_built event.now ≡ true }
         ensures ok { IfOk result (λ o. Steps self.old (node_event.Own event.now) (given_of o) self.new) }
         ensures late { OnErr result (IsLate self.old (node_event.Own event.now)) }
-        ensures foreseen { IfOk result (λ o. IsAsForeseen self.old event.now (given_of o)) }
+        ensures few { IfOk result (λ o. length o.messages ≤ most_messages self.old event.now) }
+        ensures judged { IfOk result (λ o. IsJudged self.old event.now o.reply o.judged) }
         ensures memory { (r : Refusal) → IsErrOf result r → r ≡ NoMemory }
         ensures frugal { is_frugal self.old event.now ≡ true → IsOk result }
         ensures err { OnErr result (self.new ≡ self.old) }
     {
+        if let Event::Finish(job, number, answer) = event {
+            let (outcome, judged) = self.finish(*job, *number, answer);
+            return Ok(Outcome::of_row(self.alloc, outcome, judged));
+        }
         let outcome = self.step_one(event)?;
-        Ok(Outcome::of_row(self.alloc, outcome))
+        let judged = judged::judged_as(event, &outcome.reply);
+        Ok(Outcome::of_row(self.alloc, outcome, judged))
     }
 
-    /// The same, where the event is an input of its own job alone, as all are that are built.
+    /// The same of all but a Finish.
     fn step_one(&mut self, event: &Event) -> Result<node_table::Outcome, Refusal>
-        requires { is_built event.now ≡ true }
+        requires built { is_built event.now ≡ true }
+        requires other { is_finish event.now ≡ false }
         ensures ok { IfOk result (λ o. StepsOne self.old event.now (row_given_of o) self.new) }
         ensures few { IfOk result (λ o. length o.messages ≤ most_messages self.old event.now) }
         ensures late { OnErr result (IsEventUnrefused self.old event.now) }
@@ -117,9 +130,11 @@ impl Node {
     {
         match event {
             Event::Admit(job, quota, key) => self.admit(*job, *quota, *key),
+            Event::Requota(job, quota) => self.requota(*job, *quota),
             Event::JobEnd(job) => self.end_job(*job),
+            Event::Take => self.take(),
             Event::Call(job, session, command) => self.call(*job, *session, command),
-            Event::Requota(..) | Event::Take | Event::Finish(..) => unreachable!(),
+            Event::Finish(..) => unreachable!(),
         }
     }
 

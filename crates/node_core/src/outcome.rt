@@ -25,18 +25,26 @@ pub struct Outcome {
     pub messages: Items<(Place, Message)>,
     pub erase: Erase,
     pub notes: Items<Note>,
+    /// What it was to its own job, without contents, or nothing: told of an event that was applied, and `None` of an arrival.
+    pub judged: Option<Judged>,
 }
 
 impl Outcome {
-    /// What a row gave, where no hand changed. Takes no memory.
-    pub(crate) fn of_row(alloc: Global, outcome: node_table::Outcome) -> Outcome
-        ensures { given_of result ≡ with_no_notes (row_given_of outcome) }
+    /// What a row gave, where no hand changed, with what the event was to its job. Takes no memory.
+    pub(crate) fn of_row(
+        alloc: Global,
+        outcome: node_table::Outcome,
+        judged: Option<Judged>,
+    ) -> Outcome
+        ensures given { given_of result ≡ with_no_notes (row_given_of outcome) }
+        ensures judged { result.judged ≡ judged }
     {
         Outcome {
             reply: outcome.reply,
             messages: outcome.messages,
             erase: outcome.erase,
             notes: Items::new(alloc),
+            judged,
         }
     }
 }

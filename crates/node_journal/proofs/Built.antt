@@ -1,5 +1,5 @@
 -- A built event at a node at which no hand stands is an input of its own job alone.
-use Rattle.std.proofs.Common.{◌≡◌, ℕ, Bool, true, false, cond, ◌==◌, List, [], ◌∷◌, map, Option, Some, None, option_to_list, refl, sym, ap, ◌∙◌}
+use Rattle.std.proofs.Common.{◌≡◌, ℕ, Bool, true, false, cond, ◌==◌, List, [], ◌∷◌, map, Option, Some, None, option_to_list, refl, sym, ap, subst, ◌∙◌}
 use Rattle.std.specs.Prelude.{option_map}
 use Rattle.obj_id.specs.declared.commands.Reply.{Reply}
 use Rattle.obj_id.specs.declared.commands.Reply.TheVariants as reply
@@ -13,22 +13,28 @@ use Rattle.private_store.specs.Contents.{View, judge}
 use Rattle.private_store.specs.NodeInputs.{JobInput, Before, own_here, only_of}
 use Rattle.node_core.specs.Built.{is_built}
 use Rattle.node_core.specs.OneJob.{input_of}
-use Rattle.node_core.proofs.AllJobs.{own_of}
+use Rattle.node_core.specs.Steps.{answered, stale_unless}
+use Rattle.node_core.proofs.AllJobs.{own_of, IsFinishAnswer}
 
 -- ---- the own input
 
 abbrev pub of_job : ℕ → Option Input → Option JobInput
 of_job job o = option_map (λ x. record { job = job; input = x }) o
 
-pub here_is : (before : Before) (e : Event) (told : Reply (List ℕ)) → is_built e ≡ true → ((job : ℕ) (x : Input) → own_of e told ≡ Some (record { job = job; input = x }) → wants_memory told ≡ false) → own_here before (Own e) told ≡ own_of e told
-here_is before (event.Admit job quota key) reply.Ok built never = refl
-here_is before (event.Admit job quota key) _ built never = refl
-here_is before (event.JobEnd job) reply.Ok built never = refl
-here_is before (event.JobEnd job) _ built never = refl
-here_is before (event.Call job session c) told built never = ap (λ t. cond t None (Some (record { job = job.0; input = input.Call session c }))) (never job.0 (input.Call session c) refl)
-here_is before (event.Requota job quota) told built never = absurd cc
-here_is before event.Take told built never = absurd cc
-here_is before (event.Finish job number a) told built never = absurd cc
+pub here_is : (before : Before) (e : Event) (told : Reply (List ℕ)) → is_built e ≡ true → IsFinishAnswer before e told → ((job : ℕ) (x : Input) → own_of e told ≡ Some (record { job = job; input = x }) → wants_memory told ≡ false) → own_here before (Own e) told ≡ own_of e told
+here_is before (event.Admit job quota key) reply.Ok built is never = refl
+here_is before (event.Admit job quota key) _ built is never = refl
+here_is before (event.JobEnd job) reply.Ok built is never = refl
+here_is before (event.JobEnd job) _ built is never = refl
+here_is before (event.Call job session c) told built is never = ap (λ t. cond t None (Some (record { job = job.0; input = input.Call session c }))) (never job.0 (input.Call session c) refl)
+here_is before (event.Requota job quota) reply.Ok built is never = refl
+here_is before (event.Requota job quota) _ built is never = refl
+here_is before event.Take told built is never = refl
+here_is before (event.Finish job number a) told built is never = by (before.out job.0 number) is
+  where
+    by : (out : Bool) → told ≡ answered (stale_unless out) → cond (wants_memory told) None (cond out (Some (record { job = job.0; input = input.Answer number a })) None) ≡ own_of (event.Finish job number a) told
+    by true is = subst (λ t. cond (wants_memory t) None (Some (record { job = job.0; input = input.Answer number a })) ≡ own_of (event.Finish job number a) t) (sym is) refl
+    by false is = subst (λ t. cond (wants_memory t) None None ≡ own_of (event.Finish job number a) t) (sym is) refl
 
 -- the own input, if the job is that of the event
 abbrev pub if_own : Bool → Option Input → List Input
@@ -52,7 +58,9 @@ own_inputs own job (Some x) = by (own == job)
 abbrev is_own_kind : Option Input → Bool
 is_own_kind None = true
 is_own_kind (Some (input.Begin quota)) = true
+is_own_kind (Some (input.Requota quota)) = true
 is_own_kind (Some (input.Call session c)) = true
+is_own_kind (Some (input.Answer number a)) = true
 is_own_kind (Some input.End) = true
 is_own_kind _ = false
 
@@ -62,16 +70,18 @@ own_kinds (event.Admit job quota key) _ = refl
 own_kinds (event.JobEnd job) reply.Ok = refl
 own_kinds (event.JobEnd job) _ = refl
 own_kinds (event.Call job session c) told = refl
-own_kinds (event.Requota job quota) told = refl
+own_kinds (event.Requota job quota) reply.Ok = refl
+own_kinds (event.Requota job quota) _ = refl
 own_kinds event.Take told = refl
-own_kinds (event.Finish job number a) told = refl
+own_kinds (event.Finish job number a) reply.Ok = refl
+own_kinds (event.Finish job number a) _ = refl
 
 brings : (node : ℕ) (view : View) (x : Input) → is_own_kind (Some x) ≡ true → brings_within view.shape (judge node view x) ≡ true
 brings node view (input.Begin quota) is = refl
 brings node view (input.Call session c) is = refl
 brings node view input.End is = refl
-brings node view (input.Requota quota) is = absurd cc
-brings node view (input.Answer number a) is = absurd cc
+brings node view (input.Requota quota) is = refl
+brings node view (input.Answer number a) is = refl
 brings node view (input.Arrive a) is = absurd cc
 brings node view (input.Received id bytes giver depth) is = absurd cc
 brings node view (input.Withdrawn id giver depth) is = absurd cc

@@ -7,6 +7,7 @@ use mathlib.Core.Bool.{Bool-set}
 use Rattle.obj_id.specs.declared.refusals.Refusal.{Refusal}
 use Rattle.private_store.specs.declared.inputs.Input.{Input}
 use Rattle.private_store.specs.declared.inputs.Input.TheVariants as input
+use Rattle.private_store.specs.declared.inputs.Judged.{Judged}
 use Rattle.private_store.specs.declared.schedules.Event.{Event}
 use Rattle.private_store.specs.declared.schedules.Event.TheVariants as event
 use Rattle.private_store.specs.declared.schedules.NodeEvent.TheVariants.{Own}
@@ -25,19 +26,19 @@ use Rattle.node_core.specs.Built.{is_built}
 use Rattle.node_core.specs.Hosted.{Hosted, Shows, ShowsAll}
 use Rattle.node_core.specs.Steps.{Given, Steps, StepsFrom, IsStepOf, IsGiven, before_of, job_of_event}
 use Rattle.node_core.specs.OneJob.{input_of}
-use Rattle.node_core.specs.Foreseen.{IsAsForeseen, judged_of}
+use Rattle.node_core.specs.Judged.{IsJudged}
 use Rattle.node_journal.specs.declared.entries.Entry.{Entry}
 use Rattle.node_journal.specs.Replies.{unlisted, kept_reply}
 use Rattle.node_journal.specs.Journals.{entry_for, lines_of, AreDue, IsTold, Tells, is_call}
-use Rattle.node_core.proofs.AllJobs.{own_of, own_due-built, notes_here-built, hands_after-built}
+use Rattle.node_core.proofs.AllJobs.{own_of, IsFinishAnswer, finish_answer, own_due-built, notes_here-built, hands_after-built}
 use Rattle.node_journal.proofs.Built.{of_job, here_is, if_own, own_inputs, brings_none}
 use Rattle.node_journal.proofs.Lists.{lines_of-snoc, replayed-snoc, due-snoc}
 
 -- ---- one entry more
 
-module _ (old new : Hosted) (e : Event) (given : Given) (number : ℕ) (built : is_built e ≡ true) (none : old.hands ≡ []) (steps : Steps old (Own e) given new) (foreseen : IsAsForeseen old e given) where
+module _ (old new : Hosted) (e : Event) (given : Given) (number : ℕ) (built : is_built e ≡ true) (none : old.hands ≡ []) (steps : Steps old (Own e) given new) (was : Option Judged) (is_judged : IsJudged old e given.reply was) where
   abbrev entry : Entry
-  entry = entry_for number old e given.reply
+  entry = entry_for number was given.reply
 
   module _ (v : ℕ → View) (shows : ShowsAll old v) where
     abbrev before : Before
@@ -46,10 +47,13 @@ module _ (old new : Hosted) (e : Event) (given : Given) (number : ℕ) (built : 
     from : StepsFrom old v (Own e) given new
     from = steps.each v shows
 
+    answer : IsFinishAnswer before e given.reply
+    answer = finish_answer old v e given.reply from.operator
+
     told_is : (x : Input) → input_of e given.reply ≡ Some x → IsStepOf old.number (v (job_of_event e)) x given
     told_is x is =
         subst (λ o. IsGiven old.number v (of_job (job_of_event e) o) given) is
-        (subst (λ o. IsGiven old.number v o given) (own_due-built before e given.reply built) from.told)
+        (subst (λ o. IsGiven old.number v o given) (own_due-built before e given.reply built answer) from.told)
 
     -- the answer to an input is never that there is no memory
     never : (x : Input) → input_of e given.reply ≡ Some x → wants_memory given.reply ≡ false
@@ -57,7 +61,7 @@ module _ (old new : Hosted) (e : Event) (given : Given) (number : ℕ) (built : 
 
     inputs_are : (job : ℕ) → inputs_to before (Own e) given.reply job ≡ if_own (job_of_event e == job) (input_of e given.reply)
     inputs_are job =
-        ap (only_of job) ((λ i. option_to_list (here_is before e given.reply built never_here i) ++ notes_here-built before e given.reply built none i)
+        ap (only_of job) ((λ i. option_to_list (here_is before e given.reply built answer never_here i) ++ notes_here-built before e given.reply built none i)
         ∙ append-nil (option_to_list (own_of e given.reply)))
         ∙ own_inputs (job_of_event e) job (input_of e given.reply)
       where
@@ -68,8 +72,8 @@ module _ (old new : Hosted) (e : Event) (given : Given) (number : ℕ) (built : 
             by None is f = none_some _ f
             by (Some y) is f = never y is
 
-    judged_is : (o : Option Input) → input_of e given.reply ≡ o → judged_of old e ≡ option_map (judge old.number (v (job_of_event e))) o
-    judged_is o is = sym (foreseen.judged (v (job_of_event e)) (shows (job_of_event e))) ∙ ap (option_map (judge old.number (v (job_of_event e)))) is
+    judged_is : (o : Option Input) → input_of e given.reply ≡ o → was ≡ option_map (judge old.number (v (job_of_event e))) o
+    judged_is o is = sym (is_judged.by_view (v (job_of_event e)) (shows (job_of_event e))) ∙ ap (option_map (judge old.number (v (job_of_event e)))) is
 
     module _ (job : ℕ) (own : job_of_event e ≡ job) (entries : List Entry) (h : IsTold job (v job) entries) where
       -- an event that is no input of its job
@@ -86,7 +90,7 @@ module _ (old new : Hosted) (e : Event) (given : Given) (number : ℕ) (built : 
 
       -- one that is
       module _ (x : Input) (is : input_of e given.reply ≡ Some x) where
-        judged_here : judged_of old e ≡ Some (judge old.number (v job) x)
+        judged_here : was ≡ Some (judge old.number (v job) x)
         judged_here = judged_is (Some x) is ∙ ap (λ k. Some (judge old.number (v k) x)) own
 
         told_here : given.reply ≡ (view_step old.number (v job) x).reply

@@ -2,6 +2,7 @@
 use Rattle.std.specs.Prelude.{◌≡◌, ℕ, nat_lt, nat_le, Bool, true, false, ◌&&◌, List, [], ◌∷◌, ◌++◌, map, Option, option_map, option_to_list}
 use Rattle.std.specs.List.{list_all}
 use Rattle.obj_id.specs.declared.commands.Reply.{Reply}
+use Rattle.private_store.specs.declared.inputs.Judged.{Judged}
 use Rattle.private_store.specs.declared.schedules.Event.{Event}
 use Rattle.private_store.specs.declared.schedules.Event.TheVariants as event
 use Rattle.private_store.specs.Contents.{View}
@@ -9,13 +10,12 @@ use Rattle.private_store.specs.Kept.{IsViewKept}
 use Rattle.private_store.specs.Answers.{AreGrantedWithin}
 use Rattle.private_store.specs.Replay.{Brief, Line, unbegun_brief, replayed, answers_due, brief_of}
 use Rattle.node_core.specs.Hosted.{Hosted, ShowsAll}
-use Rattle.node_core.specs.Foreseen.{judged_of}
 use Rattle.node_journal.specs.declared.entries.Entry.{Entry}
 use Rattle.node_journal.specs.Replies.{unlisted, kept_reply}
 
--- the entry that an event makes
-abbrev pub entry_for : ℕ → Hosted → Event → Reply (List ℕ) → Entry
-entry_for number node e told = record { number = number; input = judged_of node e; reply = kept_reply told }
+-- the entry that an event makes which was this to its job, and was answered so
+abbrev pub entry_for : ℕ → Option Judged → Reply (List ℕ) → Entry
+entry_for number was told = record { number = number; input = was; reply = kept_reply told }
 
 -- what an entry is to the replay of its job: nothing, if it was no input
 abbrev pub line_of : Entry → Option Line

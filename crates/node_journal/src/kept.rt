@@ -8,14 +8,15 @@ ghost use Rattle.private_store.specs.Answers.{wants_memory, is_small_reply};
 ghost use Rattle.job_admission.specs.Admissions.{largest_memory, sessions_entered, enter_check, entered};
 ghost use Rattle.node_core.specs.Built.{is_built};
 ghost use Rattle.node_core.specs.Steps.{job_of_event, Steps};
-ghost use Rattle.node_core.specs.Foreseen.{IsAsForeseen};
+ghost use Rattle.node_core.specs.Judged.{IsJudged};
 ghost use Rattle.node_core.specs.Outcomes.{given_of};
 ghost use Rattle.node_journal.specs.Logs.{lists_of, list_of};
 ghost use Rattle.node_journal.specs.Journals.{entry_for, Tells, AreNumbered, is_call};
 
+use crate::copies::copy_of;
 use crate::entries::{Entry, Receipt, job_of, kept_reply_of};
 use crate::logs::Logs;
-use node_core::{Foreseen, Node, Outcome};
+use node_core::{Node, Outcome};
 use obj_id::{JobKey, JobNo, Refusal};
 use private_store::Event;
 use std::alloc::Global;
@@ -74,8 +75,9 @@ impl<L: Ledger> Kept<L> {
     pub fn step(&mut self, event: &Event) -> Result<(Outcome, Receipt<L>), Refusal>
         requires { is_built event.now ≡ true }
         ensures node { IfOk result (λ r. Steps self.old.node (node_event.Own event.now) (given_of r.0) self.new.node) }
-        ensures journal { IfOk result (λ r. (job : ℕ) → list_of (lists_of self.new.logs) job ≡ (if job_of_event event.now == job then list_of (lists_of self.old.logs) job ++ entry_for (self.old.count + 1) self.old.node event.now r.0.reply ∷ [] else list_of (lists_of self.old.logs) job)) }
-        ensures receipt { IfOk result (λ r. (r.1.node ≡ self.old.number) × (r.1.job.0 ≡ job_of_event event.now) × (r.1.entry ≡ entry_for (self.old.count + 1) self.old.node event.now r.0.reply)) }
+        ensures journal { IfOk result (λ r. (job : ℕ) → list_of (lists_of self.new.logs) job ≡ (if job_of_event event.now == job then list_of (lists_of self.old.logs) job ++ entry_for (self.old.count + 1) r.0.judged r.0.reply ∷ [] else list_of (lists_of self.old.logs) job)) }
+        ensures receipt { IfOk result (λ r. (r.1.node ≡ self.old.number) × (r.1.job.0 ≡ job_of_event event.now) × (r.1.entry ≡ entry_for (self.old.count + 1) r.0.judged r.0.reply)) }
+        ensures judged { IfOk result (λ r. IsJudged self.old.node event.now r.0.reply r.0.judged) }
         ensures count { OnOk result (self.new.count ≡ self.old.count + 1) }
         ensures answered { IfOk result (λ r. is_call event.now ≡ true → wants_memory r.0.reply ≡ false) }
         ensures small { IfOk result (λ r. is_call event.now ≡ true → is_small_reply r.0.reply ≡ true) }
@@ -96,7 +98,6 @@ impl<L: Ledger> Kept<L> {
             seat: _,
         } = self;
         let next = *count + 1;
-        let Foreseen { judged: input, .. } = node.foresee(event);
         let outcome = record(*alloc, node, logs, next, event)?;
         *count = next;
         let receipt = Receipt {
@@ -104,7 +105,7 @@ impl<L: Ledger> Kept<L> {
             job: job_of(event),
             entry: Entry {
                 number: next,
-                input,
+                input: copy_of(&outcome.judged),
                 reply: kept_reply_of(*alloc, &outcome.reply),
             },
             name: PhantomData,
@@ -181,20 +182,19 @@ fn record(
 ) -> Result<Outcome, Refusal>
     requires { is_built event.now ≡ true }
     ensures node { IfOk result (λ o. Steps node.old (node_event.Own event.now) (given_of o) node.new) }
-    ensures foreseen { IfOk result (λ o. IsAsForeseen node.old event.now (given_of o)) }
-    ensures logs { IfOk result (λ o. (job : ℕ) → list_of (lists_of logs.new) job ≡ (if job_of_event event.now == job then list_of (lists_of logs.old) job ++ entry_for number node.old event.now o.reply ∷ [] else list_of (lists_of logs.old) job)) }
+    ensures judged { IfOk result (λ o. IsJudged node.old event.now o.reply o.judged) }
+    ensures logs { IfOk result (λ o. (job : ℕ) → list_of (lists_of logs.new) job ≡ (if job_of_event event.now == job then list_of (lists_of logs.old) job ++ entry_for number o.judged o.reply ∷ [] else list_of (lists_of logs.old) job)) }
     ensures memory { (r : Refusal) → IsErrOf result r → r ≡ NoMemory }
     ensures err { OnErr result (node.new ≡ node.old) }
     ensures unchanged { OnErr result (lists_of logs.new ≡ lists_of logs.old) }
 {
     let job = job_of(event);
     logs.reserve(job)?;
-    let Foreseen { judged: input, .. } = node.foresee(event);
     let outcome = node.apply(event)?;
     let reply = kept_reply_of(alloc, &outcome.reply);
     let entry = Entry {
         number,
-        input,
+        input: copy_of(&outcome.judged),
         reply,
     };
     logs.add(job, entry);

@@ -2,6 +2,7 @@
 //! replay of each job's entries gives the job's store at the node, without contents, and the answers.
 #![tactic(auto)]
 
+mod copies;
 mod entries;
 mod kept;
 mod logs;

@@ -284,6 +284,7 @@ fn made<L: Ledger>(outcome: Outcome, receipt: Receipt<L>) -> Stepped<L>
         messages,
         erase,
         notes: _,
+        judged: _,
     } = outcome;
     Stepped {
         reply,

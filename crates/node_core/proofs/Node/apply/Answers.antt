@@ -1,22 +1,47 @@
-use Rattle.std.proofs.Common.{sym, subst}
+use Rattle.std.proofs.Common.{◌≤◌, length, refl, sym, ap, subst, ◌∙◌}
+use Rattle.private_store.specs.declared.schedules.Event.TheVariants as event
 use Rattle.private_store.specs.declared.schedules.NodeEvent.TheVariants.{Own}
 use Rattle.node_table.specs.Outcomes.{given_of}
-use Rattle.node_core.specs.Foreseen.{IsAsForeseen}
+use Rattle.node_core.specs.Foreseen.{most_messages}
+use Rattle.node_core.specs.Judged.{IsJudged}
+use Rattle.node_core.specs.Outcomes.{with_no_notes}
 use Rattle.node_core.specs.Steps.{Steps}
 use Rattle.node_core.proofs.Calling.{always_err}
-use Rattle.node_core.proofs.AllJobs.{all_steps, as_foreseen}
+use Rattle.node_core.proofs.AllJobs.{all_steps, judged_is, call_judged, no_finish}
 use Rattle.node_core.proofs.Late.{event_late}
 use Rattle.node_core.proofs.Node.apply.Goals as goal
 
-pub returns-clause-ok : goal.returns-clause-ok
-returns-clause-ok c =
-    subst (λ given. Steps c.args.self.now (Own c.args.event.now) given c.step_one.new.self) (sym c.of_row.ensures)
-    (all_steps c.args.self.now c.step_one.new.self c.args.event.now (given_of c.in_ok-outcome.outcome) c.requires c.in_ok-outcome.ensures.ok)
+pub returns-in-Finish-clause-ok : goal.returns-in-Finish-clause-ok
+returns-in-Finish-clause-ok c =
+    let e = event.Finish c.in-Finish.job c.in-Finish.number c.in-Finish.answer in
+    subst (λ given. Steps c.args.self.now (Own c.args.event.now) given c.finish-outcome.new.self) (sym c.of_row.ensures.given)
+    (subst (λ e. Steps c.args.self.now (Own e) (with_no_notes (given_of c.finish-outcome.result.0)) c.finish-outcome.new.self) (sym c.in-Finish.is)
+    (all_steps c.args.self.now c.finish-outcome.new.self e (given_of c.finish-outcome.result.0) refl c.finish-outcome.ensures.ok))
 
-pub returns-clause-foreseen : goal.returns-clause-foreseen
-returns-clause-foreseen c =
-    subst (IsAsForeseen c.args.self.now c.args.event.now) (sym c.of_row.ensures)
-    (as_foreseen c.args.self.now c.step_one.new.self c.args.event.now (given_of c.in_ok-outcome.outcome) c.requires c.in_ok-outcome.ensures.ok c.in_ok-outcome.ensures.few)
+pub returns-in-Finish-clause-judged : goal.returns-in-Finish-clause-judged
+returns-in-Finish-clause-judged c =
+    subst (λ e. IsJudged c.args.self.now e c.of_row.result.reply c.of_row.result.judged) (sym c.in-Finish.is)
+    (subst (λ told. IsJudged c.args.self.now (event.Finish c.in-Finish.job c.in-Finish.number c.in-Finish.answer) told c.of_row.result.judged) (sym (ap (λ g. g.reply) c.of_row.ensures.given)) (record {
+      by_view = λ view h. c.finish-outcome.ensures.judged view h ∙ sym c.of_row.ensures.judged;
+      by_call = refl;
+    }))
 
 pub returns-in_err-outcome-clause-late : goal.returns-in_err-outcome-clause-late
 returns-in_err-outcome-clause-late c = always_err c.from_residual.result (event_late c.args.self.now c.args.event.now c.requires c.in_err-outcome.ensures.late)
+
+pub returns-clause-ok : goal.returns-clause-ok
+returns-clause-ok c =
+    subst (λ given. Steps c.args.self.now (Own c.args.event.now) given c.step_one.new.self) (sym c.of_row-2.ensures.given)
+    (all_steps c.args.self.now c.step_one.new.self c.args.event.now (given_of c.in_ok-outcome.outcome) c.requires c.in_ok-outcome.ensures.ok)
+
+pub returns-clause-few : goal.returns-clause-few
+returns-clause-few c = subst (λ posts. length posts ≤ most_messages c.args.self.now c.args.event.now) (sym (ap (λ g. g.posts) c.of_row-2.ensures.given)) c.in_ok-outcome.ensures.few
+
+pub returns-clause-judged : goal.returns-clause-judged
+returns-clause-judged c =
+    let other = no_finish c.args.event.now c.in_default.not-Finish in
+    subst (λ told. IsJudged c.args.self.now c.args.event.now told c.of_row-2.result.judged) (sym (ap (λ g. g.reply) c.of_row-2.ensures.given))
+    (subst (IsJudged c.args.self.now c.args.event.now c.in_ok-outcome.outcome.reply) (sym (c.of_row-2.ensures.judged ∙ c.judged_as-judged.ensures)) (record {
+      by_view = λ view h. judged_is c.args.self.now.number view c.args.event.now c.in_ok-outcome.outcome.reply other;
+      by_call = call_judged c.args.event.now c.in_ok-outcome.outcome.reply;
+    }))

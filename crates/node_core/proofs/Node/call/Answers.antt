@@ -3,6 +3,7 @@ use Rattle.std.specs.Map.{lookup, set_value}
 use Rattle.std.specs.Option.{option_copied_mut}
 use Rattle.std.proofs.lemmas.Map.Steps.{set_value_same}
 use Rattle.private_store.specs.Jobs.{same_job}
+use Rattle.private_store.specs.declared.inputs.Input.TheVariants as input
 use Rattle.private_store.specs.declared.schedules.Event.TheVariants as event
 use Rattle.node_table.specs.Outcomes.{given_of}
 use Rattle.node_core.specs.Calls.{takes_no_memory}
@@ -17,7 +18,7 @@ returns-in_default-clause-ok c =
     let rows = c.get_mut.follows.lender-at-none.entries in
     let same = ap (λ r. r.entries) c.get_mut.follows.holds-at-none in
     let none = ap (lookup (same_job c.args.job)) same ∙ sym c.get_mut.ensures.value ∙ ap option_copied_mut c.in_default.is in
-    let all = with_rows c.self.inside.number c.self.inside.admission c.self.inside.works c.args.job c.args.session c.args.command.now in
+    let all = with_rows c.self.inside.number c.self.inside.admission c.self.inside.works c.args.job (input.Call c.args.session c.args.command.now) in
     subst (λ given. StepsOne c.args.self.now (event.Call c.args.job c.args.session c.args.command.now) given (all rows)) (sym c.only.ensures)
     (subst (λ old. StepsOne old (event.Call c.args.job c.args.session c.args.command.now) _ (all rows)) (ap all same ∙ c.self.view_is)
     (refused_steps c.self.inside.number c.self.inside.admission c.self.inside.works c.args.job c.args.session c.args.command.now rows none))
@@ -29,7 +30,7 @@ returns-clause-ok c =
     let found = sym c.get_mut.ensures.value ∙ ap option_copied_mut c.in-Some.is in
     let wrote = c.get_mut.follows.holds c.carry_out.new.row in
     if_ok_on c.carry_out.result c.carry_out.ensures.ok c.carry_out.ensures.line (λ o h line.
-    subst (λ old. StepsOne old (event.Call c.args.job c.args.session c.args.command.now) (given_of o) (with_all c.self.inside.number c.self.inside.admission c.self.inside.works c.args.job c.args.session c.args.command.now new c.carry_out.new.works)) c.self.view_is
+    subst (λ old. StepsOne old (event.Call c.args.job c.args.session c.args.command.now) (given_of o) (with_all c.self.inside.number c.self.inside.admission c.self.inside.works c.args.job (input.Call c.args.session c.args.command.now) new c.carry_out.new.works)) c.self.view_is
     (call_steps c.self.inside.number c.self.inside.admission c.self.inside.works c.args.job c.args.session c.args.command.now rows new c.in-Some.row.now c.carry_out.new.row c.carry_out.new.works (given_of o)
     found (wrote.3 (ap is_some found)).0 line h c.carry_out.ensures.others))
 
@@ -39,7 +40,7 @@ returns-clause-err c =
     let found = sym c.get_mut.ensures.value ∙ ap option_copied_mut c.in-Some.is in
     let wrote = c.get_mut.follows.holds c.carry_out.new.row in
     both_err c.carry_out.result c.carry_out.ensures.err c.carry_out.ensures.works (λ same works.
-    (λ i. with_all c.self.inside.number c.self.inside.admission c.self.inside.works c.args.job c.args.session c.args.command.now
+    (λ i. with_all c.self.inside.number c.self.inside.admission c.self.inside.works c.args.job (input.Call c.args.session c.args.command.now)
     ((wrote.0 ∙ ap (set_value (same_job c.args.job) rows) same ∙ set_value_same (same_job c.args.job) rows c.in-Some.row.now found) i) (works i)) ∙ c.self.view_is)
 
 pub returns-clause-frugal : goal.returns-clause-frugal

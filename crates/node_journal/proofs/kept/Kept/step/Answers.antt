@@ -13,17 +13,17 @@ invariant_of-self-2 g c =
       seated = old.seated;
       blank = old.blank;
       named = done.node.number ∙ old.named;
-      handless = none_stands old.node _ e _ (old.count + 1) c.requires old.handless done.node done.foreseen;
+      handless = none_stands old.node _ e _ (old.count + 1) c.requires old.handless done.node _ done.judged;
       numbered = λ job. all_numbered old.count (job_of_event e == job) _ _ _ refl (done.logs job) (old.numbered job);
-      told = all_told old.node _ e _ (old.count + 1) c.requires old.handless done.node done.foreseen _ _ done.logs old.told;
+      told = all_told old.node _ e _ (old.count + 1) c.requires old.handless done.node _ done.judged _ _ done.logs old.told;
     }
 
 pub returns-clause-answered : goal.returns-clause-answered
 returns-clause-answered g c = λ call.
     let done = c.in_ok-outcome.ensures in
-    call_never_wants c.args.self.now.node _ c.args.event.now _ (c.args.self.now.count + 1) c.requires c.args.self.now.handless done.node done.foreseen _ call c.args.self.now.told
+    call_never_wants c.args.self.now.node _ c.args.event.now _ (c.args.self.now.count + 1) c.requires c.args.self.now.handless done.node _ done.judged _ call c.args.self.now.told
 
 pub returns-clause-small : goal.returns-clause-small
 returns-clause-small g c = λ call.
     let done = c.in_ok-outcome.ensures in
-    call_small c.args.self.now.node _ c.args.event.now _ (c.args.self.now.count + 1) c.requires c.args.self.now.handless done.node done.foreseen _ call c.args.self.now.told
+    call_small c.args.self.now.node _ c.args.event.now _ (c.args.self.now.count + 1) c.requires c.args.self.now.handless done.node _ done.judged _ call c.args.self.now.told

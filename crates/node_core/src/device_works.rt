@@ -1,0 +1,64 @@
+//! The works that a node's device workers take and answer.
+ghost use Rattle.std.specs.Prelude.{◌≡◌, [], IfOk, OnErr, IsErrOf, option_map};
+ghost use Rattle.obj_id.specs.declared.refusals.Refusal.{Refusal};
+ghost use Rattle.obj_id.specs.declared.refusals.Refusal.TheVariants.{NoMemory};
+ghost use Rattle.private_store.specs.declared.schedules.Event.TheVariants as event;
+ghost use Rattle.private_store.specs.Contents.{View, judge};
+ghost use Rattle.node_table.specs.Outcomes.{given_of as row_given_of};
+ghost use Rattle.node_core.specs.Hosted.{Shows};
+ghost use Rattle.node_core.specs.Late.{IsFront};
+ghost use Rattle.node_core.specs.OneJob.{input_of, StepsOne};
+
+use crate::Node;
+use crate::judged::if_ok;
+use obj_id::{DeviceAnswer, JobNo, Refusal, Reply};
+use private_store::Judged;
+
+impl Node {
+    /// A worker asks for a work: of all jobs' the first that nobody has taken, with a write's bytes. `NoWork` if there is
+    /// none. The error is out of memory, and then nobody has taken the work.
+    pub(crate) fn take(&mut self) -> Result<node_table::Outcome, Refusal>
+        ensures ok { IfOk result (λ o. StepsOne self.old event.Take (row_given_of o) self.new) }
+        ensures silent { IfOk result (λ o. o.messages ≡ []) }
+        ensures late { OnErr result (IsFront self.old) }
+        ensures memory { (r : Refusal) → IsErrOf result r → r ≡ NoMemory }
+        ensures err { OnErr result (self.new ≡ self.old) }
+    {
+        let Some(asked) = self.works.front() else {
+            return Ok(node_table::Outcome::only(self.alloc, Reply::NoWork));
+        };
+        let Some(row) = self.rows.get(&asked.job) else {
+            return Ok(node_table::Outcome::only(self.alloc, Reply::NoWork));
+        };
+        let Some(work) = row.work(self.alloc, &asked)? else {
+            return Ok(node_table::Outcome::only(self.alloc, Reply::NoWork));
+        };
+        self.works.mark_taken(asked.job, asked.number);
+        Ok(node_table::Outcome::only(self.alloc, Reply::Work(work)))
+    }
+
+    /// A worker answers a work that it was given: the work leaves the line, and its job takes the step. Answers what it was
+    /// to the job as well. `Stale` where the job isn't live, or nobody has taken such a work of it, and then it was nothing,
+    /// and nothing changes. Takes no memory; hashes the bytes once.
+    pub(crate) fn finish(
+        &mut self,
+        job: JobNo,
+        number: u64,
+        answer: &DeviceAnswer,
+    ) -> (node_table::Outcome, Option<Judged>)
+        ensures ok { StepsOne self.old (event.Finish job number answer.now) (row_given_of result.0) self.new }
+        ensures silent { result.0.messages ≡ [] }
+        ensures judged { (view : View) → Shows self.old job.0 view → option_map (judge self.old.number view) (input_of (event.Finish job number answer.now) result.0.reply) ≡ result.1 }
+    {
+        let Some(row) = self.rows.get_mut(&job) else {
+            let reply = Reply::Refused(Refusal::Stale);
+            return (node_table::Outcome::only(self.alloc, reply), None);
+        };
+        let answered = row.finish(self.alloc, &mut self.works, number, answer);
+        let judged = if_ok(
+            &answered.outcome.reply,
+            Judged::Answer(number, answered.verdict),
+        );
+        (answered.outcome, judged)
+    }
+}

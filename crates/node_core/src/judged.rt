@@ -1,0 +1,56 @@
+//! What an event was to its own job, without contents.
+ghost use Rattle.std.specs.Prelude.{◌≡◌};
+ghost use Rattle.private_store.specs.Contents.{brief as brief_lem};
+ghost use Rattle.node_core.specs.Judged.{if_ok as if_ok_lem, judged_as as judged_as_lem};
+
+use bytes::Bytes;
+use obj_id::{Command, Reply};
+use private_store::{Event, Judged};
+
+/// What an event with this reply was, if it is no Finish: nothing where the operator was refused. Takes no memory.
+pub(crate) fn judged_as(event: &Event, reply: &Reply<Bytes>) -> Option<Judged>
+    ensures { result ≡ judged_as_lem event.now reply.now }
+{
+    match event {
+        Event::Admit(_, quota, _) => if_ok(reply, Judged::Begin(*quota)),
+        Event::Requota(_, quota) => if_ok(reply, Judged::Requota(*quota)),
+        Event::JobEnd(_) => if_ok(reply, Judged::End),
+        Event::Call(_, session, command) => Some(Judged::Call(*session, brief(command))),
+        Event::Take | Event::Finish(..) => None,
+    }
+}
+
+/// The input, if the reply is Ok.
+pub(crate) fn if_ok(reply: &Reply<Bytes>, input: Judged) -> Option<Judged>
+    ensures { result ≡ if_ok_lem reply.now input }
+{
+    match reply {
+        Reply::Ok => Some(input),
+        _ => None,
+    }
+}
+
+/// The command, with the number of the bytes that it writes.
+fn brief(command: &Command<Bytes>) -> Command<u64>
+    ensures { result ≡ brief_lem command.now }
+{
+    match command {
+        Command::Create(id, kind, len) => Command::Create(*id, *kind, *len),
+        Command::Write(id, offset, bytes) => Command::Write(*id, *offset, bytes.len() as u64),
+        Command::Seal(id) => Command::Seal(*id),
+        Command::Get(id) => Command::Get(*id),
+        Command::Read(id, offset, len) => Command::Read(*id, *offset, *len),
+        Command::Release(id) => Command::Release(*id),
+        Command::Unpin(id, task) => Command::Unpin(*id, *task),
+        Command::Borrow(id, task) => Command::Borrow(*id, *task),
+        Command::GiveUp(id, task) => Command::GiveUp(*id, *task),
+        Command::Delete(id) => Command::Delete(*id),
+        Command::EndTask(task) => Command::EndTask(*task),
+        Command::Grant(id, target) => Command::Grant(*id, *target),
+        Command::Withdraw(id, target) => Command::Withdraw(*id, *target),
+        Command::Peek(id, offset, len) => Command::Peek(*id, *offset, *len),
+        Command::List => Command::List,
+        Command::Usage => Command::Usage,
+        Command::Leave => Command::Leave,
+    }
+}

@@ -1,0 +1,58 @@
+//! Changes of the quotas of a node's jobs.
+ghost use Rattle.std.specs.Prelude.{◌≡◌, [], None, IfOk, OnErr, IsErrOf};
+ghost use Rattle.obj_id.specs.declared.refusals.Refusal.{Refusal};
+ghost use Rattle.obj_id.specs.declared.refusals.Refusal.TheVariants.{NoMemory};
+ghost use Rattle.private_store.specs.declared.schedules.Event.TheVariants as event;
+ghost use Rattle.private_store.specs.Contents.{View};
+ghost use Rattle.node_table.specs.Outcomes.{given_of as row_given_of};
+ghost use Rattle.node_core.specs.Hosted.{Shows};
+ghost use Rattle.node_core.specs.OneJob.{StepsOne};
+ghost use Rattle.node_core.specs.Quotas.{requota_refusal};
+ghost use Rattle.node_core.specs.Steps.{requota_check as requota_check_lem};
+
+use crate::Node;
+use obj_id::{JobNo, Quota, Refusal, Reply};
+
+impl Node {
+    /// Why the job can't have this quota: `NotAdmitted`, `BadSize`, `Full` if what it uses isn't within it, `NoRoom` if its
+    /// window would meet a neighbour's or the memory's end, or nothing. Takes a walk over the job's copies.
+    fn requota_check(&self, job: JobNo, quota: Quota) -> Option<Refusal>
+        ensures refusal { result ≡ requota_refusal self.now job quota }
+        ensures shown { (view : View) → Shows self.now job.0 view → result ≡ requota_check_lem self.now.admissions view job quota }
+    {
+        let Some(row) = self.rows.get(&job) else {
+            return Some(Refusal::NotAdmitted);
+        };
+        if let Some(refusal) = row.requota_check(quota) {
+            return Some(refusal);
+        }
+        self.admission.resize_check(job, quota)
+    }
+
+    /// The operator changes a job's quota: its copies keep their places.
+    pub(crate) fn requota(
+        &mut self,
+        job: JobNo,
+        quota: Quota,
+    ) -> Result<node_table::Outcome, Refusal>
+        ensures ok { IfOk result (λ o. StepsOne self.old (event.Requota job quota) (row_given_of o) self.new) }
+        ensures silent { IfOk result (λ o. o.messages ≡ []) }
+        ensures late { OnErr result ((view : View) → Shows self.old job.0 view → requota_check_lem self.old.admissions view job quota ≡ None) }
+        ensures memory { (r : Refusal) → IsErrOf result r → r ≡ NoMemory }
+        ensures err { OnErr result (self.new ≡ self.old) }
+    {
+        if let Some(refusal) = self.requota_check(job, quota) {
+            return Ok(node_table::Outcome::only(self.alloc, Reply::Refused(refusal)));
+        }
+        let Some(own_row) = self.rows.get_mut(&job) else {
+            unreachable!()
+        };
+        let Ok(()) = own_row.requota(quota) else {
+            return Err(Refusal::NoMemory);
+        };
+        let Ok(()) = self.admission.resize(job, quota) else {
+            unreachable!()
+        };
+        Ok(node_table::Outcome::only(self.alloc, Reply::Ok))
+    }
+}
