@@ -1,2 +1,3 @@
+pub mod Hearing
 mod Running
 mod Serves

@@ -1,9 +1,16 @@
 -- What a line says to the program, and the lines of a run with their answers.
 use Rattle.std.specs.Prelude.{◌≡◌, ◌≢◌, ℕ, true, false, List, [], ◌∷◌, ◌++◌, All, Option, Some, None, ⊤}
 use Rattle.std.specs.Str.{IsUtf8}
+use Rattle.obj_id.specs.declared.ids.JobNo.{JobNo}
+use Rattle.obj_id.specs.declared.works.DeviceAnswer.{DeviceAnswer}
+use Rattle.obj_id.specs.declared.works.DeviceAnswer.TheVariants.{Failed}
+use Rattle.private_store.specs.declared.schedules.Event.TheVariants as event
 use Rattle.private_store.specs.declared.schedules.Step.{Step}
+use Rattle.private_store.specs.declared.schedules.Step.TheVariants.{At}
 use Rattle.private_store.specs.declared.schedules.Traced.{Traced}
 use Rattle.schedule_text.specs.declared.line.Line.TheVariants as line
+use Rattle.schedule_text.specs.declared.line.Outcome.{Outcome}
+use Rattle.schedule_text.specs.declared.line.Outcome.TheVariants as outcome
 use Rattle.schedule_text.specs.Prefixes.{prefix_of}
 use Rattle.schedule_text.specs.Printing.{line_text}
 use Rattle.schedule_text.specs.Reading.{IsLine, is_skipped}
@@ -11,21 +18,40 @@ use Rattle.world_core.specs.Worlds.{is_built_step}
 use Rattle.store_program.specs.declared.lines.Said.{Said}
 use Rattle.store_program.specs.declared.lines.Said.TheVariants as said
 
+-- what a worker hands in where a line says what becomes of a work: a failure without a call, or a device's answer
+abbrev pub IsHandedIn : Outcome → DeviceAnswer → Type 0
+IsHandedIn outcome.Ok answer = ⊤
+IsHandedIn outcome.Fail answer = answer ≡ Failed
+IsHandedIn outcome.Damage answer = ⊤
+
+-- a text spells a step as it stands, or what is handed in for a work
+pub data IsSpelled (nodes : ℕ) (text : List ℕ) : Step → Type 0 where
+  stands : (step : Step) → IsLine nodes text (line.Step step) → IsSpelled nodes text step
+  finishes : (node : ℕ) (job : JobNo) (number : ℕ) (outcome : Outcome) (answer : DeviceAnswer) → IsLine nodes text (line.Finish node job number outcome) → IsHandedIn outcome answer
+      → IsSpelled nodes text (At node (event.Finish job number answer))
+
 -- the text spells a step that is built
 pub record Spells (nodes : ℕ) (text : List ℕ) (step : Step) : Type 0 where
   pub speaks : is_skipped text ≡ false
-  pub spelled : IsLine nodes text (line.Step step)
+  pub spelled : IsSpelled nodes text step
   pub built : is_built_step nodes step ≡ true
+
+-- the text says that a work ends, and that is built, whatever is handed in
+pub record SpellsFinish (nodes : ℕ) (text : List ℕ) (node : ℕ) (job : JobNo) (number : ℕ) (outcome : Outcome) : Type 0 where
+  pub speaks : is_skipped text ≡ false
+  pub spelled : IsLine nodes text (line.Finish node job number outcome)
+  pub built : (answer : DeviceAnswer) → is_built_step nodes (At node (event.Finish job number answer)) ≡ true
 
 -- it says something, but no step that is built
 pub record SpellsNone (nodes : ℕ) (text : List ℕ) : Type 0 where
   pub speaks : is_skipped text ≡ false
-  pub none : IsUtf8 text → (step : Step) → IsLine nodes text (line.Step step) → is_built_step nodes step ≡ false
+  pub none : IsUtf8 text → (step : Step) → IsSpelled nodes text step → is_built_step nodes step ≡ false
 
 -- what is made of a text is what it says
 abbrev pub IsSaid : ℕ → List ℕ → Said → Type 0
 IsSaid nodes text said.Nothing = is_skipped text ≡ true
 IsSaid nodes text (said.Step step) = Spells nodes text step
+IsSaid nodes text (said.Finish node job number outcome) = SpellsFinish nodes text node job number outcome
 IsSaid nodes text said.NoStep = SpellsNone nodes text
 
 -- a line that was read, without its line feed, and the answered step of it, if it was one

@@ -9,6 +9,7 @@ mod lines;
 mod operator;
 mod run;
 mod serving;
+mod workers;
 
 pub use command_line::{Serving, Task, read_task, status_of_error};
 pub use fault::{Fault, status_of};

@@ -7,7 +7,8 @@ ghost use Rattle.world_core.specs.Worlds.{is_shape, is_built_step};
 ghost use Rattle.store_program.specs.Runs.{Answers, IsReadingFault, Ran, RunsLine, RunsStep, StopsRun, StopsStep};
 
 use crate::Fault;
-use crate::lines::{Said, hear};
+use crate::lines::{Said, finish, hear};
+use crate::workers::Workers;
 use private_store::Step;
 use schedule_text::{Prefix, answer_line};
 use std::alloc::{AllocError, Global};
@@ -50,6 +51,9 @@ fn run_lines<R: BufRead, W: Write>(
     let Ok(mut world) = World::new(alloc, shape) else {
         return Err(Fault::NoMemory)
     };
+    let Ok(mut workers) = Workers::new(alloc, shape.nodes) else {
+        return Err(Fault::NoMemory)
+    };
     let mut line = Vec::new(alloc);
     for number in 1..u64::MAX {
         match next_line(reader, &mut line) {
@@ -57,7 +61,15 @@ fn run_lines<R: BufRead, W: Write>(
             Ok(false) => return Ok(()),
             Ok(true) => {}
         }
-        match run_line(alloc, &mut world, shape.nodes, number, &line, writer) {
+        match run_line(
+            alloc,
+            &mut world,
+            &mut workers,
+            shape.nodes,
+            number,
+            &line,
+            writer,
+        ) {
             Err(fault) => return Err(fault),
             Ok(()) => {}
         }
@@ -85,6 +97,7 @@ pub(crate) fn next_line<R: BufRead>(reader: &mut R, line: &mut Vec<u8>) -> Resul
 fn run_line<W: Write>(
     alloc: Global,
     world: &mut World,
+    workers: &mut Workers,
     nodes: u32,
     number: u64,
     line: &[u8],
@@ -101,7 +114,26 @@ fn run_line<W: Write>(
         Err(AllocError) => Err(Fault::NoMemory),
         Ok(Said::Nothing) => Ok(()),
         Ok(Said::NoStep) => Err(Fault::NotAStep(number)),
-        Ok(Said::Step(step)) => run_step(alloc, world, &step, writer),
+        Ok(Said::Step(step)) => run_step(alloc, world, workers, &step, writer),
+        Ok(
+            Said::Finish {
+                node,
+                job,
+                number,
+                outcome,
+            },
+        ) => {
+            let Ok(answer) = workers.hand_in(node, job, number, outcome) else {
+                return Err(Fault::NoMemory)
+            };
+            run_step(
+                alloc,
+                world,
+                workers,
+                &finish(node, job, number, answer),
+                writer,
+            )
+        }
     }
 }
 
@@ -109,6 +141,7 @@ fn run_line<W: Write>(
 fn run_step<W: Write>(
     alloc: Global,
     world: &mut World,
+    workers: &mut Workers,
     step: &Step,
     writer: &mut W,
 ) -> Result<(), Fault>
@@ -116,7 +149,7 @@ fn run_step<W: Write>(
     ensures ok { OnOk result (RunsStep world.old step.now world.new (W.contents writer.old) (W.contents writer.new)) }
     ensures err { IfErr result (λ fault. StopsStep (W.contents writer.old) (W.contents writer.new) fault) }
 {
-    let Ok(line) = answered(alloc, world, step) else {
+    let Ok(line) = answered(alloc, world, workers, step) else {
         return Err(Fault::NoMemory)
     };
     match writer.write_all(line.as_bytes()) {
@@ -125,11 +158,19 @@ fn run_step<W: Write>(
     }
 }
 
-/// Takes the step, and gives the line of its answer.
-fn answered(alloc: Global, world: &mut World, step: &Step) -> Result<String, AllocError>
+/// Takes the step, tells the workers of it, and gives the line of its answer.
+fn answered(
+    alloc: Global,
+    world: &mut World,
+    workers: &mut Workers,
+    step: &Step,
+) -> Result<String, AllocError>
     requires { is_built_step (length world.old.nodes) step.now ≡ true }
     ensures { IfOk result (λ line. Answers world.old step.now (string_bytes line) world.new) }
 {
+    workers.reserve()?;
     let answer = world.step(step);
-    answer_line(alloc, Prefix::of(step), &answer)
+    let line = answer_line(alloc, Prefix::of(step), &answer)?;
+    workers.note(step, answer);
+    Ok(line)
 }

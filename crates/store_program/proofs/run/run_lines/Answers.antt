@@ -6,6 +6,9 @@ use Rattle.store_program.proofs.run.run_lines.Goals as goal
 pub returns-in_default : goal.returns-in_default
 returns-in_default g c = no_world c.args.shape.nodes c.args.shape.memory _ _
 
+pub returns-in_default-new : goal.returns-in_default-new
+returns-in_default-new g c = no_world c.args.shape.nodes c.args.shape.memory _ _
+
 pub loop-number-init : goal.loop-number-init
 loop-number-init g c = begun c.args.shape.nodes c.args.shape.memory c.in-Ok.world _ _ c.in-Ok.ensures.ok
 
