@@ -18,20 +18,16 @@ const NEIGHBOURS_KEY: JobKey = JobKey([8; 32]);
 /// A length that no Read may carry.
 const LONG: u32 = 65_552;
 
-/// What jobs 1 and 2 use.
-fn usages(node: &Node) -> [Result<Usage, Refusal>; 2] {
-    [node.usage(JobNo(1)), node.usage(JobNo(2))]
-}
-
 /// What the event gives, which is taken once more if memory ran out: then nothing has changed.
 pub(crate) fn taken(rt: &impl Abort, node: &mut Node, event: &Event) -> Result<Outcome, Refusal>
     requires { is_built event.now ≡ true }
 {
-    let before = usages(node);
+    let (own, neighbours) = (usage(node, 1), usage(node, 2));
     match node.apply(event) {
         Ok(outcome) => Ok(outcome),
         Err(_) => {
-            same!(rt; usages(node), before);
+            same!(rt; usage(node, 1), own);
+            same!(rt; usage(node, 2), neighbours);
             node.apply(event)
         }
     }
@@ -178,18 +174,47 @@ fn a_held_object_is_lent_whole(rt: HostRuntime) -> Result<(), Fail> {
     Ok(())
 }
 
-#[test]
-fn what_a_session_may_not_see_is_not_lent(rt: HostRuntime) -> Result<(), Fail> {
-    let mut node = node_of_two(&rt, rt.alloc())?;
+/// A node with jobs 1 and 2, and an object that session 1 of job 1 holds.
+fn node_with_a_held(rt: &impl Abort, alloc: Global) -> Result<Node, Refusal> {
+    let mut node = node_of_two(rt, alloc)?;
     let id = object(1, 1)?;
-    create(&rt, &mut node, id, 16)?;
-    seal(&rt, &mut node, id)?;
-    get(&rt, &mut node, id)?;
-    same!(rt; lent(&node, 1, 1, object(1, 2)?), Err(Refusal::Absent));
-    same!(rt; lent(&node, 2, 1, id), Err(Refusal::NotGranted));
-    same!(rt; lent(&node, 1, 1, object(2, 1)?), Err(Refusal::NotGranted));
-    same!(rt; lent(&node, 1, 1, object(9, 1)?), Err(Refusal::NotGranted));
-    same!(rt; lent(&node, 9, 1, object(9, 1)?), Err(Refusal::NotAdmitted));
-    same!(rt; lent(&node, 9, 1, id), Err(Refusal::NotAdmitted));
+    create(rt, &mut node, id, 16)?;
+    seal(rt, &mut node, id)?;
+    get(rt, &mut node, id)?;
+    Ok(node)
+}
+
+/// Why session 1 of the job isn't lent the bytes of the other job's object of this number.
+fn withheld(node: &Node, job: u32, owner: u32, index: u32) -> Option<Refusal> {
+    match object(owner, index) {
+        Ok(id) => lent(node, job, 1, id).err(),
+        Err(refusal) => Some(refusal),
+    }
+}
+
+#[test]
+fn an_object_that_is_not_there_is_not_lent(rt: HostRuntime) -> Result<(), Fail> {
+    let node = node_with_a_held(&rt, rt.alloc())?;
+    same!(rt; withheld(&node, 1, 1, 2), Some(Refusal::Absent));
+    Ok(())
+}
+
+#[test]
+fn another_jobs_object_is_not_lent(rt: HostRuntime) -> Result<(), Fail> {
+    let node = node_with_a_held(&rt, rt.alloc())?;
+    let refusals = [
+        withheld(&node, 2, 1, 1),
+        withheld(&node, 1, 2, 1),
+        withheld(&node, 1, 9, 1),
+    ];
+    same!(rt; refusals, [Some(Refusal::NotGranted); 3]);
+    Ok(())
+}
+
+#[test]
+fn a_job_that_is_not_live_is_lent_nothing(rt: HostRuntime) -> Result<(), Fail> {
+    let node = node_with_a_held(&rt, rt.alloc())?;
+    let refusals = [withheld(&node, 9, 9, 1), withheld(&node, 9, 1, 1)];
+    same!(rt; refusals, [Some(Refusal::NotAdmitted); 2]);
     Ok(())
 }

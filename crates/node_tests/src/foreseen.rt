@@ -1,13 +1,14 @@
-//! What a node foresees of an event, and what the event sends then.
+//! What a node foresees of an event, and what the event sends then and was to its job.
 ghost use Rattle.std.specs.Prelude.{◌≡◌, true, IfOk};
 ghost use Rattle.node_core.specs.Built.{is_built};
 
 use crate::calls::taken;
 use crate::steps::step_of;
 use assertions::same;
+use bytes::Bytes;
 use node_core::Node;
-use obj_id::Command;
-use private_store::{Event, Judged, Step};
+use obj_id::{Command, DeviceAnswer, JobNo, Refusal, Reply};
+use private_store::{Event, Judged, Step, WorkVerdict};
 use std::alloc::{AllocError, Global};
 use std::process::Abort;
 use std::test::Fail;
@@ -20,7 +21,7 @@ struct Expected {
     most: usize,
     /// These are sent.
     sent: usize,
-    /// The word of the judged input.
+    /// The word of what it was to its job.
     judged: &'static str,
     /// What it counts: bytes of the window, the copy, or what is written or read.
     bytes: u64,
@@ -41,6 +42,9 @@ fn word_of(judged: &Option<Judged>) -> &'static str {
         None => "nothing",
         Some(Judged::Begin(_)) => "begin",
         Some(Judged::End) => "end",
+        Some(Judged::Answer(_, WorkVerdict::Fine)) => "fine",
+        Some(Judged::Answer(_, WorkVerdict::Failed)) => "failed",
+        Some(Judged::Answer(_, WorkVerdict::Damaged)) => "damaged",
         Some(Judged::Call(_, command)) => command_word(command),
         Some(_) => "another",
     }
@@ -75,7 +79,7 @@ fn bytes_of(judged: &Option<Judged>) -> u64 {
     }
 }
 
-/// Checks what is foreseen of each event in turn, and what it sends.
+/// Checks what is foreseen of each event in turn, what it sends, and what it was.
 fn check(rt: &impl Abort, alloc: Global, events: &[Expected]) -> Result<(), Fail> {
     let mut node = Node::new(alloc, 0, 1_073_741_824);
     for due in events {
@@ -84,8 +88,8 @@ fn check(rt: &impl Abort, alloc: Global, events: &[Expected]) -> Result<(), Fail
         let outcome = taken(rt, &mut node, &event)?;
         same!(rt; foreseen.most_messages, due.most);
         same!(rt; outcome.messages.as_slice().len(), due.sent);
-        same!(rt; word_of(&foreseen.judged), due.judged);
-        same!(rt; bytes_of(&foreseen.judged), due.bytes);
+        same!(rt; word_of(&outcome.judged), due.judged);
+        same!(rt; bytes_of(&outcome.judged), due.bytes);
     }
     Ok(())
 }
@@ -160,4 +164,73 @@ fn what_no_task_keeps_is_told(rt: HostRuntime) -> Result<(), Fail> {
         due("cmd 0 1 1 delete t1.1", 1, 0, "delete", 0),
     ];
     check(&rt, rt.alloc(), &events)
+}
+
+/// Applies the events that the lines spell, none of which is refused.
+fn carry_out(rt: &impl Abort, alloc: Global, node: &mut Node, lines: &[&str]) -> Result<(), Fail> {
+    for line in lines {
+        let event = event_of(rt, alloc, line)?;
+        let outcome = taken(rt, node, &event)?;
+        assert!(rt;
+            !matches!(
+                outcome.reply,
+                Reply::Refused(Refusal::Stale | Refusal::NotAdmitted)
+            )
+        );
+    }
+    Ok(())
+}
+
+fn reply_word(reply: &Reply<Bytes>) -> &'static str {
+    match reply {
+        Reply::Ok => "ok",
+        Reply::Refused(Refusal::Stale) => "stale",
+        _ => "another",
+    }
+}
+
+/// Checks the reply to a worker that answers work 1 of job 1, and the word of what that was to the job.
+fn check_finish(
+    rt: &impl Abort,
+    node: &mut Node,
+    told: &'static str,
+    judged: &'static str,
+) -> Result<(), Fail> {
+    let event = Event::Finish(JobNo(1), 1, DeviceAnswer::Done);
+    let foreseen = node.foresee(&event);
+    let outcome = node.apply(&event)?;
+    same!(rt; foreseen.most_messages, 0);
+    same!(rt; outcome.messages.as_slice().len(), 0);
+    same!(rt; reply_word(&outcome.reply), told);
+    same!(rt; word_of(&outcome.judged), judged);
+    Ok(())
+}
+
+/// A node at which the work 1 of job 1 waits: a write that makes room for a copy.
+fn spilling(rt: &impl Abort, alloc: Global) -> Result<Node, Fail> {
+    let lines = [
+        "admit 0 1 16 64",
+        "cmd 0 1 1 create t1.1 16",
+        "cmd 0 1 1 seal t1.1",
+        "cmd 0 1 1 create t1.2 16",
+    ];
+    let mut node = Node::new(alloc, 0, 1_073_741_824);
+    carry_out(rt, alloc, &mut node, &lines)?;
+    Ok(node)
+}
+
+#[test]
+fn an_answer_is_of_a_work_that_was_taken(rt: HostRuntime) -> Result<(), Fail> {
+    let mut node = spilling(&rt, rt.alloc())?;
+    check_finish(&rt, &mut node, "stale", "nothing")?;
+    carry_out(&rt, rt.alloc(), &mut node, &["take 0"])?;
+    check_finish(&rt, &mut node, "ok", "fine")?;
+    check_finish(&rt, &mut node, "stale", "nothing")
+}
+
+#[test]
+fn an_answer_after_the_end_of_the_job_is_stale(rt: HostRuntime) -> Result<(), Fail> {
+    let mut node = spilling(&rt, rt.alloc())?;
+    carry_out(&rt, rt.alloc(), &mut node, &["take 0", "end 0 1"])?;
+    check_finish(&rt, &mut node, "stale", "nothing")
 }

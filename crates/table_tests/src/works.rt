@@ -108,6 +108,25 @@ fn the_ninth_work_of_a_job_is_refused(rt: HostRuntime) -> Result<(), Fail> {
 }
 
 #[test]
+fn a_work_just_asked_for_is_taken_back(rt: HostRuntime) -> Result<(), Fail> {
+    let mut works = Works::new(rt.alloc());
+    ask(&rt, &mut works, TWO, 1)?;
+    ask(&rt, &mut works, ONE, 1)?;
+    ask(&rt, &mut works, ONE, 2)?;
+    works.take_back(ONE, 1);
+    assert_eq!(rt; works.in_flight(ONE), 2, "it is not the last");
+    works.take_back(ONE, 2);
+    same!(rt; works.asked(ONE), 1);
+    works.take_back(ONE, 1);
+    same!(rt; works.asked(ONE), 0);
+    same!(rt; works.in_flight(ONE), 0);
+    same!(rt; name(works.take()), Some((TWO, 1)));
+    same!(rt; name(works.take()), None);
+    same!(rt; ask(&rt, &mut works, ONE, 3), Ok(1));
+    Ok(())
+}
+
+#[test]
 fn a_job_that_ends_leaves_the_line(rt: HostRuntime) -> Result<(), Fail> {
     let mut works = Works::new(rt.alloc());
     ask(&rt, &mut works, ONE, 1)?;
