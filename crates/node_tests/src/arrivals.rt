@@ -1,5 +1,5 @@
 //! Messages that arrive at a node, from the question for an object to its bytes.
-ghost use Rattle.std.specs.Prelude.{◌≡◌, true};
+ghost use Rattle.std.specs.Prelude.{◌≡◌, true, IfOk};
 ghost use Rattle.node_core.specs.Built.{is_built_arrival};
 
 use crate::calls::taken;
@@ -76,7 +76,9 @@ fn object() -> Result<ObjectId, Refusal> {
 }
 
 /// The first chunk of the first fetch, from node 1.
-fn chunk(alloc: Global, bytes: &[u8]) -> Result<Arrival, Refusal> {
+fn chunk(alloc: Global, bytes: &[u8]) -> Result<Arrival, Refusal>
+    ensures { IfOk result (λ arrival. is_built_arrival arrival ≡ true) }
+{
     let bytes = Bytes::copy_from_slice(alloc, bytes)?;
     Ok(Arrival::FromPeer(1, PeerMessage::Chunk(object()?, 1, 0, bytes)))
 }
