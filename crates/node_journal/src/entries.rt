@@ -16,7 +16,7 @@ use std::sync::ledger::Ledger;
 pub struct Entry {
     /// From 1, over all jobs of the node.
     pub number: u64,
-    /// What the event was to its job, without contents: none if the operator was refused.
+    /// What the event was to its job, without contents: none if the operator was refused, or a Finish was stale.
     pub input: Option<Judged>,
     /// The answer without contents: bytes as their number, and a list without its items.
     pub reply: Reply<u64>,
@@ -53,7 +53,7 @@ impl<L: Ledger> Receipt<L> {
         self.job
     }
 
-    /// What the event was to its job, without contents: none if the operator was refused.
+    /// What the event was to its job, without contents: none if the operator was refused, or a Finish was stale.
     pub fn input(&self) -> &Option<Judged>
         ensures { result.now ≡ self.now.entry.input }
     {
