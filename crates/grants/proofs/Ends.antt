@@ -39,7 +39,7 @@ abbrev each : (Hand → Type 0) → List Hand → Type 0
 each P [] = Unit {0}
 each P (h ∷ hs) = P h × each P hs
 
-any_filter : (p q : Hand → Bool) (xs : List Hand) → list_any p (filter q xs) ≡ list_any (λ x. q x && p x) xs
+pub any_filter : (p q : Hand → Bool) (xs : List Hand) → list_any p (filter q xs) ≡ list_any (λ x. q x && p x) xs
 any_filter p q [] = refl
 any_filter p q (x ∷ xs) = elim (q x) as (λ b. list_any p (cond b (x ∷ filter q xs) (filter q xs)) ≡ ((b && p x) || list_any (λ x. q x && p x) xs)) [
   | true ↦ ap (λ r. p x || r) (any_filter p q xs)
@@ -53,7 +53,7 @@ all_passing p (x ∷ xs) = (elim (p x) as (λ b. p x ≡ b → list_all p (cond 
   | false ↦ λ _. all_passing p xs
 ]) refl
 
-filter_filter : {X : Type 0} (p q : X → Bool) (xs : List X) → filter p (filter q xs) ≡ filter (λ x. q x && p x) xs
+pub filter_filter : {X : Type 0} (p q : X → Bool) (xs : List X) → filter p (filter q xs) ≡ filter (λ x. q x && p x) xs
 filter_filter p q [] = refl
 filter_filter p q (x ∷ xs) = elim (q x) as (λ b. filter p (cond b (x ∷ filter q xs) (filter q xs)) ≡ cond (b && p x) (x ∷ filter (λ x. q x && p x) xs) (filter (λ x. q x && p x) xs)) [
   | true ↦ ap (λ r. cond (p x) (x ∷ r) r) (filter_filter p q xs)
@@ -262,14 +262,14 @@ module _ (store : Shape) (id : ObjectId) (giver depth : ℕ) where
   job_after None = refl
   job_after (Some seen) = elim (list_any (is_hand giver depth) seen.hands) as (λ b. (if b then hand_ended store id giver depth seen else store).job ≡ store.job) [ true ↦ refl | false ↦ refl ]
 
-filter_map : {X Y : Type 0} (f : X → Y) (p : Y → Bool) (xs : List X) → filter p (map f xs) ≡ map f (filter (λ x. p (f x)) xs)
+pub filter_map : {X Y : Type 0} (f : X → Y) (p : Y → Bool) (xs : List X) → filter p (map f xs) ≡ map f (filter (λ x. p (f x)) xs)
 filter_map f p [] = refl
 filter_map f p (x ∷ xs) = elim (p (f x)) as (λ b. cond b (f x ∷ filter p (map f xs)) (filter p (map f xs)) ≡ map f (cond b (x ∷ filter (λ x. p (f x)) xs) (filter (λ x. p (f x)) xs))) [
   | true ↦ ap (λ r. f x ∷ r) (filter_map f p xs)
   | false ↦ filter_map f p xs
 ]
 
-any_map : {X Y : Type 0} (f : X → Y) (p : Y → Bool) (xs : List X) → list_any p (map f xs) ≡ list_any (λ x. p (f x)) xs
+pub any_map : {X Y : Type 0} (f : X → Y) (p : Y → Bool) (xs : List X) → list_any p (map f xs) ≡ list_any (λ x. p (f x)) xs
 any_map f p [] = refl
 any_map f p (x ∷ xs) = ap (λ r. p (f x) || r) (any_map f p xs)
 
@@ -289,7 +289,7 @@ left_is out xs (b ∷ bs) =
     neither_of true b = refl
     neither_of false b = refl
 
-filter_swap : (p q : Hand → Bool) (xs : List Hand) → filter p (filter q xs) ≡ filter q (filter p xs)
+pub filter_swap : (p q : Hand → Bool) (xs : List Hand) → filter p (filter q xs) ≡ filter q (filter p xs)
 filter_swap p q xs = filter_filter p q xs ∙ (λ i. filter (λ x. and_back (q x) (p x) i) xs) ∙ sym (filter_filter q p xs)
   where
     and_back : (a b : Bool) → (a && b) ≡ (b && a)

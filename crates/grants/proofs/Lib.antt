@@ -1,9 +1,12 @@
-mod Alike
-mod Left
-mod Made
-mod Reach
+pub mod Alike
+pub mod Left
+pub mod Made
+pub mod Reach
 mod Linked
 mod Ranked
-mod Private
-mod Ends
-mod Taken
+pub mod Private
+pub mod Ends
+pub mod Taken
+pub mod Few
+pub mod Seen
+pub mod Told

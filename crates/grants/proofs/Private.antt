@@ -33,10 +33,10 @@ use Rattle.grants.proofs.Made.{made, check_off}
 -- ---- what the store says
 
 -- the job's hand of the object to the target
-abbrev is_to : ObjectId → ℕ → HandGiven → Bool
+abbrev pub is_to : ObjectId → ℕ → HandGiven → Bool
 is_to id target hand = same_id id hand.id && hand.target == target
 
-any_given : (job : ℕ) (id : ObjectId) (target : ℕ) (hands : List Hand) → list_any (is_to id target) (map as_given (given_by job hands)) ≡ list_any (is_withdrawn job id target) hands
+pub any_given : (job : ℕ) (id : ObjectId) (target : ℕ) (hands : List Hand) → list_any (is_to id target) (map as_given (given_by job hands)) ≡ list_any (is_withdrawn job id target) hands
 any_given job id target [] = refl
 any_given job id target (h ∷ hs) =
     let rest = any_given job id target hs in
@@ -45,7 +45,7 @@ any_given job id target (h ∷ hs) =
       | false ↦ rest
     ]
 
-left_given : (job : ℕ) (id : ObjectId) (target : ℕ) (hands : List Hand)
+pub left_given : (job : ℕ) (id : ObjectId) (target : ℕ) (hands : List Hand)
     → filter (λ hand. not (is_to id target hand)) (map as_given (given_by job hands)) ≡ map as_given (given_by job (filter (λ hand. not (is_withdrawn job id target hand)) hands))
 left_given job id target [] = refl
 left_given job id target (h ∷ hs) =
@@ -217,7 +217,7 @@ module _ (lengths : ObjectId → ℕ) (hands : List Hand) (store : Shape) (has :
 
 module _ (lengths : ObjectId → ℕ) (hands : List Hand) (giver : ℕ) (id : ObjectId) (taker : ℕ) where
   -- whose the new hand is
-  made_for : ((new_hand hands id giver taker).id ≡ id) × ((new_hand hands id giver taker).giver ≡ giver) × ((new_hand hands id giver taker).taker ≡ taker)
+  pub made_for : ((new_hand hands id giver taker).id ≡ id) × ((new_hand hands id giver taker).giver ≡ giver) × ((new_hand hands id giver taker).taker ≡ taker)
   made_for = by (if id.job.0 == giver then None else ground hands id giver)
     where
       by : (o : Option Hand) → ((made hands giver id taker o).id ≡ id) × ((made hands giver id taker o).giver ≡ giver) × ((made hands giver id taker o).taker ≡ taker)

@@ -1,5 +1,5 @@
 -- A job sees an object exactly where a chain of hands leads to it.
-use Rattle.std.proofs.Common.{◌≡◌, ℕ, ◌+◌, ◌<◌, ◌==◌, suc, Bool, true, false, not, ◌&&◌, inl, inr, List, [], ◌∷◌, ◌++◌, Option, Some, None, refl, sym, ap, subst, ◌∙◌, arith, eq-eqb}
+use Rattle.std.proofs.Common.{◌≡◌, ℕ, ◌+◌, ◌<◌, ◌==◌, zero, suc, Bool, true, false, not, ◌&&◌, inl, inr, List, [], ◌∷◌, ◌++◌, Option, Some, None, refl, sym, ap, subst, ◌∙◌, arith, eq-eqb}
 use Rattle.std.specs.Prelude.{◌↔◌, nat_le}
 use Rattle.std.specs.List.{list_any}
 use Rattle.std.specs.Option.{option_map_or}
@@ -10,7 +10,7 @@ use Rattle.obj_id.proofs.SameIds.{same_id-equal, same_id-itself}
 use Rattle.private_store.specs.Limits.{greatest_depth}
 use Rattle.private_store.specs.Hands.{Hand, hangs_on, same_hand}
 use Rattle.private_store.proofs.Tests.{true_false, both, both_left, both_right, or_cases, or_left, or_right}
-use Rattle.grants.specs.Table.{AreHands, shows, hangs_right, is_hung, is_no_taker, may_stand, all_stand}
+use Rattle.grants.specs.Table.{AreHands, is_first, shows, hangs_right, is_hung, is_no_taker, may_stand, all_stand}
 use Rattle.grants.specs.Chains.{one_is, leads, is_led_to, sees}
 use Rattle.grants.proofs.Alike.{numbers_equal}
 
@@ -107,3 +107,22 @@ module _ (all : List Hand) where
 
   pub seen_where_led : AreHands all → (id : ObjectId) (job : ℕ) → sees all id job ↔ is_led_to all id job
   seen_where_led h id job = (seen_led h id job, led_seen id job)
+
+  -- one that is such leads to what each such leads to
+  from_one : (P : Hand → Type 0) (hs : List Hand) {X : Type 0} → one_is P hs → ((h : Hand) → P h → X) → X
+  from_one P [] o f = absurd o
+  from_one P (x ∷ hs) o f = elim o [ inl p ↦ f x p | inr r ↦ from_one P hs r f ]
+
+  -- a chain begins with a hand of the object's own job
+  begins : (id : ObjectId) (n : ℕ) (job : ℕ) → leads all id (suc n) job → list_any (is_first id) all ≡ true
+  begins id zero job l =
+      any_of_one (λ hand. (same_id id hand.id ≡ true) × (hand.taker ≡ job) × leads all id zero hand.giver) (is_first id) all
+      (λ h p. both (same_id id h.id) (h.giver == id.job.0) p.0 (eq-eqb h.giver id.job.0 (sym p.2))) l
+  begins id (suc n) job l = from_one (λ hand. (same_id id hand.id ≡ true) × (hand.taker ≡ job) × leads all id (suc n) hand.giver) all l (λ h p. begins id n h.giver p.2)
+
+  -- so where a hand of the object stands, its own job gave one
+  pub first_stands : AreHands all → (id : ObjectId) → list_any (λ hand. same_id id hand.id) all ≡ true → list_any (is_first id) all ≡ true
+  first_stands h id e =
+      let at = pick led (λ hand. same_id id hand.id) all (led_from [] all refl h.stand tt) e in
+      let ids : at.0.id ≡ id = sym (same_id-equal id at.0.id at.1) in
+      subst (λ i. list_any (is_first i) all ≡ true) ids (begins at.0.id at.2.0 at.0.taker at.2.3)

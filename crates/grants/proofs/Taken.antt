@@ -55,10 +55,10 @@ module _ (lengths : ObjectId → ℕ) where
       and_false true = refl
       and_false false = refl
 
-  taken_shown : (job : ℕ) (hands : List Hand) (q : ObjectId) → at (taken_by lengths job hands) q ≡ seen_by (lengths q) (map as_taken (filter (shows q job) hands))
+  pub taken_shown : (job : ℕ) (hands : List Hand) (q : ObjectId) → at (taken_by lengths job hands) q ≡ seen_by (lengths q) (map as_taken (filter (shows q job) hands))
   taken_shown job hands q = at_taken (given_to job hands) [] q [] refl ∙ ap (λ hs. seen_by (lengths q) (map as_taken hs)) (given_shown q job hands)
 
-  taken_sorted : (hs : List Hand) (table : ById Seen) → T (is_sorted id_cmp table) → T (is_sorted id_cmp (fold (with_taken lengths) table hs))
+  pub taken_sorted : (hs : List Hand) (table : ById Seen) → T (is_sorted id_cmp table) → T (is_sorted id_cmp (fold (with_taken lengths) table hs))
   taken_sorted [] table h = h
   taken_sorted (x ∷ xs) table h =
       taken_sorted xs (with_taken lengths table x) (is_sorted-put id_cmp id_cmp-IsTotalOrder x.id (record { length = lengths x.id; hands = seen_hands (at table x.id) ++ as_taken x ∷ [] }) table h)

@@ -6,12 +6,13 @@
 //! scans it; a call that ends hands finds those that have ended already by their links.
 #![tactic(auto)]
 
-ghost use Rattle.std.specs.Prelude.{◌≡◌, ◌≢◌, ◌↔◌, ◌<◌, ◌≤◌, ℕ, Bool, IsTrue, map, filter, length, List, [], Some, None, find, IfOk, OnOk, OnErr, IsErrOf, IsOk, MatchResult};
-ghost use Rattle.std.specs.List.{list_any};
+ghost use Rattle.std.specs.Prelude.{◌≡◌, ◌≢◌, ◌↔◌, ◌<◌, ◌≤◌, ◌==◌, ℕ, Bool, true, IsTrue, map, filter, length, List, [], Some, None, find, IfOk, OnOk, OnErr, IsErrOf, IsOk, MatchResult};
+ghost use Rattle.std.specs.List.{list_any, list_all};
+ghost use Rattle.private_store.specs.Answers.{AreGrantedWithin};
 ghost use Rattle.obj_id.specs.declared.ids.ObjectId.{ObjectId};
 ghost use Rattle.obj_id.specs.declared.refusals.Refusal.{Refusal};
 ghost use Rattle.obj_id.specs.declared.refusals.Refusal.TheVariants.{NoMemory};
-ghost use Rattle.private_store.specs.Limits.{greatest_depth, most_hands};
+ghost use Rattle.private_store.specs.Limits.{greatest_depth, most_hands, most_live_jobs};
 ghost use Rattle.private_store.specs.Hands.{Hand as StandingHand, new_hand, with_hand, hands_ended, hands_left, ground, is_withdrawn, is_of_task, is_given_by};
 ghost use Rattle.grants.specs.Table.{AreHands, is_first, given_by, given_to, seen_list, limits_check, grant_check as grant_check_lem, withdraw_check, ends};
 ghost use Rattle.private_store.specs.Shape.{Shape};
@@ -59,6 +60,13 @@ impl Grants {
             alloc,
             hands: Vec::new(alloc),
         }
+    }
+
+    /// How many hands stand.
+    pub fn len(&self) -> usize
+        ensures { result ≡ length self.now }
+    {
+        self.hands.len()
     }
 
     /// Why the giver can't grant the object to the target: `BadId` where the target is no job, the giver
@@ -153,6 +161,13 @@ impl Grants {
         self.end(Ending::GivenBy(job))
     }
 
+    /// The hands that would end if the job did, in the order in which their ends would be told. Nothing changes.
+    pub fn ends_with_job(&self, job: JobNo) -> Result<Items<Hand>, AllocError>
+        ensures { IfOk result (λ told. told ≡ hands_ended (is_given_by job.0) self.now) }
+    {
+        self.would_end(&Ending::GivenBy(job))
+    }
+
     /// The oldest hand of the object to the job, if the job sees the object.
     pub fn seen_by(&self, job: JobNo, id: ObjectId) -> Option<Hand>
         ensures hand { result ≡ ground self.now id job.0 }
@@ -235,6 +250,15 @@ impl Grants {
         Ok(())
     }
 
+    /// The hands that would end, with all that hang on them.
+    fn would_end(&self, ending: &Ending) -> Result<Items<Hand>, AllocError>
+        ensures { IfOk result (λ told. told ≡ hands_ended (ends ending.now) self.now) }
+    {
+        let gone = endings::ended(self.alloc, &self.hands, ending)?;
+        let told = endings::sorted(self.alloc, gone.hands())?;
+        Ok(Items::from_vec(told))
+    }
+
     /// Ends hands, with all that hang on them. All growth comes first, and if none ends there is none.
     fn end(&mut self, ending: Ending) -> Result<Items<Hand>, AllocError>
         ensures told { IfOk result (λ told. told ≡ hands_ended (ends ending) self.old) }
@@ -284,4 +308,10 @@ pub fn a_grant_is_every_stores()
 pub fn an_end_is_every_stores()
     ensures rest { (lengths : ObjectId → ℕ) (hands : List StandingHand) (store : Shape) → HasHands lengths hands store → RestAlike lengths hands store }
     ensures left { (lengths : ObjectId → ℕ) (hands : List StandingHand) → AreHands hands → (test : StandingHand → Bool) → EndsAlike lengths test hands }
+{}
+
+/// A law of every table: what a job was given that is one of at most 64 givers is of others, so it sees no more than 4,032
+/// objects, by no hand deeper than 3.
+pub fn few_objects_are_seen()
+    ensures { (lengths : ObjectId → ℕ) (hands : List StandingHand) (lives : List ℕ) (job : ℕ) → AreHands hands → list_all (λ hand. list_any (λ live. live == hand.giver) lives) hands ≡ true → length lives ≤ most_live_jobs → list_any (λ live. live == job) lives ≡ true → AreGrantedWithin (taken_by lengths job hands) }
 {}

@@ -15,6 +15,7 @@ pub mod Filling
 pub mod RowContents
 pub mod Bringing
 pub mod ContentsKept
+pub mod BytesStay
 mod Completing
 pub mod DeviceKept
 pub mod StepsKept

@@ -1,5 +1,5 @@
 -- A store stays its own job's, whatever the input.
-use Rattle.std.proofs.Common.{◌≡◌, Bool, List, Option, refl, ap, ◌∙◌}
+use Rattle.std.proofs.Common.{◌≡◌, List, Option, refl, ◌∙◌}
 use Rattle.obj_id.specs.declared.ids.ObjectId.{ObjectId}
 use Rattle.private_store.specs.declared.inputs.Judged.{Judged}
 use Rattle.private_store.specs.Shape.{Shape}

@@ -1,0 +1,200 @@
+-- How much a live job may be given by the other live jobs.
+use Rattle.std.proofs.Common.{◌≡◌, ℕ, suc, ◌+◌, ◌*◌, ◌≤◌, ◌==◌, Bool, true, false, not, cond, ◌&&◌, ◌||◌, List, [], ◌∷◌, ◌++◌, length, map, filter, fold, Option, Some, None, is_some, refl, sym, ap, subst, ◌∙◌, arith, T}
+use Rattle.std.specs.Prelude.{IsTrue, nat_le}
+use Rattle.std.specs.List.{list_any, list_all}
+use Rattle.std.specs.FinMap.{is_sorted}
+use Rattle.std.specs.FinMap.Entries.{is_sorted-put, length-put}
+use Rattle.std.proofs.lemmas.Bool.Decides.{nat_tests}
+use Rattle.obj_id.specs.declared.ids.ObjectId.{ObjectId}
+use Rattle.obj_id.specs.Ids.{id_cmp}
+use Rattle.obj_id.proofs.SameIds.{id_cmp-IsTotalOrder}
+use Rattle.private_store.specs.Answers.{AreGrantedWithin}
+use Rattle.private_store.specs.Hands.{Hand, same_hand, hangs_on, is_given_by}
+use Rattle.private_store.specs.Limits.{most_hands, most_live_jobs, most_granted, greatest_depth}
+use Rattle.private_store.specs.Shape.{HandTaken, Seen}
+use Rattle.private_store.specs.Tables.{ById, at}
+use Rattle.private_store.proofs.Tests.{both, both_left, both_right, T_true, some_value}
+use Rattle.grants.specs.Table.{AreHands, all_stand, may_stand, hangs_right, is_hung, is_no_taker, shows, given_by, given_to}
+use Rattle.grants.specs.Private.{as_taken, seen_by, with_taken, taken_by}
+use Rattle.grants.proofs.Private.{seen_hands}
+use Rattle.grants.proofs.Taken.{taken_shown}
+
+-- ---- one table's hands
+
+abbrev pub is_among : List ℕ → ℕ → Bool
+is_among numbers n = list_any (λ m. m == n) numbers
+
+-- a hand has a giver that isn't its taker, and is no deeper than a grant makes it
+abbrev IsFit : Hand → Bool
+IsFit hand = not (hand.taker == hand.giver) && nat_le hand.depth greatest_depth
+
+hung_fit : (before : List Hand) (hand : Hand) (o : Option ℕ) → hangs_right before hand o ≡ true → nat_le hand.depth greatest_depth ≡ true
+hung_fit before hand None h = let first = both_right (hand.giver == hand.id.job.0) (hand.depth == 1) h in grind (arith, nat_tests, first)
+hung_fit before hand (Some g) h =
+    both_right (not (hand.giver == hand.id.job.0)) (nat_le hand.depth greatest_depth)
+    (both_left (not (hand.giver == hand.id.job.0) && nat_le hand.depth greatest_depth) (list_any (λ below. hangs_on hand below && hand.depth == below.depth + 1) before) h)
+
+taker_fit : (a b c : Bool) → not ((a || b) || c) ≡ true → not b ≡ true
+taker_fit false false c h = refl
+taker_fit false true c h = h
+taker_fit true b c h = absurd cc
+
+stands_fit : (before : List Hand) (hand : Hand) → may_stand before hand ≡ true → IsFit hand ≡ true
+stands_fit before hand h =
+    let taker : Bool = not (is_no_taker hand.id hand.giver hand.taker) in
+    let apart : Bool = not (list_any (same_hand hand) before) in
+    both (not (hand.taker == hand.giver)) (nat_le hand.depth greatest_depth)
+    (taker_fit (hand.taker == 0) (hand.taker == hand.giver) (hand.taker == hand.id.job.0) (both_left taker apart (both_left (taker && apart) (is_hung before hand) h)))
+    (hung_fit before hand hand.hangs_on (both_right (taker && apart) (is_hung before hand) h))
+
+all_fit : (before hands : List Hand) → all_stand before hands ≡ true → list_all IsFit hands ≡ true
+all_fit before [] h = refl
+all_fit before (hand ∷ hands) h =
+    both (IsFit hand) (list_all IsFit hands) (stands_fit before hand (both_left (may_stand before hand) _ h))
+    (all_fit (before ++ hand ∷ []) hands (both_right (may_stand before hand) _ h))
+
+-- ---- counting by givers
+
+split : (p : Hand → Bool) (hs : List Hand) → length hs ≡ length (filter p hs) + length (filter (λ h. not (p h)) hs)
+split p [] = refl
+split p (h ∷ hs) = by (p h) (split p hs)
+  where
+    by : (b : Bool) → length hs ≡ length (filter p hs) + length (filter (λ h. not (p h)) hs)
+        → suc (length hs) ≡ length (cond b (h ∷ filter p hs) (filter p hs)) + length (cond (not b) (h ∷ filter (λ h. not (p h)) hs) (filter (λ h. not (p h)) hs))
+    by true e = omega (arith, e)
+    by false e = omega (arith, e)
+
+filter_less : (p r : Hand → Bool) (hs : List Hand) → length (filter p (filter r hs)) ≤ length (filter p hs)
+filter_less p r [] = omega arith
+filter_less p r (h ∷ hs) = by (r h) (filter_less p r hs)
+  where
+    by : (b : Bool) → length (filter p (filter r hs)) ≤ length (filter p hs) → length (filter p (cond b (h ∷ filter r hs) (filter r hs))) ≤ length (cond (p h) (h ∷ filter p hs) (filter p hs))
+    by true l = under (p h) l
+      where
+        under : (c : Bool) → length (filter p (filter r hs)) ≤ length (filter p hs) → length (cond c (h ∷ filter p (filter r hs)) (filter p (filter r hs))) ≤ length (cond c (h ∷ filter p hs) (filter p hs))
+        under true l = omega (arith, l)
+        under false l = l
+    by false l = over (p h) l
+      where
+        over : (c : Bool) → length (filter p (filter r hs)) ≤ length (filter p hs) → length (filter p (filter r hs)) ≤ length (cond c (h ∷ filter p hs) (filter p hs))
+        over true l = omega (arith, l)
+        over false l = l
+
+-- without the first of the numbers
+among_rest : (g : ℕ) (gs : List ℕ) (hs : List Hand) → list_all (λ h. is_among (g ∷ gs) h.giver) hs ≡ true → list_all (λ h. is_among gs h.giver) (filter (λ h. not (is_given_by g h)) hs) ≡ true
+among_rest g gs [] all = refl
+among_rest g gs (h ∷ hs) all = by (h.giver == g) (g == h.giver) (grind (arith, nat_tests)) (both_left ((g == h.giver) || is_among gs h.giver) _ all) (among_rest g gs hs (both_right ((g == h.giver) || is_among gs h.giver) _ all))
+  where
+    rest : List Hand
+    rest = filter (λ h. not (is_given_by g h)) hs
+
+    by : (a b : Bool) → a ≡ b → b || is_among gs h.giver ≡ true → list_all (λ (h : Hand). is_among gs h.giver) rest ≡ true → list_all (λ (h : Hand). is_among gs h.giver) (cond (not a) (h ∷ rest) rest) ≡ true
+    by true b e here l = l
+    by false false e here l = both (is_among gs h.giver) (list_all (λ (h : Hand). is_among gs h.giver) rest) here l
+    by false true e here l = absurd cc
+
+few_by : (gs : List ℕ) (hs : List Hand) → list_all (λ h. is_among gs h.giver) hs ≡ true → ((g : ℕ) → length (given_by g hs) ≤ most_hands) → length hs ≤ 64 * length gs
+few_by [] [] all few = omega arith
+few_by [] (h ∷ hs) all few = absurd cc
+few_by (g ∷ gs) hs all few =
+    let rest = filter (λ h. not (is_given_by g h)) hs in
+    let here = few g in
+    let there : length rest ≤ 64 * length gs = few_by gs rest (among_rest g gs hs all) (λ k. less k (filter_less (is_given_by k) (λ h. not (is_given_by g h)) hs) (few k)) in
+    let whole = split (is_given_by g) hs in
+    omega (arith, here, there, whole)
+  where
+    less : (k : ℕ) {m n : ℕ} → m ≤ n → n ≤ most_hands → m ≤ most_hands
+    less k l f = omega (arith, l, f)
+
+-- ---- of one job
+
+-- the others
+abbrev others : ℕ → List ℕ → List ℕ
+others job lives = filter (λ g. not (g == job)) lives
+
+others_less : (job : ℕ) (lives : List ℕ) → length (others job lives) ≤ length lives
+others_less job [] = omega arith
+others_less job (g ∷ gs) = by (g == job) (others_less job gs)
+  where
+    by : (b : Bool) → length (others job gs) ≤ length gs → length (cond (not b) (g ∷ others job gs) (others job gs)) ≤ suc (length gs)
+    by true l = omega (arith, l)
+    by false l = omega (arith, l)
+
+others_few : (job : ℕ) (lives : List ℕ) → is_among lives job ≡ true → length (others job lives) + 1 ≤ length lives
+others_few job [] h = absurd cc
+others_few job (g ∷ gs) h = by (g == job) h (others_less job gs) (λ t. others_few job gs t)
+  where
+    by : (b : Bool) → b || is_among gs job ≡ true → length (others job gs) ≤ length gs → (is_among gs job ≡ true → length (others job gs) + 1 ≤ length gs) → length (cond (not b) (g ∷ others job gs) (others job gs)) + 1 ≤ suc (length gs)
+    by true h l more = omega (arith, l)
+    by false h l more = let m = more h in omega (arith, m)
+
+among_others : (job n : ℕ) (lives : List ℕ) → (n == job) ≡ false → is_among lives n ≡ true → is_among (others job lives) n ≡ true
+among_others job n [] differ h = h
+among_others job n (g ∷ gs) differ h = by (g == job) (g == n) refl refl h (among_others job n gs differ)
+  where
+    by : (a b : Bool) → (g == job) ≡ a → (g == n) ≡ b → b || is_among gs n ≡ true → (is_among gs n ≡ true → is_among (others job gs) n ≡ true) → is_among (cond (not a) (g ∷ others job gs) (others job gs)) n ≡ true
+    by true false e f h rest = rest h
+    by true true e f h rest = absurd (grind (arith, nat_tests, e, f, differ))
+    by false b e f h rest = ap (λ t. t || is_among (others job gs) n) f ∙ either b h rest
+      where
+        either : (b : Bool) → b || is_among gs n ≡ true → (is_among gs n ≡ true → is_among (others job gs) n ≡ true) → b || is_among (others job gs) n ≡ true
+        either true h rest = refl
+        either false h rest = rest h
+
+-- the givers of what the job was given are others
+given_by_others : (job : ℕ) (lives : List ℕ) (hs : List Hand) → list_all IsFit hs ≡ true → list_all (λ h. is_among lives h.giver) hs ≡ true → list_all (λ h. is_among (others job lives) h.giver) (given_to job hs) ≡ true
+given_by_others job lives [] fit all = refl
+given_by_others job lives (h ∷ hs) fit all =
+    by (h.taker == job) refl (given_by_others job lives hs (both_right (IsFit h) _ fit) (both_right (is_among lives h.giver) _ all))
+  where
+    by : (b : Bool) → (h.taker == job) ≡ b → list_all (λ (h : Hand). is_among (others job lives) h.giver) (given_to job hs) ≡ true → list_all (λ (h : Hand). is_among (others job lives) h.giver) (cond b (h ∷ given_to job hs) (given_to job hs)) ≡ true
+    by true e rest =
+        let apart = both_left (not (h.taker == h.giver)) _ (both_left (IsFit h) _ fit) in
+        both (is_among (others job lives) h.giver) _ (among_others job h.giver lives (grind (arith, nat_tests, e, apart)) (both_left (is_among lives h.giver) _ all)) rest
+    by false e rest = rest
+
+-- ---- by objects
+
+module _ (lengths : ObjectId → ℕ) where
+  by_objects : (hs : List Hand) (table : ById Seen) → T (is_sorted id_cmp table) → length (fold (with_taken lengths) table hs) ≤ length table + length hs
+  by_objects [] table sorted = omega arith
+  by_objects (h ∷ hs) table sorted =
+      let seen : Seen = record { length = lengths h.id; hands = seen_hands (at table h.id) ++ as_taken h ∷ [] } in
+      let rest = by_objects hs (with_taken lengths table h) (is_sorted-put id_cmp id_cmp-IsTotalOrder h.id seen table sorted) in
+      let one = length-put id_cmp id_cmp-IsTotalOrder h.id seen table sorted in
+      sum (is_some (at table h.id)) one rest
+    where
+      sum : (b : Bool) {n m : ℕ} → n ≡ cond b (length table) (length table + 1) → m ≤ n + length hs → m ≤ length table + suc (length hs)
+      sum true e l = omega (arith, e, l)
+      sum false e l = omega (arith, e, l)
+
+-- ---- what each hand of an object is
+
+shown_fit : (id : ObjectId) (job : ℕ) (hs : List Hand) → list_all IsFit hs ≡ true → list_all (λ (h : HandTaken). nat_le h.depth greatest_depth) (map as_taken (filter (shows id job) hs)) ≡ true
+shown_fit id job [] fit = refl
+shown_fit id job (h ∷ hs) fit = by (shows id job h) (shown_fit id job hs (both_right (IsFit h) _ fit))
+  where
+    by : (b : Bool) → list_all (λ (h : HandTaken). nat_le h.depth greatest_depth) (map as_taken (filter (shows id job) hs)) ≡ true → list_all (λ (h : HandTaken). nat_le h.depth greatest_depth) (map as_taken (cond b (h ∷ filter (shows id job) hs) (filter (shows id job) hs))) ≡ true
+    by true rest = both (nat_le h.depth greatest_depth) _ (both_right (not (h.taker == h.giver)) _ (both_left (IsFit h) _ fit)) rest
+    by false rest = rest
+
+seen_shallow : (n : ℕ) (hs : List HandTaken) (seen : Seen) → list_all (λ h. nat_le h.depth greatest_depth) hs ≡ true → seen_by n hs ≡ Some seen → list_all (λ h. nat_le h.depth greatest_depth) seen.hands ≡ true
+seen_shallow n [] seen fit is = absurd cc
+seen_shallow n (h ∷ hs) seen fit is = ap (λ (s : Seen). list_all (λ (h : HandTaken). nat_le h.depth greatest_depth) s.hands) (sym (some_value (record { length = n; hands = h ∷ hs }) seen is)) ∙ fit
+
+pub few_granted : (lengths : ObjectId → ℕ) (hands : List Hand) (lives : List ℕ) (job : ℕ) → AreHands hands → list_all (λ hand. is_among lives hand.giver) hands ≡ true → length lives ≤ most_live_jobs → is_among lives job ≡ true
+    → AreGrantedWithin (taken_by lengths job hands)
+few_granted lengths hands lives job are all few there = record {
+  few =
+      let fewer = others_few job lives there in
+      let given = few_by (others job lives) (given_to job hands) (given_by_others job lives hands fit all) (λ g. less g (filter_less (is_given_by g) (λ (h : Hand). h.taker == job) hands) (are.few g)) in
+      let seen = by_objects lengths (given_to job hands) [] tt in
+      omega (arith, few, fewer, given, seen);
+  shallow = λ id seen is. seen_shallow (lengths id) (map as_taken (filter (shows id job) hands)) seen (shown_fit id job hands fit) (sym (taken_shown lengths job hands id) ∙ is);
+}
+  where
+    fit : list_all IsFit hands ≡ true
+    fit = all_fit [] hands are.stand
+
+    less : (g : ℕ) {m n : ℕ} → m ≤ n → n ≤ most_hands → m ≤ most_hands
+    less g l f = omega (arith, l, f)
