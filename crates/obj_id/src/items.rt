@@ -46,6 +46,13 @@ impl<T> Items<T> {
         Ok(())
     }
 
+    /// The items, in order, as a list of their own. Takes no memory.
+    pub fn into_vec(self) -> Vec<T>
+        ensures { result.items ≡ self }
+    {
+        self.items
+    }
+
     /// The items, in order.
     pub fn as_slice(&self) -> &[T]
         ensures { result.now ≡ self.now }

@@ -67,7 +67,7 @@ pub enum Arrival {
 }
 
 /// Where a message comes from or goes to.
-#[derive(Clone, Copy, Debug, PartialEq, Eq)]
+#[derive(Clone, Copy, Debug, PartialEq, Eq, Hash)]
 pub enum Place {
     Node(u32),
     Directory,
