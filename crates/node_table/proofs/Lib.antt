@@ -2,7 +2,8 @@ mod Changes
 pub mod CopyTables
 pub mod Places
 pub mod Rising
-mod Received
+pub mod Received
+pub mod Besides
 pub mod Stepping
 pub mod ByChecks
 pub mod Passed
@@ -46,3 +47,7 @@ pub mod Unfetching
 pub mod Gaps
 pub mod EndingTasks
 pub mod Serving
+mod Noted
+pub mod Notes
+pub mod Peeking
+pub mod Granting

@@ -29,7 +29,7 @@ pub there : (f : Kept → Option Refusal) (r : Refusal) (o : Option Kept) → �
 there f r (Some k) e = (k, refl, e)
 there f r None e = absurd cc
 
-not_not : (b : Bool) → not b ≡ false → b ≡ true
+pub not_not : (b : Bool) → not b ≡ false → b ≡ true
 not_not true e = refl
 not_not false e = absurd cc
 

@@ -53,6 +53,59 @@ pub one_key : (job : ℕ) (o : Option ℕ) → option_to_list (option_map (key_o
 one_key job None = refl
 one_key job (Some n) = refl
 
+-- a row that has moved so far removes its copy if nothing keeps it
+module _ (node : ℕ) (row : Row) (beside : Beside) (contents : Contents) (h : IsShown row beside contents) (x : Input) (r : Row) (after : Beside) (store : Shape) (sent : List Sending) (posts : List Post)
+    (m : Moves node row beside contents h x (erasing (shape_of row beside) (record (done store) { sent = sent })) (record { reply = reply.Ok; posts = posts; erased = [] }) r after)
+    (id : ObjectId) (k : Kept) (found : at r.copies id ≡ Some k) (there : at store.copies id ≡ Some k.copy) (alike : is_over k ≡ k.copy.doomed && is_idle store id k.copy)
+    (key : keys_gone (copies_of row.copies) (drop_copy store id).copies ≡ option_to_list k.copy.backed) where
+  abbrev done_if : Bool → Change
+  done_if b = erasing (shape_of row beside) (record (done (cond b (drop_copy store id) store)) { sent = sent })
+
+  settled_is : erasing (shape_of row beside) (record (done (settled store id)) { sent = sent }) ≡ done_if (is_over k)
+  settled_is =
+      ap (λ o. erasing (shape_of row beside) (record (done (option_map_or (λ (copy : Copy). cond (copy.doomed && is_idle store id copy) (drop_copy store id) store) o store)) { sent = sent })) there
+      ∙ ap done_if (sym alike)
+
+  -- the row, and what it gives, as the code leaves them
+  abbrev row_settled : Bool → Row
+  row_settled b = cond b (dropped r id) r
+
+  abbrev gives : Bool → Given
+  gives b = record { reply = reply.Ok; posts = posts; erased = cond b (option_to_list (option_map (key_of row.job) k.copy.backed)) [] }
+
+  settled_row-is : settled_row r id ≡ row_settled (is_over k)
+  settled_row-is = ap (λ o. option_map_or (λ kept. cond (is_over kept) (dropped r id) r) o r) found
+
+  keys-are : r.job ≡ row.job → keys_settled r id ≡ (gives (is_over k)).erased
+  keys-are same =
+      ap (λ o. option_map_or (λ kept. cond (is_over kept) (option_to_list (option_map (key_of r.job) kept.copy.backed)) []) o []) found
+      ∙ ap (λ job. cond (is_over k) (option_to_list (option_map (key_of job) k.copy.backed)) []) same
+
+  module _ (step_is : change node row beside contents h x ≡ erasing (shape_of row beside) (record (done (settled store id)) { sent = sent })) (posted : (o : View) → posts ≡ flat_map (posts_of node o x) sent) where
+    -- what is shown after this change
+    abbrev shows : Change → View
+    shows d = view_after node (seen row beside contents) x (judge node (seen row beside contents) x) d
+
+    -- a copy that something keeps, or that isn't doomed, stays
+    pub moved_stays : is_over k ≡ false → TakesStep node row beside contents x (record { reply = reply.Ok; posts = posts; erased = [] }) r after
+    moved_stays is =
+        moved node row beside contents h x (done_if false) (step_is ∙ settled_is ∙ ap done_if is) (record { reply = reply.Ok; posts = posts; erased = [] }) r after m (posted (shows (done_if false)))
+
+    settled_so : ArePlaced r.window.placed (place_of r.copies) → (b : Bool) → is_over k ≡ b → TakesStep node row beside contents x (gives b) (row_settled b) after
+    settled_so placed false is = moved_stays is
+    settled_so placed true is =
+        let keys = keys_gone (copies_of row.copies) (drop_copy store id).copies in
+        let told : Given = record { reply = reply.Ok; posts = posts; erased = [] } in
+        let gone = change_left node row beside contents h x (done_if false) told r after m refl placed id keys in
+        moved node row beside contents h x gone (step_is ∙ settled_is ∙ ap done_if is) (gives true) (dropped r id) after
+        (moves_left node row beside contents h x (done_if false) told r after m refl placed id keys (gives true) refl (one_key row.job k.copy.backed ∙ ap (map (key_of row.job)) (sym key)))
+        (posted (shows gone))
+
+    pub moved_settles : r.job ≡ row.job → ArePlaced r.window.placed (place_of r.copies) → TakesStep node row beside contents x (record { reply = reply.Ok; posts = posts; erased = keys_settled r id }) (settled_row r id) after
+    moved_settles same placed =
+        subst (λ ks. TakesStep node row beside contents x (record { reply = reply.Ok; posts = posts; erased = ks }) (settled_row r id) after) (sym (keys-are same))
+        (subst (λ t. TakesStep node row beside contents x (gives (is_over k)) t after) (sym settled_row-is) (settled_so placed (is_over k) refl))
+
 module _ (node : ℕ) (row : Row) (beside : Beside) (contents : Contents) (h : IsShown row beside contents) (x : Input) (quiet : BringsNothing node (seen row beside contents) x)
     (id : ObjectId) (k : Kept) (found : at row.copies id ≡ Some k) (f : Kept → Kept) (minor : IsMinor f k) (sent : List Sending) (posts : List Post) where
   abbrev s : Shape
@@ -85,62 +138,23 @@ module _ (node : ℕ) (row : Row) (beside : Beside) (contents : Contents) (h : I
     erased = sym (ap (map (key_of row.job)) (keys_with (copies_of row.copies) id now));
   }
 
-  -- what is shown after this change
-  abbrev after : Change → View
-  after d = view_after node (seen row beside contents) x (judge node (seen row beside contents) x) d
-
-  -- whether the copy is removed
-  abbrev goes : Bool
-  goes = is_over (f k)
-
-  over_is : goes ≡ now.doomed && is_idle (set_copy s id now) id now
+  over_is : is_over (f k) ≡ now.doomed && is_idle (set_copy s id now) id now
   over_is =
       ap (λ b. now.doomed && b)
       (idle_same (is_held now) (f k).granted (is_granted s id) (is_working s id) (f k).working
       (minor.granted ∙ h.granted id k found) (ap is_some (minor.working ∙ h.working id k found) ∙ working-on beside.works id))
 
-  abbrev done_if : Bool → Change
-  done_if b = erasing s (record (done (cond b (drop_copy (set_copy s id now) id) (set_copy s id now))) { sent = sent })
-
-  settled_is : erasing s (record (done (settled (set_copy s id now) id)) { sent = sent }) ≡ done_if goes
-  settled_is =
-      ap (λ o. erasing s (record (done (option_map_or (λ copy. cond (copy.doomed && is_idle (set_copy s id now) id copy) (drop_copy (set_copy s id now) id) (set_copy s id now)) o (set_copy s id now))) { sent = sent })) (at-put_here (copies_of row.copies) id now)
-      ∙ ap done_if (sym over_is)
-
-  -- the row, and what it gives, as the code leaves them
-  abbrev row_settled : Bool → Row
-  row_settled b = cond b (dropped row_now id) row_now
-
-  abbrev gives : Bool → Given
-  gives b = record { reply = reply.Ok; posts = posts; erased = cond b (option_to_list (option_map (key_of row.job) now.backed)) [] }
-
   found_now : at row_now.copies id ≡ Some (f k)
   found_now = ap (λ t. at t id) (changed-found f id row.copies k found) ∙ at-put_here row.copies id (f k)
 
-  settled_row-is : settled_row row_now id ≡ row_settled goes
-  settled_row-is = ap (λ o. option_map_or (λ kept. cond (is_over kept) (dropped row_now id) row_now) o row_now) found_now
-
-  keys-are : keys_settled row_now id ≡ (gives goes).erased
-  keys-are = ap (λ o. option_map_or (λ kept. cond (is_over kept) (option_to_list (option_map (key_of row.job) kept.copy.backed)) []) o []) found_now
+  key_is : keys_gone (copies_of row.copies) (drop_copy (set_copy s id now) id).copies ≡ option_to_list now.backed
+  key_is = key_removed (copies_of row.copies) id k.copy now (T_true _ h.kept.kept.shape.by_id) (at-copies_found row.copies id k found) ∙ ap option_to_list (sym minor.backed)
 
   module _ (step_is : change node row beside contents h x ≡ erasing s (record (done (settled (set_copy s id now) id)) { sent = sent }))
       (posted : (o : View) → posts ≡ flat_map (posts_of node o x) sent) where
     -- a copy that something keeps, or that isn't doomed, stays
-    pub stays_so : goes ≡ false → TakesStep node row beside contents x told row_now beside
-    stays_so is = moved node row beside contents h x c (step_is ∙ settled_is ∙ ap done_if is) told row_now beside m (posted (after c))
-
-    settled_so : ArePlaced row_now.window.placed (place_of row_now.copies) → (b : Bool) → goes ≡ b → TakesStep node row beside contents x (gives b) (row_settled b) beside
-    settled_so placed false is = stays_so is
-    settled_so placed true is =
-        let keys = keys_gone s.copies (drop_copy (set_copy s id now) id).copies in
-        moved node row beside contents h x (change_left node row beside contents h x c told row_now beside m refl placed id keys)
-        (step_is ∙ settled_is ∙ ap done_if is) (gives true) (dropped row_now id) beside
-        (moves_left node row beside contents h x c told row_now beside m refl placed id keys (gives true) refl
-        (one_key row.job now.backed ∙ ap (λ o. map (key_of row.job) (option_to_list o)) minor.backed
-        ∙ ap (map (key_of row.job)) (sym (key_removed (copies_of row.copies) id k.copy now (T_true _ h.kept.kept.shape.by_id) (at-copies_found row.copies id k found)))))
-        (posted (after (change_left node row beside contents h x c told row_now beside m refl placed id keys)))
+    pub stays_so : is_over (f k) ≡ false → TakesStep node row beside contents x told row_now beside
+    stays_so is = moved_stays node row beside contents h x row_now beside (set_copy s id now) sent posts m id (f k) found_now (at-put_here (copies_of row.copies) id now) over_is key_is step_is posted is
 
     pub settles : ArePlaced row_now.window.placed (place_of row_now.copies) → TakesStep node row beside contents x (record { reply = reply.Ok; posts = posts; erased = keys_settled row_now id }) (settled_row row_now id) beside
-    settles placed =
-        subst (λ ks. TakesStep node row beside contents x (record { reply = reply.Ok; posts = posts; erased = ks }) (settled_row row_now id) beside) (sym keys-are)
-        (subst (λ r. TakesStep node row beside contents x (gives goes) r beside) (sym settled_row-is) (settled_so placed goes refl))
+    settles placed = moved_settles node row beside contents h x row_now beside (set_copy s id now) sent posts m id (f k) found_now (at-put_here (copies_of row.copies) id now) over_is key_is step_is posted refl placed

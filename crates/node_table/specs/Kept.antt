@@ -127,9 +127,13 @@ spilling kept = record kept { working = Some Write }
 abbrev pub doomed : Kept → Kept
 doomed kept = record kept { copy = record kept.copy { doomed = true } }
 
+-- hands of it stand that the job gave, or none
+abbrev pub marked : Bool → Kept → Kept
+marked granted kept = record kept { granted = granted }
+
 -- no hand of it stands any more
 abbrev pub ungranted : Kept → Kept
-ungranted kept = record kept { granted = false }
+ungranted kept = marked false kept
 
 -- it is doomed unless it is in scope
 abbrev pub scoped : Kept → Kept

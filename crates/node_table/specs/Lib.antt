@@ -21,3 +21,5 @@ pub mod Arriving
 pub mod Serving
 pub mod Ending
 pub mod EndingTasks
+pub mod Notes
+pub mod Granting

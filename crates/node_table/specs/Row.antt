@@ -1,14 +1,16 @@
 -- The row of one job at a node, and the store of that job, without contents, that it is.
-use Rattle.std.specs.Prelude.{◌≡◌, ℕ, ◌==◌, Bool, false, List, [], ◌∷◌, ◌++◌, map, filter, fold, length, Contains, Option, Some}
-use Rattle.std.specs.Option.{option_map_or, option_and_then}
+use Rattle.std.specs.Prelude.{◌≡◌, ℕ, Bool, false, List, [], map, length, Contains, Option, Some}
+use Rattle.std.specs.Option.{option_and_then}
 use Rattle.obj_id.specs.declared.ids.TaskNo.{TaskNo}
 use Rattle.obj_id.specs.declared.ids.ObjectId.{ObjectId}
 use Rattle.obj_id.specs.declared.works.Extent.{Extent}
 use Rattle.obj_id.specs.declared.works.Quota.{Quota}
-use Rattle.private_store.specs.Tables.{ById, at, with_entry}
+use Rattle.private_store.specs.Tables.{ById, at}
 use Rattle.private_store.specs.Shape.{Copy, Shape, WorkInFlight, HandGiven, Seen, live}
 use Rattle.private_store.specs.Copies.{extent_of}
 use Rattle.private_store.specs.Hands.{Hand}
+use Rattle.grants.specs.Table.{given_by as hands_given}
+use Rattle.grants.specs.Private.{as_given, taken_by}
 use Rattle.job_region.specs.Region.{Region, extents_of, IsAt}
 use Rattle.spill_work.specs.Line.{WorkLine, works_of, used_by}
 use Rattle.node_table.specs.Kept.{Kept}
@@ -58,20 +60,11 @@ new_row job quota =
 
 -- the hands that the job gave
 abbrev pub given_by : List Hand → ℕ → List HandGiven
-given_by hands job =
-    map (λ hand. record { id = hand.id; target = hand.taker; hangs_on = hand.hangs_on }) (filter (λ hand. hand.giver == job) hands)
+given_by hands job = map as_given (hands_given job hands)
 
--- one hand more of an object that has these bytes
-abbrev pub seen_more : (ObjectId → List ℕ) → ById Seen → Hand → ById Seen
-seen_more bytes table hand =
-    with_entry table hand.id (record {
-      length = length (bytes hand.id);
-      hands = option_map_or (λ seen. seen.hands) (at table hand.id) [] ++ record { giver = hand.giver; depth = hand.depth } ∷ [];
-    })
-
--- what the job was granted
+-- what the job was granted, where objects have these bytes
 abbrev pub received_by : (ObjectId → List ℕ) → List Hand → ℕ → ById Seen
-received_by bytes hands job = fold (seen_more bytes) [] (filter (λ hand. hand.taker == job) hands)
+received_by bytes hands job = taken_by (λ id. length (bytes id)) job hands
 
 -- of one job: its works in the line of all jobs, and what it gave and received by the hands that stand, where objects
 -- have these bytes

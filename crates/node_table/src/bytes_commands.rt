@@ -120,7 +120,7 @@ impl JobRow {
 }
 
 /// `len` bytes from the offset on, or as many of them as there are.
-fn part_of(bytes: &[u8], offset: u32, len: u32) -> &[u8]
+pub fn part_of(bytes: &[u8], offset: u32, len: u32) -> &[u8]
     ensures { result.now ≡ take len (drop offset bytes.now) }
 {
     let start = (offset as usize).min(bytes.len());

@@ -2,6 +2,7 @@
 ghost use Rattle.std.specs.Prelude.{◌≡◌, if◌then◌else◌, Some, None, option_map};
 ghost use Rattle.obj_id.specs.declared.refusals.Refusal.TheVariants.{Absent, Granted};
 ghost use Rattle.node_table.specs.Checks.{write_check_of, write_check as write_check_lem, seal_check_of, seal_check as seal_check_lem, read_check_of, read_check as read_check_lem, lend_check_of, lend_check as lend_check_lem, fetch_check as fetch_check_lem, create_check as create_check_lem, end_task_check as end_task_check_lem, unpin_check_of, unpin_check as unpin_check_lem, give_up_check_of, give_up_check as give_up_check_lem, delete_check as delete_check_lem, visible_state as visible_state_lem, fault_at};
+ghost use Rattle.node_table.specs.Granting.{grant_check_of};
 ghost use Rattle.private_store.specs.Tables.{at};
 ghost use Rattle.node_table.specs.Row.{copies_of};
 
@@ -73,6 +74,20 @@ impl RowCopy {
             return Some(Refusal::Granted);
         }
         None
+    }
+
+    /// Why it can't be granted, where this is what the table of hands says: `Absent`, `NotResident` unless it is a
+    /// sealed primary, or that.
+    pub fn grant_check(&self, table: Option<Refusal>) -> Option<Refusal>
+        ensures { result ≡ grant_check_of self.now table }
+    {
+        if self.doomed() {
+            return Some(Refusal::Absent);
+        }
+        if !self.kind().is_primary() || !matches!(self.state(), CopyState::Sealed) {
+            return Some(Refusal::NotResident);
+        }
+        table
     }
 
     /// Why the session isn't lent its bytes: `NotSealed`, `NotHeld`.

@@ -2,7 +2,7 @@
 ghost use Rattle.std.specs.Option.{option_copied, option_map_or, option_and_then};
 ghost use Rattle.private_store.specs.Tables.{at, with_entry, without_entry};
 ghost use Rattle.node_table.specs.Entries.{changed, all_changed, each_changed};
-ghost use Rattle.node_table.specs.Kept.{released, left, sealed, spilling_if, unpinned, borrowed, given_up, doomed, Kept, fault_told, unplaced, placed_for, CanAwait, written, restored, lost};
+ghost use Rattle.node_table.specs.Kept.{released, left, sealed, spilling_if, unpinned, borrowed, given_up, doomed, marked, Kept, fault_told, unplaced, placed_for, CanAwait, written, restored, lost};
 ghost use Rattle.private_store.specs.Copies.{is_created, in_scope};
 ghost use Rattle.private_store.specs.Commands.{without_borrower};
 ghost use Rattle.private_store.specs.Kept.{is_restoring};
@@ -426,6 +426,16 @@ impl Copies {
             copy.end_hands(id, task);
             true
         });
+    }
+
+    /// Hands of the copy stand that the job gave, or none. Takes no memory.
+    pub fn mark_granted(&mut self, id: &ObjectId, granted: bool)
+        ensures { self.new ≡ changed (marked granted) self.old id.now }
+    {
+        let Some(copy) = self.by_id.get_mut(id) else {
+            return;
+        };
+        copy.mark_granted(granted);
     }
 
     /// Whether the copy is doomed; not if there is none.

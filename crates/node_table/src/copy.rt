@@ -10,7 +10,7 @@ ghost use Rattle.private_store.specs.Copies.{extent_of, is_created, is_away, is_
 ghost use Rattle.private_store.specs.Commands.{holds_of as holds_of_lem, has_borrower, without_borrower};
 ghost use Rattle.private_store.specs.Extents.{rounded as rounded_lem};
 ghost use Rattle.node_table.specs.RoomPlans.{facts_of};
-ghost use Rattle.node_table.specs.Kept.{new_kept, fetched_kept, released, left, sealed, spilling, spilling_if, can_spill, unpinned, borrowed, given_up, doomed, ungranted, scoped, fetch_of, fault_told, unplaced, is_unasked, pulled, restoring, placed_for, CanAwait, written, restored, lost};
+ghost use Rattle.node_table.specs.Kept.{new_kept, fetched_kept, released, left, sealed, spilling, spilling_if, can_spill, unpinned, borrowed, given_up, doomed, marked, ungranted, scoped, fetch_of, fault_told, unplaced, is_unasked, pulled, restoring, placed_for, CanAwait, written, restored, lost};
 ghost use Rattle.node_table.specs.declared.copy.Awaited.TheVariants.{Chunks, Device};
 ghost use Rattle.private_store.specs.Kept.{is_restoring};
 ghost use Rattle.node_table.specs.Answering.{has_bytes as has_bytes_lem};
@@ -357,6 +357,13 @@ impl RowCopy {
         if own {
             self.granted = false;
         }
+    }
+
+    /// Hands of it stand that the job gave, or none.
+    pub fn mark_granted(&mut self, granted: bool)
+        ensures { self.new ≡ marked granted self.old }
+    {
+        self.granted = granted;
     }
 
     /// It is removed as soon as nothing keeps it.

@@ -16,7 +16,9 @@ mod ending;
 mod get_away;
 mod get_command;
 mod get_fetching;
+mod hand_commands;
 mod hold_commands;
+pub mod laws;
 mod listing;
 mod outcome;
 mod requota;
@@ -26,6 +28,7 @@ mod row;
 mod scope_commands;
 mod serve_pull;
 
+pub use bytes_commands::part_of;
 pub use copies::Copies;
 pub use copy::RowCopy;
 pub use device_works::Answered;

@@ -15,7 +15,7 @@ ghost use Rattle.node_table.specs.Usages.{is_spilling};
 ghost use Rattle.node_table.specs.Answering.{written_row, refilled, lost_row};
 ghost use Rattle.lru_evictor.specs.Orders.{order_of, touched, last_used};
 ghost use Rattle.node_table.specs.Entries.{changed, all_changed, each_changed};
-ghost use Rattle.node_table.specs.Kept.{Kept, sealed, held, released, left, spilling_if, fetched_kept, unpinned, borrowed, given_up, doomed, fault_told, new_kept, waits_for_place, placed_for, CanAwait};
+ghost use Rattle.node_table.specs.Kept.{Kept, sealed, held, released, left, spilling_if, fetched_kept, unpinned, borrowed, given_up, doomed, marked, fault_told, new_kept, waits_for_place, placed_for, CanAwait};
 ghost use Rattle.node_table.specs.Checks.{release_check, borrow_check};
 ghost use Rattle.node_table.specs.Quotas.{requoted};
 ghost use Rattle.node_table.specs.Scope.{with_copy};
@@ -526,6 +526,13 @@ impl JobRow {
         ensures { self.new ≡ with_copy doomed self.old id.now }
     {
         self.copies.doom(id);
+    }
+
+    /// Hands of the copy stand that the job gave, or none. Takes no memory.
+    pub(crate) fn mark_granted(&mut self, id: &ObjectId, granted: bool)
+        ensures { self.new ≡ with_copy (marked granted) self.old id.now }
+    {
+        self.copies.mark_granted(id, granted);
     }
 
     /// No hold of the session on the copy. Takes no memory.

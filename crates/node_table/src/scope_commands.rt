@@ -146,7 +146,11 @@ impl JobRow {
     }
 
     /// The answer Ok with these messages, and the copy is removed if it is over.
-    fn settle_after(&mut self, id: &ObjectId, messages: Items<(Place, Message)>) -> Outcome
+    pub(crate) fn settle_after(
+        &mut self,
+        id: &ObjectId,
+        messages: Items<(Place, Message)>,
+    ) -> Outcome
         ensures row { self.new ≡ settled_row self.old id.now }
         ensures given { given_of result ≡ record { reply = reply.Ok; posts = messages; erased = keys_settled self.old id.now } }
         ensures placed { ArePlaced self.old.window.placed (place_of self.old.copies) }

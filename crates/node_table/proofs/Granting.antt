@@ -1,0 +1,339 @@
+-- A row takes Grant and Withdraw: a copy is marked as the hands say, and removed if nothing keeps it.
+use Rattle.std.proofs.Common.{◌≡◌, ℕ, ◌==◌, Bool, true, false, not, cond, ◌&&◌, ◌||◌, inl, inr, List, [], ◌∷◌, ◌++◌, map, filter, Option, Some, None, is_some, refl, sym, ap, subst, ◌∙◌, T, eq-eqb}
+use Rattle.std.specs.Option.{option_map_or}
+use Rattle.std.specs.List.{list_any, list_all}
+use Rattle.std.proofs.lemmas.List.Folds.{list_any-append}
+use Rattle.std.specs.FinMap.Entries.{is_sorted, same_entries, is_sorted-put}
+use Rattle.obj_id.specs.declared.ids.JobNo.{JobNo}
+use Rattle.obj_id.specs.declared.ids.ObjectId.{ObjectId}
+use Rattle.obj_id.specs.declared.refusals.Refusal.{Refusal}
+use Rattle.obj_id.specs.declared.refusals.Refusal.TheVariants.{BadId, Gone, Absent, NotResident, NotGranted}
+use Rattle.obj_id.specs.declared.commands.Command.TheVariants as command
+use Rattle.obj_id.specs.declared.commands.Reply.TheVariants as reply
+use Rattle.obj_id.specs.Ids.{id_cmp, same_id}
+use Rattle.obj_id.proofs.SameIds.{id_cmp-IsTotalOrder, id_cmp-IsAntisymmetric, same_id-equal, same_id-itself}
+use Rattle.private_store.specs.declared.inputs.Input.{Input}
+use Rattle.private_store.specs.declared.inputs.Input.TheVariants as input
+use Rattle.private_store.specs.Tables.{ById, at, with_entry}
+use Rattle.private_store.specs.Shape.{Copy, Shape, Change, HandGiven}
+use Rattle.private_store.specs.Copies.{extent_of, is_held, is_granted, is_working, is_idle}
+use Rattle.private_store.specs.Room.{drop_copy}
+use Rattle.private_store.specs.Change.{done, erasing, settled, has_ended}
+use Rattle.private_store.specs.Commands.{is_sealed_primary, gives, grant}
+use Rattle.private_store.specs.Contents.{Contents}
+use Rattle.private_store.specs.Hands.{Hand, ground, new_hand, with_hand, hands_left, is_withdrawn, is_given_by}
+use Rattle.private_store.specs.Kept.{has_hand}
+use Rattle.private_store.specs.Private.{key_of}
+use Rattle.private_store.proofs.Checks.{checked-nil}
+use Rattle.private_store.proofs.Rows.{at-put, at-put_here}
+use Rattle.private_store.proofs.RefusingLemmas.{keys_none, all_found}
+use Rattle.private_store.proofs.Tests.{T_true, true_T, true_false, both_left, or_false, or_cases, or_left, or_right, refuted}
+use Rattle.private_store.proofs.KeptLists.{any-filter, all-filter}
+use Rattle.grants.specs.Table.{AreHands, given_by as hands_given, given_to, is_first, is_no_taker, limits_check, hung_check, grant_check as table_check, withdraw_check}
+use Rattle.grants.specs.Private.{as_given, HasHands, RefusesAlike}
+use Rattle.grants.proofs.Alike.{numbers_equal}
+use Rattle.grants.proofs.Ends.{filter_swap}
+use Rattle.grants.proofs.Private.{is_to, any_given, left_given, refuses_alike, grants_alike}
+use Rattle.grants.proofs.Taken.{taken_sorted, taken_is}
+use Rattle.lru_evictor.proofs.Reorders.{reordered-unused}
+use Rattle.spill_work.specs.Line.{WorkLine}
+use Rattle.node_table.specs.Dropping.{is_over, settled_row, keys_settled}
+use Rattle.node_table.specs.Granting.{grant_check, grant_check_of, hands_granted}
+use Rattle.node_table.specs.Kept.{Kept, marked}
+use Rattle.node_table.specs.Notes.{beside_rest}
+use Rattle.node_table.specs.Row.{Row, Beside, beside_of, copies_of, shape_of, place_of, ArePlaced}
+use Rattle.node_table.specs.Scope.{with_copy}
+use Rattle.node_table.specs.Shown.{seen, IsShown, only, TakesStep}
+use Rattle.node_table.proofs.ByChecks.{unless_refused, first-check, in_sight, called}
+use Rattle.node_table.proofs.Changes.{changed-found}
+use Rattle.node_table.proofs.Changing.{From, from_changed, there_still, bytes_stay, digests_stay, works_stay, listed_stay}
+use Rattle.node_table.proofs.CopyTables.{at-copies_found, at-copies_none, copies-changed}
+use Rattle.node_table.proofs.Described.{working-on, idle_same}
+use Rattle.node_table.proofs.Dropping.{key_dropped}
+use Rattle.node_table.proofs.Noted.{is_well_hung}
+use Rattle.node_table.proofs.Notes.{lengths, row_has_hands, note_taken, first_left}
+use Rattle.node_table.proofs.Passed.{past, there}
+use Rattle.node_table.proofs.Settling.{BringsNothing, moved_settles}
+use Rattle.node_table.proofs.Stepping.{Moves, moved, change, received_stays, stays}
+
+-- an entry put where it stands already
+with-same : {X : Type 0} (es : ById X) (id : ObjectId) (x : X) → T (is_sorted id_cmp es) → at es id ≡ Some x → with_entry es id x ≡ es
+with-same es id x sorted found =
+    same_entries id_cmp id_cmp-IsTotalOrder id_cmp-IsAntisymmetric (with_entry es id x) es (is_sorted-put id_cmp id_cmp-IsTotalOrder id x es sorted) sorted
+    (λ q. at-put es id x q ∙ by q (same_id q id) refl)
+  where
+    by : (q : ObjectId) (b : Bool) → same_id q id ≡ b → cond b (Some x) (at es q) ≡ at es q
+    by q true same = sym (ap (at es) (same_id-equal q id same) ∙ found)
+    by q false same = refl
+
+pub marked-place : (granted : Bool) (z : Kept) → extent_of (marked granted z).copy ≡ extent_of z.copy
+marked-place granted z = refl
+
+-- ---- a copy is marked as the hands say that stand beside it then
+
+module _ (node : ℕ) (row : Row) (beside : Beside) (contents : Contents) (h : IsShown row beside contents) (x : Input) (quiet : BringsNothing node (seen row beside contents) x)
+    (id : ObjectId) (k : Kept) (found : at row.copies id ≡ Some k) (granted : Bool) (given : List HandGiven)
+    (its : granted ≡ has_hand given id) (others : (q : ObjectId) → same_id q id ≡ false → has_hand given q ≡ has_hand beside.given q) where
+  abbrev f : Kept → Kept
+  f = marked granted
+
+  abbrev row_marked : Row
+  row_marked = with_copy f row id
+
+  abbrev beside_given : Beside
+  beside_given = record beside { given = given }
+
+  abbrev s : Shape
+  s = shape_of row beside_given
+
+  lies : (z : Kept) → ((f z).copy.offset ≡ z.copy.offset) × ((f z).copy.length ≡ z.copy.length)
+  lies z = (refl, refl)
+
+  same_copies : copies_of row_marked.copies ≡ copies_of row.copies
+  same_copies = copies-changed f row.copies id k found ∙ with-same (copies_of row.copies) id k.copy (T_true _ h.kept.kept.shape.by_id) (at-copies_found row.copies id k found)
+
+  abbrev c : Change
+  c = erasing (shape_of row beside) (done s)
+
+  marks : Moves node row beside contents h x c (only reply.Ok) row_marked beside_given
+  marks = record {
+    shape = ap (λ t. record s { copies = t }) (sym same_copies);
+    order = sym (reordered-unused row.order (copies_of row_marked.copies) (there_still node row beside contents h x id k found f lies row.order h.there));
+    there = there_still node row beside contents h x id k found f lies row.order h.there;
+    listed = listed_stay node row beside contents h x id k found f lies row.order h.listed;
+    bytes = bytes_stay node row beside contents h x id k found f lies c quiet.bytes;
+    digests = digests_stay node row beside contents h x id k found f lies c quiet.digest refl (λ keep. keep);
+    working = works_stay node row beside contents h x id k found f lies refl;
+    granted = λ q y is. by q y (from_changed f row.copies id k found q y is);
+    received = received_stays node row beside contents h x quiet.received;
+    reply = refl;
+    erased = sym (ap (map (key_of row.job)) (keys_none (copies_of row.copies) (copies_of row.copies) (all_found (copies_of row.copies))));
+  }
+    where
+      by : (q : ObjectId) (y : Kept) → (z : Kept) × (at row.copies q ≡ Some z) × From f row.copies id q y z → y.granted ≡ has_hand given q
+      by q y (z, e, inl t) = ap (λ (y : Kept). y.granted) t.1 ∙ its ∙ ap (has_hand given) (sym (same_id-equal q id t.0))
+      by q y (z, e, inr t) = ap (λ (y : Kept). y.granted) t.1 ∙ h.granted q z e ∙ sym (others q t.0)
+
+  pub marked_so : change node row beside contents h x ≡ c → TakesStep node row beside contents x (only reply.Ok) row_marked beside_given
+  marked_so is = moved node row beside contents h x c is (only reply.Ok) row_marked beside_given marks refl
+
+  -- and removed if nothing keeps it
+  over_is : is_over (f k) ≡ k.copy.doomed && is_idle s id k.copy
+  over_is =
+      ap (λ b. k.copy.doomed && b)
+      (idle_same (is_held k.copy) granted (is_granted s id) (is_working s id) k.working its (ap is_some (h.working id k found) ∙ working-on beside.works id))
+
+  pub settles_marked : change node row beside contents h x ≡ erasing (shape_of row beside) (done (settled s id)) → ArePlaced row_marked.window.placed (place_of row_marked.copies)
+      → TakesStep node row beside contents x (record { reply = reply.Ok; posts = []; erased = keys_settled row_marked id }) (settled_row row_marked id) beside_given
+  settles_marked is placed =
+      moved_settles node row beside contents h x row_marked beside_given s [] [] marks id (f k)
+      (ap (λ t. at t id) (changed-found f id row.copies k found) ∙ at-put_here row.copies id (f k)) (at-copies_found row.copies id k found) over_is
+      (key_dropped (copies_of row.copies) id k.copy (T_true _ h.kept.kept.shape.by_id) (at-copies_found row.copies id k found)) is (λ o. refl) refl placed
+
+-- where no copy changes no key is erased
+none_erased : (row : Row) (beside : Beside) (given : List HandGiven) → erasing (shape_of row beside) (done (shape_of row (record beside { given = given }))) ≡ done (shape_of row (record beside { given = given }))
+none_erased row beside given = ap (λ keys. record (done (shape_of row (record beside { given = given }))) { erased = keys }) (keys_none (copies_of row.copies) (copies_of row.copies) (all_found (copies_of row.copies)))
+
+-- an own copy is of no other job's object
+not_own : (row : Row) (beside : Beside) (contents : Contents) → IsShown row beside contents → (id : ObjectId) → (id.job.0 == row.job) ≡ false → (q : ObjectId) (k : Kept) → at row.copies q ≡ Some k → same_id q id ≡ false
+not_own row beside contents h id foreign q k found =
+    refuted (same_id q id) (λ same.
+    sym foreign ∙ eq-eqb id.job.0 row.job (sym (ap (λ (i : ObjectId). i.job.0) (same_id-equal q id same)) ∙ (h.kept.kept.shape.each q k.copy (at-copies_found row.copies q k found)).own))
+
+-- ---- Grant
+
+module _ (node : ℕ) (line : WorkLine) (hands : List Hand) (bytes : ObjectId → List ℕ) (row : Row) (contents : Contents) (session : ℕ) (id : ObjectId) (target : JobNo)
+    (h : IsShown row (beside_of line hands bytes row.job) contents) where
+  abbrev beside : Beside
+  beside = beside_of line hands bytes row.job
+
+  abbrev store : Shape
+  store = shape_of row beside
+
+  has : HasHands (lengths bytes) hands store
+  has = row_has_hands line hands bytes row
+
+  refuses : RefusesAlike hands store
+  refuses = refuses_alike (lengths bytes) hands store has
+
+  abbrev asks : Input
+  asks = input.Call session (command.Grant id target)
+
+  abbrev hand : HandGiven
+  hand = record { id = id; target = target.0; hangs_on = (new_hand hands id row.job target.0).hangs_on }
+
+  abbrev gave : Change
+  gave = gives store id target.0 hand.hangs_on
+
+  -- the table has this hand more
+  beside_granted : table_check hands row.job id target.0 ≡ None → record beside { given = store.given ++ hand ∷ [] } ≡ beside_of line (with_hand hands id row.job target.0) bytes row.job
+  beside_granted passed =
+      let now = (grants_alike (lengths bytes) hands row.job id target.0 passed).of_giver store refl has in
+      let received = taken_is (lengths bytes) (with_hand hands id row.job target.0) gave.shape now (true_T _ (taken_sorted (lengths bytes) (given_to row.job hands) [] tt)) in
+      λ i. record { works = beside.works; used = beside.used; given = now.given i; received = received i; bytes = bytes }
+
+  -- of other objects as many hands stand as before
+  others_granted : (q : ObjectId) → same_id q id ≡ false → has_hand (store.given ++ hand ∷ []) q ≡ has_hand store.given q
+  others_granted q apart = list_any-append (λ g. same_id q g.id) store.given (hand ∷ []) ∙ ap (λ b. has_hand store.given q || (b || false)) apart ∙ or_false (has_hand store.given q)
+
+  -- an own object
+  module _ (mine : (id.job.0 == row.job) ≡ true) where
+    abbrev limits : Option Refusal
+    limits = limits_check hands row.job id target.0 0
+
+    abbrev after_limits : Option Refusal → Option Refusal
+    after_limits o = cond (has_ended store id.task) (Some Gone) (elim (at row.copies id) [ None ↦ Some Absent | Some k ↦ grant_check_of k o ])
+
+    grant-by : grant store id target.0 ≡ unless_refused store (grant_check row id target.0 limits) gave
+    grant-by =
+        refuses.own id target.0 mine
+        ∙ first-check store (is_no_taker id row.job target.0) BadId _ _ _ gave
+        (first-check store (has_ended store id.task) Gone [] _ _ gave
+        (checked-nil store _ ∙ in_sight row beside id _ (λ k. cond (not (is_sealed_primary k.copy)) (Some NotResident) limits) gave (λ k found seen.
+        first-check store (not (is_sealed_primary k.copy)) NotResident [] _ limits gave (checked-nil store _))))
+
+    table_says : grant_check row id target.0 (table_check hands row.job id target.0) ≡ grant_check row id target.0 limits
+    table_says = by (is_no_taker id row.job target.0)
+      where
+        by : (b : Bool) → cond b (Some BadId) (after_limits (cond b (Some BadId) (cond (id.job.0 == row.job) limits (hung_check hands row.job id target.0 (ground hands id row.job)))))
+            ≡ cond b (Some BadId) (after_limits limits)
+        by true = refl
+        by false = ap (λ b. after_limits (cond b limits (hung_check hands row.job id target.0 (ground hands id row.job)))) mine
+
+    module _ (table : Option Refusal) (told : table ≡ table_check hands row.job id target.0) where
+      grant-is : (check : Option Refusal) → grant_check row id target.0 table ≡ check → change node row beside contents h asks ≡ erasing store (unless_refused store check gave)
+      grant-is check e =
+          called row beside session (command.Grant id target)
+          ∙ ap (erasing store) (grant-by ∙ ap (λ o. unless_refused store o gave) (sym table_says ∙ ap (grant_check row id target.0) (sym told) ∙ e))
+
+      pub grant_refused : (r : Refusal) → grant_check row id target.0 table ≡ Some r → TakesStep node row beside contents asks (only (reply.Refused r)) row
+          (beside_of line (hands_granted (grant_check row id target.0 table) hands id row.job target.0) bytes row.job)
+      grant_refused r e =
+          subst (λ o. TakesStep node row beside contents asks (only (reply.Refused r)) row (beside_of line (hands_granted o hands id row.job target.0) bytes row.job)) (sym e)
+          (stays node row beside contents h asks (reply.Refused r) (grant-is (Some r) e) refl refl refl)
+
+      pub grant_done : grant_check row id target.0 table ≡ None → TakesStep node row beside contents asks (only reply.Ok) (with_copy (marked true) row id)
+          (beside_of line (hands_granted (grant_check row id target.0 table) hands id row.job target.0) bytes row.job)
+      grant_done e =
+          let alive = past (has_ended store id.task) Gone _ (past (is_no_taker id row.job target.0) BadId _ e).1 in
+          let k = there (λ k. grant_check_of k table) Absent (at row.copies id) alive.1 in
+          let passed = (past (not (is_sealed_primary k.0.copy)) NotResident table (past k.0.copy.doomed Absent _ k.2).1).1 in
+          subst (λ o. TakesStep node row beside contents asks (only reply.Ok) (with_copy (marked true) row id) (beside_of line (hands_granted o hands id row.job target.0) bytes row.job)) (sym e)
+          (subst (λ b. TakesStep node row beside contents asks (only reply.Ok) (with_copy (marked true) row id) b) (beside_granted (sym told ∙ passed))
+          (marked_so node row beside contents h asks (record { bytes = refl; digest = refl; received = refl }) id k.0 k.1 true (store.given ++ hand ∷ [])
+          (sym (list_any-append (λ g. same_id id g.id) store.given (hand ∷ []) ∙ or_right (has_hand store.given id) (same_id id id || false) (or_left (same_id id id) false (same_id-itself id))))
+          others_granted (grant-is None e)))
+
+  -- another job's object
+  module _ (foreign : (id.job.0 == row.job) ≡ false) where
+    pub lend_refused : (r : Refusal) → table_check hands row.job id target.0 ≡ Some r → TakesStep node row beside contents asks (only (reply.Refused r)) row beside
+    lend_refused r e =
+        stays node row beside contents h asks (reply.Refused r)
+        (called row beside session (command.Grant id target) ∙ ap (erasing store) (refuses.foreign id target.0 foreign ∙ ap (λ o. unless_refused store o gave) e)) refl refl refl
+
+    pub lend_done : table_check hands row.job id target.0 ≡ None → TakesStep node row beside contents asks (only reply.Ok) row (beside_of line (with_hand hands id row.job target.0) bytes row.job)
+    lend_done e =
+        subst (λ b. TakesStep node row beside contents asks (only reply.Ok) row b) (beside_granted e)
+        (note_taken node row beside contents h asks (store.given ++ hand ∷ []) beside.received
+        (called row beside session (command.Grant id target) ∙ ap (erasing store) (refuses.foreign id target.0 foreign ∙ ap (λ o. unless_refused store o gave) e) ∙ none_erased row beside (store.given ++ hand ∷ [])) refl refl
+        (λ q k found. others_granted q (not_own row beside contents h id foreign q k found)) (received_stays node row beside contents h asks refl))
+
+-- ---- Withdraw
+
+module _ (node : ℕ) (line : WorkLine) (hands : List Hand) (bytes : ObjectId → List ℕ) (row : Row) (contents : Contents) (session : ℕ) (id : ObjectId) (target : JobNo)
+    (h : IsShown row (beside_of line hands bytes row.job) contents) where
+  abbrev beside_all : Beside
+  beside_all = beside_of line hands bytes row.job
+
+  abbrev whole : Shape
+  whole = shape_of row beside_all
+
+  abbrev ending : Input
+  ending = input.Call session (command.Withdraw id target)
+
+  abbrev test : Hand → Bool
+  test = is_withdrawn row.job id target.0
+
+  abbrev keeps : HandGiven → Bool
+  keeps hand = not (is_to id target.0 hand)
+
+  -- what the job gave without the hand
+  abbrev rest : List HandGiven
+  rest = map as_given (hands_given row.job (filter (λ hand. not (test hand)) hands))
+
+  rest-is : rest ≡ filter keeps whole.given
+  rest-is = sym (left_given row.job id target.0 hands)
+
+  beside_left : record beside_all { given = rest } ≡ beside_rest line test hands bytes row.job
+  beside_left = ap (λ hs. record beside_all { given = map as_given hs }) (filter_swap (is_given_by row.job) (λ hand. not (test hand)) hands)
+
+  others_left : (q : ObjectId) → same_id q id ≡ false → has_hand rest q ≡ has_hand whole.given q
+  others_left q apart =
+      ap (λ given. has_hand given q) rest-is
+      ∙ any-filter (λ hand. same_id q hand.id) keeps whole.given (λ hand same. ap (λ b. not (b && hand.target == target.0)) (not_it hand same))
+    where
+      not_it : (hand : HandGiven) → same_id q hand.id ≡ true → same_id id hand.id ≡ false
+      not_it hand same = refuted (same_id id hand.id) (λ its. sym apart ∙ ap (same_id q) (same_id-equal id hand.id its) ∙ same)
+
+  withdraw-is : (check : Option Refusal) → withdraw_check hands row.job id target.0 ≡ check
+      → change node row beside_all contents h ending ≡ erasing whole (unless_refused whole check (done (settled (shape_of row (record beside_all { given = rest })) id)))
+  withdraw-is check e =
+      called row beside_all session (command.Withdraw id target)
+      ∙ ap (erasing whole) ((refuses_alike (lengths bytes) hands whole (row_has_hands line hands bytes row)).withdrawal id target.0
+      ∙ ap (λ o. unless_refused whole o (done (settled (shape_of row (record beside_all { given = rest })) id))) e)
+
+  pub withdraw_refused : (r : Refusal) → withdraw_check hands row.job id target.0 ≡ Some r → TakesStep node row beside_all contents ending (only (reply.Refused r)) row beside_all
+  withdraw_refused r e = stays node row beside_all contents h ending (reply.Refused r) (withdraw-is (Some r) e) refl refl refl
+
+  -- another job's object has no copy here
+  pub give_back_done : (id.job.0 == row.job) ≡ false → withdraw_check hands row.job id target.0 ≡ None → TakesStep node row beside_all contents ending (only reply.Ok) row (beside_rest line test hands bytes row.job)
+  give_back_done foreign e =
+      subst (λ b. TakesStep node row beside_all contents ending (only reply.Ok) row b) beside_left
+      (note_taken node row beside_all contents h ending rest beside_all.received
+      (withdraw-is None e ∙ ap (λ s. erasing whole (done s)) (settled_elsewhere (at row.copies id) refl) ∙ none_erased row beside_all rest) refl refl
+      (λ q k found. others_left q (not_own row beside_all contents h id foreign q k found)) (received_stays node row beside_all contents h ending refl))
+    where
+      settled_elsewhere : (o : Option Kept) → at row.copies id ≡ o → settled (shape_of row (record beside_all { given = rest })) id ≡ shape_of row (record beside_all { given = rest })
+      settled_elsewhere None none =
+          let s = shape_of row (record beside_all { given = rest }) in
+          ap (λ o. option_map_or (λ (copy : Copy). cond (copy.doomed && is_idle s id copy) (drop_copy s id) s) o s) (at-copies_none row.copies id none)
+      settled_elsewhere (Some k) found = true_false (sym (not_own row beside_all contents h id foreign id k found) ∙ same_id-itself id)
+
+  -- an own one has one, since a hand of it stands
+  module _ (mine : (id.job.0 == row.job) ≡ true) (stands : withdraw_check hands row.job id target.0 ≡ None) where
+    was_given : has_hand whole.given id ≡ true
+    was_given = some_hand whole.given (any_given row.job id target.0 hands ∙ stood (list_any test hands) stands)
+      where
+        stood : (b : Bool) → ◌≡◌ {A = Option Refusal} (cond b None (Some NotGranted)) None → b ≡ true
+        stood true e = refl
+        stood false e = absurd cc
+
+        some_hand : (given : List HandGiven) → list_any (is_to id target.0) given ≡ true → has_hand given id ≡ true
+        some_hand [] = λ e. true_false e
+        some_hand (hand ∷ given) = λ e. elim (or_cases (is_to id target.0 hand) (list_any (is_to id target.0) given) e) [
+          | inl its ↦ or_left (same_id id hand.id) (has_hand given id) (both_left (same_id id hand.id) (hand.target == target.0) its)
+          | inr later ↦ or_right (same_id id hand.id) (has_hand given id) (some_hand given later)
+        ]
+
+    there_is : (k : Kept) × (at row.copies id ≡ Some k)
+    there_is = by (at row.copies id) refl
+      where
+        by : (o : Option Kept) → at row.copies id ≡ o → (k : Kept) × (at row.copies id ≡ Some k)
+        by (Some k) found = (k, found)
+        by None none = true_false (sym (h.kept.kept.shape.hands_of_copies id (numbers_equal id.job.0 row.job mine) (at-copies_none row.copies id none)) ∙ was_given)
+
+    its : AreHands hands → has_hand rest id ≡ list_any (is_first id) (hands_left test hands)
+    its are =
+        let swapped = filter_swap (is_given_by row.job) (λ hand. not (test hand)) hands in
+        ap (λ hs. has_hand (map as_given hs) id) swapped
+        ∙ first_left hands bytes test are row.job id mine
+        (ap (list_all (is_well_hung row.job)) (ap (map as_given) (sym swapped) ∙ rest-is) ∙ all-filter (is_well_hung row.job) keeps whole.given h.kept.kept.shape.own_hands)
+
+    pub withdraw_done : AreHands hands → (granted : Bool) → granted ≡ list_any (is_first id) (hands_left test hands)
+        → ArePlaced (with_copy (marked granted) row id).window.placed (place_of (with_copy (marked granted) row id).copies)
+        → TakesStep node row beside_all contents ending (record { reply = reply.Ok; posts = []; erased = keys_settled (with_copy (marked granted) row id) id }) (settled_row (with_copy (marked granted) row id) id)
+        (beside_rest line test hands bytes row.job)
+    withdraw_done are granted says placed =
+        subst (λ b. TakesStep node row beside_all contents ending (record { reply = reply.Ok; posts = []; erased = keys_settled (with_copy (marked granted) row id) id }) (settled_row (with_copy (marked granted) row id) id) b) beside_left
+        (settles_marked node row beside_all contents h ending (record { bytes = refl; digest = refl; received = refl }) id there_is.0 there_is.1 granted rest
+        (says ∙ sym (its are)) others_left (withdraw-is None stands) placed)

@@ -1,0 +1,110 @@
+-- A row takes Peek: the bytes of what others granted.
+use Rattle.std.proofs.Common.{◌≡◌, ℕ, ◌==◌, ◌+◌, nat_lt, Bool, true, false, not, cond, ◌||◌, List, [], ◌∷◌, map, filter, length, take, drop, Option, Some, None, is_some, unwrap_or, refl, ap, subst, ◌∙◌}
+use Rattle.std.specs.Option.{option_map_or}
+use Rattle.std.specs.List.{list_any}
+use Rattle.obj_id.specs.declared.ids.ObjectId.{ObjectId}
+use Rattle.obj_id.specs.declared.refusals.Refusal.{Refusal}
+use Rattle.obj_id.specs.declared.refusals.Refusal.TheVariants.{NotGranted, BadSize, OutOfBounds}
+use Rattle.obj_id.specs.declared.commands.Command.TheVariants as command
+use Rattle.obj_id.specs.declared.commands.Reply.{Reply}
+use Rattle.obj_id.specs.declared.commands.Reply.TheVariants as reply
+use Rattle.private_store.specs.declared.inputs.Input.{Input}
+use Rattle.private_store.specs.declared.inputs.Input.TheVariants as input
+use Rattle.private_store.specs.Limits.{most_bytes}
+use Rattle.private_store.specs.Tables.{at}
+use Rattle.private_store.specs.Shape.{Shape, Change, Seen}
+use Rattle.private_store.specs.Change.{replied, refused, checked, erasing}
+use Rattle.private_store.specs.Commands.{peek}
+use Rattle.private_store.specs.Contents.{Contents, bytes_at, whole_reply}
+use Rattle.private_store.specs.Hands.{Hand}
+use Rattle.private_store.proofs.Checks.{checked-nil}
+use Rattle.private_store.proofs.Tests.{true_false}
+use Rattle.grants.specs.Table.{shows}
+use Rattle.grants.specs.Private.{as_taken, seen_by}
+use Rattle.spill_work.specs.Line.{WorkLine}
+use Rattle.node_table.specs.Granting.{peek_check, peek_reply}
+use Rattle.node_table.specs.Row.{Row, Beside, beside_of, shape_of}
+use Rattle.node_table.specs.Shown.{seen, IsShown, only, TakesStep}
+use Rattle.node_table.proofs.ByChecks.{unless_refused, first-check, needing-by, called}
+use Rattle.node_table.proofs.Notes.{row_has_hands}
+use Rattle.node_table.proofs.Passed.{past, not_not}
+use Rattle.node_table.proofs.Received.{filled_at}
+use Rattle.node_table.proofs.Stepping.{change, stays}
+
+-- what is done with an object that is seen, by whether there is a hand of it
+seen_if : (s : Shape) (n : ℕ) (f : Seen → Change) (rest : Option Refusal) (d : Change) → ((seen : Seen) → seen.length ≡ n → f seen ≡ unless_refused s rest d) → (test : Hand → Bool) (hands : List Hand)
+    → option_map_or f (seen_by n (map as_taken (filter test hands))) (refused s NotGranted) ≡ unless_refused s (cond (not (list_any test hands)) (Some NotGranted) rest) d
+seen_if s n f rest d each test [] = refl
+seen_if s n f rest d each test (hand ∷ hands) =
+    elim (test hand) as (λ b. option_map_or f (seen_by n (map as_taken (cond b (hand ∷ filter test hands) (filter test hands)))) (refused s NotGranted)
+    ≡ unless_refused s (cond (not (b || list_any test hands)) (Some NotGranted) rest) d) [
+      | true ↦ each (record { length = n; hands = as_taken hand ∷ map as_taken (filter test hands) }) refl
+      | false ↦ seen_if s n f rest d each test hands
+    ]
+
+some_seen : (n : ℕ) (test : Hand → Bool) (hands : List Hand) → list_any test hands ≡ true → is_some (seen_by n (map as_taken (filter test hands))) ≡ true
+some_seen n test [] = λ e. true_false e
+some_seen n test (hand ∷ hands) =
+    elim (test hand) as (λ b. (b || list_any test hands) ≡ true → is_some (seen_by n (map as_taken (cond b (hand ∷ filter test hands) (filter test hands)))) ≡ true) [
+      | true ↦ λ e. refl
+      | false ↦ λ e. some_seen n test hands e
+    ]
+
+module _ (node : ℕ) (line : WorkLine) (hands : List Hand) (bytes : ObjectId → List ℕ) (row : Row) (contents : Contents) (session : ℕ) (id : ObjectId) (offset n : ℕ)
+    (h : IsShown row (beside_of line hands bytes row.job) contents) where
+  abbrev beside : Beside
+  beside = beside_of line hands bytes row.job
+
+  abbrev s : Shape
+  s = shape_of row beside
+
+  abbrev x : Input
+  x = input.Call session (command.Peek id offset n)
+
+  abbrev check : Option Refusal
+  check = peek_check hands row.job id (length (bytes id)) offset n
+
+  abbrev whole : Option Refusal
+  whole = cond (nat_lt most_bytes n) (Some BadSize) (cond (nat_lt (length (bytes id)) (offset + n)) (Some OutOfBounds) None)
+
+  abbrev looked : Seen → Change
+  looked seen = checked s ((nat_lt most_bytes n, BadSize) ∷ (nat_lt seen.length (offset + n), OutOfBounds) ∷ []) (replied s (reply.Bytes n))
+
+  looked-by : (seen : Seen) → seen.length ≡ length (bytes id) → looked seen ≡ unless_refused s whole (replied s (reply.Bytes n))
+  looked-by seen same =
+      ap (λ m. checked s ((nat_lt most_bytes n, BadSize) ∷ (nat_lt m (offset + n), OutOfBounds) ∷ []) (replied s (reply.Bytes n))) same
+      ∙ first-check s (nat_lt most_bytes n) BadSize _ _ _ (replied s (reply.Bytes n))
+      (first-check s (nat_lt (length (bytes id)) (offset + n)) OutOfBounds [] _ None (replied s (reply.Bytes n)) (checked-nil s (replied s (reply.Bytes n))))
+
+  peek-by : peek s id offset n ≡ unless_refused s check (replied s (reply.Bytes n))
+  peek-by =
+      first-check s (id.job.0 == row.job) NotGranted [] _ _ (replied s (reply.Bytes n))
+      (checked-nil s _ ∙ needing-by s (at s.received id) NotGranted looked
+      ∙ ap (λ o. option_map_or looked o (refused s NotGranted)) ((row_has_hands line hands bytes row).taken id)
+      ∙ seen_if s (length (bytes id)) looked whole (replied s (reply.Bytes n)) looked-by (shows id row.job) hands)
+
+  abbrev brief : Option Refusal → Reply ℕ
+  brief o = option_map_or reply.Refused o (reply.Bytes n)
+
+  as_replied : (o : Option Refusal) → unless_refused s o (replied s (reply.Bytes n)) ≡ replied s (brief o)
+  as_replied None = refl
+  as_replied (Some r) = refl
+
+  peek-is : change node row beside contents h x ≡ erasing s (replied s (brief check))
+  peek-is = called row beside session (command.Peek id offset n) ∙ ap (erasing s) (peek-by ∙ as_replied check)
+
+  -- what is seen has its bytes
+  bytes_seen : list_any (shows id row.job) hands ≡ true → bytes_at contents.received id ≡ bytes id
+  bytes_seen sees =
+      ap (λ t. bytes_at t id) h.received
+      ∙ ap (λ o. unwrap_or o []) (filled_at bytes beside.received id (ap is_some ((row_has_hands line hands bytes row).taken id) ∙ some_seen (length (bytes id)) (shows id row.job) hands sees))
+
+  told : (o : Option Refusal) → check ≡ o → whole_reply (seen row beside contents) x (brief o) ≡ option_map_or reply.Refused o (reply.Bytes (take n (drop offset (bytes id))))
+  told (Some r) e = refl
+  told None e =
+      let foreign = past (id.job.0 == row.job) NotGranted _ e in
+      let sees = past (not (list_any (shows id row.job) hands)) NotGranted whole foreign.1 in
+      ap (λ bs. reply.Bytes (take n (drop offset bs))) (bytes_seen (not_not (list_any (shows id row.job) hands) sees.0))
+
+  pub peeks : TakesStep node row beside contents x (only (peek_reply hands row.job id (bytes id) offset n)) row beside
+  peeks = subst (λ r. TakesStep node row beside contents x (only r) row beside) (told check refl) (stays node row beside contents h x (brief check) peek-is refl refl refl)

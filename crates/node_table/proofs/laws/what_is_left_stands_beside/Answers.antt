@@ -1,0 +1,13 @@
+use Rattle.std.specs.Prelude.{[]}
+use Rattle.private_store.specs.Shape.{live}
+use Rattle.node_table.proofs.Notes.{row_ends, bare_ends, none_given}
+use Rattle.node_table.proofs.laws.what_is_left_stands_beside.Goals as goal
+
+pub returns-clause-row : goal.returns-clause-row
+returns-clause-row c hands bytes test are node line row view h = row_ends hands bytes test are node line row view h
+
+pub returns-clause-bare : goal.returns-clause-bare
+returns-clause-bare c hands bytes test are node job life none = bare_ends hands bytes test are node job life none
+
+pub returns-clause-none : goal.returns-clause-none
+returns-clause-none c hands test are job none = none_given hands (λ id. []) test are 0 job live none

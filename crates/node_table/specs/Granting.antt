@@ -1,0 +1,59 @@
+-- The commands of hands: why a Grant and a Peek are refused, and what they give.
+use Rattle.std.specs.Prelude.{ℕ, ◌+◌, ◌==◌, nat_lt, not, List, [], length, take, drop, if◌then◌else◌, Option, Some, None}
+use Rattle.std.specs.Option.{option_map_or}
+use Rattle.std.specs.List.{list_any}
+use Rattle.obj_id.specs.declared.ids.ObjectId.{ObjectId}
+use Rattle.obj_id.specs.declared.commands.Reply.{Reply}
+use Rattle.obj_id.specs.declared.commands.Reply.TheVariants as reply
+use Rattle.obj_id.specs.declared.refusals.Refusal.{Refusal}
+use Rattle.obj_id.specs.declared.refusals.Refusal.TheVariants.{BadId, Absent, BadSize, OutOfBounds, NotGranted, Gone, NotResident}
+use Rattle.private_store.specs.Limits.{most_bytes}
+use Rattle.private_store.specs.Tables.{at}
+use Rattle.private_store.specs.Copies.{extent_of}
+use Rattle.private_store.specs.Commands.{is_sealed_primary}
+use Rattle.private_store.specs.Hands.{Hand, with_hand}
+use Rattle.private_store.specs.Kept.{is_remembered}
+use Rattle.grants.specs.Table.{shows, is_no_taker}
+use Rattle.job_region.specs.Region.{bytes_at as placed_bytes}
+use Rattle.node_table.specs.Kept.{Kept}
+use Rattle.node_table.specs.Row.{Row}
+
+-- of a copy that is there, where this is what the table of hands says
+abbrev pub grant_check_of : Kept → Option Refusal → Option Refusal
+grant_check_of kept table =
+    if kept.copy.doomed then Some Absent else
+    (if not (is_sealed_primary kept.copy) then Some NotResident else table)
+
+-- why the job's own object can't be granted
+abbrev pub grant_check : Row → ObjectId → ℕ → Option Refusal → Option Refusal
+grant_check row id target table =
+    if is_no_taker id row.job target then Some BadId else
+    (if is_remembered row.ended_tasks id.task then Some Gone else
+    elim (at row.copies id) [ None ↦ Some Absent | Some kept ↦ grant_check_of kept table ])
+
+-- the standing hands after a grant that is refused, or isn't
+abbrev pub hands_granted : Option Refusal → List Hand → ObjectId → ℕ → ℕ → List Hand
+hands_granted check hands id giver taker = option_map_or (λ refusal. hands) check (with_hand hands id giver taker)
+
+-- why the job can't peek at so many bytes of an object of this length
+abbrev pub peek_check : List Hand → ℕ → ObjectId → ℕ → ℕ → ℕ → Option Refusal
+peek_check hands job id whole offset n =
+    if id.job.0 == job then Some NotGranted else
+    (if not (list_any (shows id job) hands) then Some NotGranted else
+    (if nat_lt most_bytes n then Some BadSize else
+    (if nat_lt whole (offset + n) then Some OutOfBounds else None)))
+
+-- what it is told, where these are the object's bytes
+abbrev pub peek_reply : List Hand → ℕ → ObjectId → List ℕ → ℕ → ℕ → Reply (List ℕ)
+peek_reply hands job id bytes offset n =
+    option_map_or reply.Refused (peek_check hands job id (length bytes) offset n) (reply.Bytes (take n (drop offset bytes)))
+
+-- ---- what is lent to those who were granted it
+
+-- of a copy, the bytes that lie in the row's window
+abbrev pub kept_bytes : Row → Kept → List ℕ
+kept_bytes row kept = option_map_or (λ e. take kept.copy.length (placed_bytes e row.window.placed)) (extent_of kept.copy) []
+
+-- of an object, by the row of its own job
+abbrev pub row_bytes : Row → ObjectId → List ℕ
+row_bytes row id = option_map_or (kept_bytes row) (at row.copies id) []

@@ -1,0 +1,115 @@
+//! The commands of hands: Grant and Withdraw of the job's own objects, and the bytes that are lent to those who were
+//! granted one.
+ghost use Rattle.std.specs.Prelude.{◌≡◌, ◌==◌, ℕ, List, [], true, None, IfSome, IfNone, length};
+ghost use Rattle.std.specs.List.{list_any};
+ghost use Rattle.std.specs.Option.{option_map_or};
+ghost use Rattle.obj_id.specs.declared.ids.ObjectId.{ObjectId};
+ghost use Rattle.obj_id.specs.declared.commands.Command.TheVariants as command;
+ghost use Rattle.obj_id.specs.declared.commands.Reply.TheVariants as reply;
+ghost use Rattle.private_store.specs.declared.inputs.Input.TheVariants as input;
+ghost use Rattle.private_store.specs.Contents.{Contents};
+ghost use Rattle.private_store.specs.Hands.{Hand, hands_left, is_withdrawn};
+ghost use Rattle.grants.specs.Table.{AreHands, is_first, grant_check as table_check, withdraw_check};
+ghost use Rattle.spill_work.specs.Line.{WorkLine};
+ghost use Rattle.node_table.specs.Granting.{grant_check as grant_check_lem, hands_granted, row_bytes};
+ghost use Rattle.node_table.specs.Notes.{beside_rest};
+ghost use Rattle.node_table.specs.Outcomes.{given_of};
+ghost use Rattle.node_table.specs.Row.{beside_of};
+ghost use Rattle.node_table.specs.Shown.{IsShown, TakesStep};
+
+use crate::outcome::Outcome;
+use crate::row::JobRow;
+use obj_id::{Items, JobNo, ObjectId, Refusal, Reply};
+use std::alloc::Global;
+
+impl JobRow {
+    /// Why the job's own object can't be granted to the target, where this is what the table of hands says: `BadId`,
+    /// `Gone` if the object's task has ended, `Absent`, `NotResident` unless it is a sealed primary, or that.
+    pub fn grant_check(
+        &self,
+        id: &ObjectId,
+        target: JobNo,
+        table: Option<Refusal>,
+    ) -> Option<Refusal>
+        ensures { result ≡ grant_check_lem self.now id.now target.0 table }
+    {
+        if target.0 == 0 || target.0 == self.job().0 || target.0 == id.job().0 {
+            return Some(Refusal::BadId);
+        }
+        if self.has_ended(id.task()) {
+            return Some(Refusal::Gone);
+        }
+        match self.copies().get(id) {
+            None => Some(Refusal::Absent),
+            Some(copy) => copy.grant_check(table),
+        }
+    }
+
+    /// Grant of the job's own object, where this is what the table of hands says of it: the copy stays in memory from
+    /// now on, and the step is whole once the table has the hand. Refused as `grant_check` says, and then nothing has
+    /// changed. Takes no memory.
+    pub fn grant(
+        &mut self,
+        alloc: Global,
+        session: u32,
+        id: &ObjectId,
+        target: JobNo,
+        table: Option<Refusal>,
+    ) -> Outcome
+        ensures step { (node : ℕ) (line : WorkLine) (hands : List Hand) (bytes : ObjectId → List ℕ) (contents : Contents) → (id.now.job.0 == self.old.job) ≡ true
+            → table ≡ table_check hands self.old.job id.now target.0 → IsShown self.old (beside_of line hands bytes self.old.job) contents
+            → TakesStep node self.old (beside_of line hands bytes self.old.job) contents (input.Call session (command.Grant id.now target)) (given_of result) self.new
+            (beside_of line (hands_granted (grant_check_lem self.old id.now target.0 table) hands id.now self.old.job target.0) bytes self.old.job) }
+        ensures reply { result.reply ≡ option_map_or reply.Refused (grant_check_lem self.old id.now target.0 table) reply.Ok }
+        ensures silent { result.messages ≡ [] }
+    {
+        if let Some(refusal) = self.grant_check(id, target, table) {
+            return Outcome::only(alloc, Reply::Refused(refusal));
+        }
+        self.mark_granted(id, true);
+        Outcome::only(alloc, Reply::Ok)
+    }
+
+    /// Withdraw of the job's own object, where a hand of it to the target stood, and hands of it from the job are left
+    /// or none: a doomed copy that nothing else keeps is removed. Takes no memory.
+    pub fn withdraw(
+        &mut self,
+        alloc: Global,
+        session: u32,
+        id: &ObjectId,
+        target: JobNo,
+        granted: bool,
+    ) -> Outcome
+        ensures step { (node : ℕ) (line : WorkLine) (hands : List Hand) (bytes : ObjectId → List ℕ) (contents : Contents) → AreHands hands → (id.now.job.0 == self.old.job) ≡ true
+            → withdraw_check hands self.old.job id.now target.0 ≡ None → granted ≡ list_any (is_first id.now) (hands_left (is_withdrawn self.old.job id.now target.0) hands)
+            → IsShown self.old (beside_of line hands bytes self.old.job) contents
+            → TakesStep node self.old (beside_of line hands bytes self.old.job) contents (input.Call session (command.Withdraw id.now target)) (given_of result) self.new
+            (beside_rest line (is_withdrawn self.old.job id.now target.0) hands bytes self.old.job) }
+        ensures silent { result.messages ≡ [] }
+    {
+        self.mark_granted(id, granted);
+        self.settle_after(id, Items::new(alloc))
+    }
+
+    /// The bytes of an object that the job granted, all of them, lent without a copy; none where it has no place.
+    pub fn lend_granted(&self, id: &ObjectId) -> Option<&[u8]>
+        ensures some { IfSome result (λ bytes. bytes.now ≡ row_bytes self.now id.now) }
+        ensures none { IfNone result (row_bytes self.now id.now ≡ []) }
+    {
+        self.place(id)?;
+        Some(self.bytes(id))
+    }
+
+    /// The length of an object that the job granted; 0 where it has no place.
+    pub fn granted_length(&self, id: &ObjectId) -> u32
+        ensures { result ≡ length (row_bytes self.now id.now) }
+    {
+        let Some(copy) = self.copies().get(id) else {
+            return 0;
+        };
+        let Some(bytes) = self.lend_granted(id) else {
+            return 0;
+        };
+        bytes.len().min(copy.length() as usize) as u32
+    }
+}
