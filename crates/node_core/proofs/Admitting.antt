@@ -8,6 +8,7 @@ use Rattle.std.proofs.lemmas.Bool.{eqb-true}
 use Rattle.std.proofs.lemmas.Bool.Decides.{nat_tests}
 use Rattle.std.proofs.lemmas.List.Folds.{list_all-append}
 use Rattle.obj_id.specs.declared.ids.JobNo.{JobNo}
+use Rattle.obj_id.specs.declared.ids.ObjectId.{ObjectId}
 use Rattle.obj_id.specs.declared.works.JobKey.{JobKey}
 use Rattle.obj_id.specs.declared.works.Quota.{Quota}
 use Rattle.obj_id.specs.declared.commands.Reply.TheVariants as reply
@@ -18,26 +19,31 @@ use Rattle.private_store.specs.declared.inputs.Judged.TheVariants as judged
 use Rattle.private_store.specs.declared.schedules.Event.TheVariants as event
 use Rattle.private_store.specs.Jobs.{same_job}
 use Rattle.private_store.specs.Limits.{is_quota, most_live_jobs}
-use Rattle.private_store.specs.Shape.{WorkInFlight, live, not_begun, unbegun}
+use Rattle.private_store.specs.Shape.{WorkInFlight, HandGiven, live, not_begun}
 use Rattle.private_store.specs.Change.{done}
 use Rattle.private_store.specs.Step.{step}
-use Rattle.private_store.specs.Contents.{View, judge}
+use Rattle.private_store.specs.Contents.{Contents, View, judge}
+use Rattle.private_store.specs.Hands.{Hand}
 use Rattle.private_store.specs.Private.{view_step, outcome, no_contents}
 use Rattle.private_store.specs.Shared.{admitted as window_admitted}
 use Rattle.private_store.specs.Kept.{IsViewKept}
 use Rattle.private_store.proofs.Checks.{checked-nil, checked-false}
 use Rattle.private_store.proofs.StepsKept.{view_keeps, no_store_kept}
 use Rattle.private_store.proofs.Tests.{both, both_left, both_right, none_some}
-use Rattle.spill_work.specs.Line.{WorkLine, works_of, used_by}
+use Rattle.spill_work.specs.Line.{WorkLine}
 use Rattle.job_admission.specs.declared.Live.{Live}
 use Rattle.job_admission.specs.Admissions.{Admissions, admit_check, admitted, place_for, lives_of}
 use Rattle.job_admission.proofs.AllKept.{admit_passed}
-use Rattle.node_table.specs.Row.{Row, new_row}
+use Rattle.node_table.specs.Granting.{row_bytes}
+use Rattle.node_table.specs.Row.{Row, Beside, new_row, beside_of, received_bytes}
 use Rattle.node_table.specs.Shown.{seen, only, IsShown}
-use Rattle.node_core.specs.Hosted.{Hosted, AreHosted, IsRowView, IsBare, IsViewBy, Shows, bare, alone}
+use Rattle.node_table.proofs.Besides.{IsAlike, alike_bytes, granted_length}
+use Rattle.node_table.proofs.Received.{kept_as_they_are}
+use Rattle.node_core.specs.Hosted.{Hosted, AreHosted, IsRowView, IsBare, IsViewBy, Shows, bare, bytes_here, beside_at}
 use Rattle.node_core.specs.Steps.{answered}
 use Rattle.node_core.specs.OneJob.{IsStepOf, StepsOne}
-use Rattle.node_core.proofs.Views.{itself, another}
+use Rattle.node_core.proofs.Others.{other_view}
+use Rattle.node_core.proofs.Views.{itself, another, node_of}
 
 -- ---- the numbers
 
@@ -75,25 +81,67 @@ placed a job quota h = by (job.0 == 0) (is_quota quota) (nat_le job.0 a.greatest
 
 -- ---- the new job's row
 
-module _ (number : ℕ) (line : WorkLine) (job : JobNo) (quota : Quota) (good : is_quota quota ≡ true) where
+-- a job without a row has nothing here
+absent_bytes : (rows : List (JobNo × Row)) (id : ObjectId) → lookup (same_job id.job) rows ≡ None → bytes_here rows id ≡ []
+absent_bytes rows id none = ap (λ o. option_map_or (λ row. row_bytes row id) o []) none
+
+-- a store that isn't live keeps the invariants of every store
+bare_kept : (line : WorkLine) (hands : List Hand) (bytes : ObjectId → List ℕ) (job : ℕ) → IsViewKept (bare job not_begun (beside_of line hands bytes job))
+bare_kept line hands bytes job =
+    let k = (no_store_kept job).kept in
+    record {
+      order = (no_store_kept job).order;
+      kept = record {
+        shape = record {
+          dead = k.shape.dead;
+          quota = k.shape.quota;
+          by_id = k.shape.by_id;
+          each = k.shape.each;
+          works_of_copies = k.shape.works_of_copies;
+          one_work = k.shape.one_work;
+          numbers_used = k.shape.numbers_used;
+          one_number = k.shape.one_number;
+          numbers_end = k.shape.numbers_end;
+          hands_of_copies = k.shape.hands_of_copies;
+          own_hands = k.shape.own_hands;
+          most_copies = k.shape.most_copies;
+          most_works = k.shape.most_works;
+          most_hands = k.shape.most_hands;
+          most_ended = k.shape.most_ended;
+        };
+        extents = record { placed = k.extents.placed; apart = k.extents.apart };
+        device = k.device;
+        filled = record { each = λ id copy found. none_some copy found; resident = k.filled.resident; received = granted_length bytes hands job };
+      };
+    }
+
+module _ (number : ℕ) (line : WorkLine) (hands : List Hand) (bytes : ObjectId → List ℕ) (job : JobNo) (quota : Quota) (good : is_quota quota ≡ true) where
+  abbrev beside : Beside
+  beside = beside_of line hands bytes job.0
+
   abbrev fresh_view : View
-  fresh_view = bare job.0 not_begun
+  fresh_view = bare job.0 not_begun beside
 
   abbrev pub x : Input
   x = input.Begin quota
 
-  -- a store that has begun, with these works
-  abbrev begun : List WorkInFlight → ℕ → View
-  begun works used = record { shape = record (unbegun job.0) { life = live; quota = quota; works = works; works_asked = used }; order = []; contents = no_contents }
+  abbrev filled : Contents
+  filled = record no_contents { received = received_bytes beside }
 
-  begins : step [] (unbegun job.0) (judged.Begin quota) ≡ done (record (unbegun job.0) { life = live; quota = quota })
-  begins = checked-false (unbegun job.0) (not (is_quota quota)) BadSize [] _ (ap not good) ∙ checked-nil (unbegun job.0) _
+  -- a store that has begun, with these works and gifts
+  abbrev begun : List WorkInFlight → ℕ → List HandGiven → View
+  begun works used given = record { shape = record fresh_view.shape { life = live; quota = quota; works = works; works_asked = used; given = given }; order = []; contents = filled }
 
-  begin_step : view_step number fresh_view x ≡ outcome number fresh_view x (judge number fresh_view x) (done (record (unbegun job.0) { life = live; quota = quota }))
+  begins : step [] fresh_view.shape (judged.Begin quota) ≡ done (record fresh_view.shape { life = live; quota = quota })
+  begins = checked-false fresh_view.shape (not (is_quota quota)) BadSize [] _ (ap not good) ∙ checked-nil fresh_view.shape _
+
+  begin_step : view_step number fresh_view x ≡ outcome number fresh_view x (judge number fresh_view x) (done (record fresh_view.shape { life = live; quota = quota }))
   begin_step = ap (outcome number fresh_view x (judge number fresh_view x)) begins
 
-  begin_view : (view_step number fresh_view x).view ≡ begun [] 0
-  begin_view = ap (λ o. o.view) begin_step
+  begin_view : (view_step number fresh_view x).view ≡ begun [] 0 []
+  begin_view =
+      ap (λ o. o.view) begin_step
+      ∙ ap (λ t. record { shape = record fresh_view.shape { life = live; quota = quota }; order = []; contents = record no_contents { received = t } }) (kept_as_they_are bytes beside.received)
 
   begin_told : IsStepOf number fresh_view x (only reply.Ok)
   begin_told = record {
@@ -102,13 +150,13 @@ module _ (number : ℕ) (line : WorkLine) (job : JobNo) (quota : Quota) (good : 
     erased = sym (ap (λ o. o.erased) begin_step);
   }
 
-  module _ (works : works_of line job ≡ []) (used : used_by line job ≡ 0) where
-    row_shows : begun [] 0 ≡ seen (new_row job.0 quota) (alone line job.0) no_contents
-    row_shows = ap (λ w. begun w 0) (sym works) ∙ ap (begun (works_of line job)) (sym used)
+  module _ (works : beside.works ≡ []) (used : beside.used ≡ 0) (given : beside.given ≡ []) where
+    row_shows : begun [] 0 [] ≡ seen (new_row job.0 quota) beside filled
+    row_shows = ap (λ w. begun w 0 []) (sym works) ∙ ap (λ n. begun beside.works n []) (sym used) ∙ ap (begun beside.works beside.used) (sym given)
 
-    new_shown : IsShown (new_row job.0 quota) (alone line job.0) no_contents
+    new_shown : IsShown (new_row job.0 quota) beside filled
     new_shown = record {
-      kept = subst IsViewKept (begin_view ∙ row_shows) (view_keeps number fresh_view x (no_store_kept job.0));
+      kept = subst IsViewKept (begin_view ∙ row_shows) (view_keeps number fresh_view x (bare_kept line hands bytes job.0));
       there = refl;
       listed = λ id k found. cc;
       bytes = λ id k e found lies. cc;
@@ -118,8 +166,8 @@ module _ (number : ℕ) (line : WorkLine) (job : JobNo) (quota : Quota) (good : 
       received = refl;
     }
 
-    new_row_view : IsRowView (new_row job.0 quota) line job.0 (view_step number fresh_view x).view
-    new_row_view = subst (IsRowView (new_row job.0 quota) line job.0) (sym begin_view) (record {
+    new_row_view : IsRowView (new_row job.0 quota) beside job.0 (view_step number fresh_view x).view
+    new_row_view = subst (IsRowView (new_row job.0 quota) beside job.0) (sym begin_view) (record {
       own = refl;
       shape = ap (λ v. v.shape) row_shows;
       order = refl;
@@ -129,18 +177,19 @@ module _ (number : ℕ) (line : WorkLine) (job : JobNo) (quota : Quota) (good : 
 -- ---- the step
 
 -- what a greater number admitted leaves of another job's view
-raised_view : (low high : ℕ) (line : WorkLine) (q : ℕ) (view : View) (o : Option Row) → low < high → IsViewBy low line q view o → IsViewBy high line q view o
-raised_view low high line q view (Some row) lt h = h
-raised_view low high line q view None lt h = record {
+raised_view : (low high : ℕ) (beside : Beside) (q : ℕ) (view : View) (o : Option Row) → low < high → IsViewBy low beside q view o → IsViewBy high beside q view o
+raised_view low high beside q view (Some row) lt h = h
+raised_view low high beside q view None lt h = record {
   life = h.life;
   is = h.is;
   dead = h.dead;
   fresh = λ above. h.fresh (omega (arith, lt, above));
   works = h.works;
   used = h.used;
+  given = h.given;
 }
 
-module _ (number : ℕ) (a b : Admissions) (line : WorkLine) (job : JobNo) (quota : Quota) (key : JobKey)
+module _ (number : ℕ) (a b : Admissions) (line : WorkLine) (hands : List Hand) (job : JobNo) (quota : Quota) (key : JobKey)
     (old new : List (JobNo × Row)) (kept : AreHosted a old) (passed : admit_check a job quota ≡ None) (is : b ≡ admitted a job quota key) where
   above : a.greatest < job.0
   above = (admit_passed a job quota passed).2
@@ -169,36 +218,53 @@ module _ (number : ℕ) (a b : Admissions) (line : WorkLine) (job : JobNo) (quot
   module _ (updated : (q : JobNo) → lookup (same_job q) new ≡ cond (same_job job q) (Some (new_row job.0 quota)) (lookup (same_job q) old))
       (lives : lives_of b.live ≡ window_admitted a.memory job.0 quota.window (lives_of a.live)) where
     abbrev before : Hosted
-    before = record { number = number; admissions = a; works = line; hands = []; rows = old }
+    before = node_of number a line hands old
 
     abbrev after : Hosted
-    after = record { number = number; admissions = b; works = line; hands = []; rows = new }
+    after = node_of number b line hands new
 
     good : is_quota quota ≡ true
     good = (admit_passed a job quota passed).1
 
-    no_row : (view : View) → Shows before job.0 view → IsBare a.greatest line job.0 view
-    no_row view h = subst (IsViewBy a.greatest line job.0 view) absent h.by_row
+    -- no object has other bytes by the new row
+    same_bytes : (id : ObjectId) → bytes_here old id ≡ bytes_here new id
+    same_bytes id = by (same_job job id.job) refl
+      where
+        by : (t : Bool) → same_job job id.job ≡ t → bytes_here old id ≡ bytes_here new id
+        by false e = sym (ap (λ o. option_map_or (λ row. row_bytes row id) o []) (updated id.job ∙ ap (λ t. cond t (Some (new_row job.0 quota)) (lookup (same_job id.job) old)) e))
+        by true e =
+            let jobs : id.job.0 ≡ job.0 = sym (eqb-true job.0 id.job.0 e) in
+            absent_bytes old id (ap (λ n. lookup (same_job (record { 0 = n })) old) jobs ∙ absent)
+            ∙ sym (ap (λ o. option_map_or (λ row. row_bytes row id) o []) (updated id.job ∙ ap (λ t. cond t (Some (new_row job.0 quota)) (lookup (same_job id.job) old)) e))
 
-    fresh_is : (view : View) → IsBare a.greatest line job.0 view → view ≡ bare job.0 not_begun
-    fresh_is view h = h.is ∙ ap (bare job.0) (h.fresh above)
+    same : (q : ℕ) → IsAlike (beside_at before q) (beside_at after q)
+    same q = alike_bytes (bytes_here old) (bytes_here new) line line hands q (record { works = refl; used = refl }) (λ id there. same_bytes id)
 
-    shows_at : (q : ℕ) (view : View) → IsViewBy job.0 line q view (lookup (same_job (record { 0 = q })) new) → Shows after q view
-    shows_at q view h = record { by_row = subst (λ (c : Admissions). IsViewBy c.greatest line q view (lookup (same_job (record { 0 = q })) new)) (sym b_is) h }
+    no_row : (view : View) → Shows before job.0 view → IsBare a.greatest (beside_at before job.0) job.0 view
+    no_row view h = subst (IsViewBy a.greatest (beside_at before job.0) job.0 view) absent h.by_row
+
+    fresh_is : (view : View) → IsBare a.greatest (beside_at before job.0) job.0 view → view ≡ bare job.0 not_begun (beside_at before job.0)
+    fresh_is view h = h.is ∙ ap (λ life. bare job.0 life (beside_at before job.0)) (h.fresh above)
+
+    shows_at : (q : ℕ) (view : View) → IsViewBy job.0 (beside_at before q) q view (lookup (same_job (record { 0 = q })) new) → Shows after q view
+    shows_at q view h = record {
+      by_row = subst (λ (c : Admissions). IsViewBy c.greatest (beside_at after q) q view (lookup (same_job (record { 0 = q })) new)) (sym b_is)
+          (other_view (beside_at before q) (beside_at after q) (same q) job.0 q view (lookup (same_job (record { 0 = q })) new) h);
+    }
 
     own_shows : (view : View) → Shows before job.0 view → Shows after job.0 (view_step number view (input.Begin quota)).view
     own_shows view h =
         let n = no_row view h in
         subst (λ v. Shows after job.0 (view_step number v (input.Begin quota)).view) (sym (fresh_is view n))
-        (shows_at job.0 _ (subst (IsViewBy job.0 line job.0 _)
+        (shows_at job.0 _ (subst (IsViewBy job.0 (beside_at before job.0) job.0 _)
         (sym (updated job ∙ ap (λ t. cond t (Some (new_row job.0 quota)) (lookup (same_job job) old)) (itself job)))
-        (new_row_view number line job quota good n.works n.used)))
+        (new_row_view number line hands (bytes_here old) job quota good n.works n.used n.given)))
 
     other_shows : (q : ℕ) (view : View) → (q == job.0) ≡ false → Shows before q view → Shows after q view
     other_shows q view differ h =
-        shows_at q view (subst (IsViewBy job.0 line q view)
+        shows_at q view (subst (IsViewBy job.0 (beside_at before q) q view)
         (sym (updated (record { 0 = q }) ∙ ap (λ t. cond t (Some (new_row job.0 quota)) (lookup (same_job (record { 0 = q })) old)) (another job q differ)))
-        (raised_view a.greatest job.0 line q view (lookup (same_job (record { 0 = q })) old) above h.by_row))
+        (raised_view a.greatest job.0 (beside_at before q) q view (lookup (same_job (record { 0 = q })) old) above h.by_row))
 
     views : (q : ℕ) (view : View) → Shows before q view → Shows after q (cond (q == job.0) (view_step number view (input.Begin quota)).view view)
     views q view h = by (q == job.0) refl
@@ -213,12 +279,12 @@ module _ (number : ℕ) (a b : Admissions) (line : WorkLine) (job : JobNo) (quot
     admit_steps = record {
       number = refl;
       views = λ v shows q. views q (v q) (shows q);
-      told = λ view h. subst (λ v. IsStepOf number v (input.Begin quota) (only reply.Ok)) (sym (fresh_is view (no_row view h))) (begin_told number line job quota good);
+      told = λ view h. subst (λ v. IsStepOf number v (input.Begin quota) (only reply.Ok)) (sym (fresh_is view (no_row view h))) (begin_told number line hands (bytes_here old) job quota good);
       operator = sym (ap answered passed);
       by_views = λ v h. refl;
       admissions = is;
       lives = lives;
       line = λ v shows. refl;
-      none = refl;
-      none_new = refl;
+      hands = refl;
+      lasting = refl;
     }

@@ -2,7 +2,6 @@
 use Rattle.std.proofs.Common.{◌≡◌, ℕ, Bool, true, false, not, cond, ◌==◌, ◌≤◌, ◌&&◌, List, [], ◌∷◌, ◌++◌, map, filter, Option, Some, None, option_to_list, refl, sym, ap, subst, ◌∙◌, arith}
 use Rattle.std.specs.Prelude.{option_map, nat_lt, nat_le, count_by}
 use Rattle.std.specs.List.{list_all}
-use Rattle.std.specs.Option.{option_map_or}
 use Rattle.std.proofs.lemmas.Bool.Decides.{nat_tests}
 use Rattle.std.proofs.lemmas.List.{append-nil}
 use Rattle.obj_id.specs.declared.ids.JobNo.{JobNo}
@@ -15,8 +14,8 @@ use Rattle.private_store.specs.declared.inputs.Input.TheVariants as input
 use Rattle.private_store.specs.declared.schedules.Event.{Event}
 use Rattle.private_store.specs.declared.schedules.Event.TheVariants as event
 use Rattle.private_store.specs.declared.schedules.NodeEvent.TheVariants.{Own}
-use Rattle.private_store.specs.Hands.{Hand, hands_ended}
-use Rattle.private_store.specs.Trace.{ends, hands_by}
+use Rattle.private_store.specs.Hands.{Hand, hands_ended, hands_left, is_given_by}
+use Rattle.private_store.specs.Trace.{hands_by}
 use Rattle.private_store.specs.NodeInputs.{JobInput, Before, wants_memory, own_here, own_due, notes_of, notes_here, hands_after, only_of, inputs_to, withdrawn_here}
 use Rattle.private_store.specs.Contents.{View, judge}
 use Rattle.private_store.specs.Private.{view_step, view_from}
@@ -25,9 +24,9 @@ use Rattle.spill_work.specs.Line.{shown, is_of, is_at, works_of, used_by}
 use Rattle.node_table.specs.Asked.{HasAsked}
 use Rattle.node_table.specs.Row.{Row}
 use Rattle.node_table.specs.Shown.{Given as RowGiven}
-use Rattle.node_core.specs.Hosted.{Hosted, IsViewBy, Shows, ShowsAll, row_at}
+use Rattle.node_core.specs.Hosted.{Hosted, IsViewBy, Shows, ShowsAll, row_at, beside_at}
 use Rattle.node_core.specs.Built.{is_built}
-use Rattle.node_core.specs.OneJob.{input_of, view_by, view_after, IsGiven as IsRowGiven, IsOperatorAnswer as IsOneAnswer, IsAnswerByViews, IsLineAfter, StepsOne}
+use Rattle.node_core.specs.OneJob.{input_of, view_by, view_after, IsGiven as IsRowGiven, IsOperatorAnswer as IsOneAnswer, IsAnswerByViews, IsLineAfter, IsLasting, StepsOne}
 use Rattle.node_core.specs.Outcomes.{with_no_notes}
 use Rattle.node_core.specs.Judged.{is_finish, judged_as, IsCallJudged}
 use Rattle.node_core.specs.Steps.{before_of, job_of_event, IsGiven, answered, judged_notes, stale_unless, queued, taken_if, line_left, asked_now, line_after, IsEventAnswer, StepsFrom, Steps}
@@ -76,66 +75,70 @@ own_here-built before (event.Finish job number a) told built is never =
     ap (λ t. cond t None (cond (before.out job.0 number) (Some (record { job = job.0; input = input.Answer number a })) None)) never
     ∙ own_due-built before (event.Finish job number a) told built is
 
--- where no hand stands, no hand ends
-none_end : (o : Option (Hand → Bool)) → option_map_or (λ test. map withdrawn_here (hands_ended test [])) o [] ≡ []
-none_end None = refl
-none_end (Some test) = refl
+no_note : (before : Before) (e : Event) → is_built e ≡ true → IsLasting e before.hands → notes_of before e ≡ []
+no_note before (event.Admit job quota key) built lasting = refl
+no_note before (event.JobEnd job) built lasting = ap (λ hands. map withdrawn_here (hands_ended (is_given_by job.0) hands)) lasting
+no_note before (event.Call job session (command.Create id kind n)) built lasting = refl
+no_note before (event.Call job session (command.Write id offset bytes)) built lasting = refl
+no_note before (event.Call job session (command.Seal id)) built lasting = refl
+no_note before (event.Call job session (command.Get id)) built lasting = refl
+no_note before (event.Call job session (command.Read id offset n)) built lasting = refl
+no_note before (event.Call job session (command.Release id)) built lasting = refl
+no_note before (event.Call job session command.List) built lasting = refl
+no_note before (event.Call job session command.Usage) built lasting = refl
+no_note before (event.Call job session command.Leave) built lasting = refl
+no_note before (event.Call job session (command.Unpin id task)) built lasting = refl
+no_note before (event.Call job session (command.Borrow id task)) built lasting = refl
+no_note before (event.Call job session (command.GiveUp id task)) built lasting = refl
+no_note before (event.Call job session (command.Delete id)) built lasting = refl
+no_note before (event.Call job session (command.EndTask task)) built lasting = absurd cc
+no_note before (event.Call job session (command.Grant id target)) built lasting = absurd cc
+no_note before (event.Call job session (command.Withdraw id target)) built lasting = absurd cc
+no_note before (event.Call job session (command.Peek id offset n)) built lasting = refl
+no_note before (event.Requota job quota) built lasting = refl
+no_note before event.Take built lasting = refl
+no_note before (event.Finish job number a) built lasting = refl
 
-no_note : (before : Before) (e : Event) → is_built e ≡ true → before.hands ≡ [] → notes_of before e ≡ []
-no_note before (event.Admit job quota key) built none = refl
-no_note before (event.JobEnd job) built none = ap (λ hands. option_map_or (λ test. map withdrawn_here (hands_ended test hands)) (ends (event.JobEnd job)) []) none
-no_note before (event.Call job session (command.Create id kind n)) built none = refl
-no_note before (event.Call job session (command.Write id offset bytes)) built none = refl
-no_note before (event.Call job session (command.Seal id)) built none = refl
-no_note before (event.Call job session (command.Get id)) built none = refl
-no_note before (event.Call job session (command.Read id offset n)) built none = refl
-no_note before (event.Call job session (command.Release id)) built none = refl
-no_note before (event.Call job session command.List) built none = refl
-no_note before (event.Call job session command.Usage) built none = refl
-no_note before (event.Call job session command.Leave) built none = refl
-no_note before (event.Call job session (command.Unpin id task)) built none = refl
-no_note before (event.Call job session (command.Borrow id task)) built none = refl
-no_note before (event.Call job session (command.GiveUp id task)) built none = refl
-no_note before (event.Call job session (command.Delete id)) built none = refl
-no_note before (event.Call job session (command.EndTask task)) built none = absurd cc
-no_note before (event.Call job session (command.Grant id target)) built none = absurd cc
-no_note before (event.Call job session (command.Withdraw id target)) built none = absurd cc
-no_note before (event.Call job session (command.Peek id offset n)) built none = absurd cc
-no_note before (event.Requota job quota) built none = refl
-no_note before event.Take built none = refl
-no_note before (event.Finish job number a) built none = refl
+pub notes_here-built : (before : Before) (e : Event) (told : Reply (List ℕ)) → is_built e ≡ true → IsLasting e before.hands → notes_here before (Own e) told ≡ []
+notes_here-built before e reply.Ok built lasting = no_note before e built lasting
+notes_here-built before e _ built lasting = refl
 
-pub notes_here-built : (before : Before) (e : Event) (told : Reply (List ℕ)) → is_built e ≡ true → before.hands ≡ [] → notes_here before (Own e) told ≡ []
-notes_here-built before e reply.Ok built none = no_note before e built none
-notes_here-built before e _ built none = refl
+hands_stay : (hands : List Hand) (e : Event) → is_built e ≡ true → IsLasting e hands → hands_by hands e ≡ hands
+hands_stay hands (event.Admit job quota key) built lasting = refl
+hands_stay hands (event.JobEnd job) built lasting = ap (hands_left (is_given_by job.0)) lasting ∙ sym lasting
+hands_stay hands (event.Call job session (command.Create id kind n)) built lasting = refl
+hands_stay hands (event.Call job session (command.Write id offset bytes)) built lasting = refl
+hands_stay hands (event.Call job session (command.Seal id)) built lasting = refl
+hands_stay hands (event.Call job session (command.Get id)) built lasting = refl
+hands_stay hands (event.Call job session (command.Read id offset n)) built lasting = refl
+hands_stay hands (event.Call job session (command.Release id)) built lasting = refl
+hands_stay hands (event.Call job session command.List) built lasting = refl
+hands_stay hands (event.Call job session command.Usage) built lasting = refl
+hands_stay hands (event.Call job session command.Leave) built lasting = refl
+hands_stay hands (event.Call job session (command.Unpin id task)) built lasting = refl
+hands_stay hands (event.Call job session (command.Borrow id task)) built lasting = refl
+hands_stay hands (event.Call job session (command.GiveUp id task)) built lasting = refl
+hands_stay hands (event.Call job session (command.Delete id)) built lasting = refl
+hands_stay hands (event.Call job session (command.EndTask task)) built lasting = absurd cc
+hands_stay hands (event.Call job session (command.Grant id target)) built lasting = absurd cc
+hands_stay hands (event.Call job session (command.Withdraw id target)) built lasting = absurd cc
+hands_stay hands (event.Call job session (command.Peek id offset n)) built lasting = refl
+hands_stay hands (event.Requota job quota) built lasting = refl
+hands_stay hands event.Take built lasting = refl
+hands_stay hands (event.Finish job number a) built lasting = refl
 
-no_hand : (e : Event) → is_built e ≡ true → hands_by [] e ≡ []
-no_hand (event.Admit job quota key) built = refl
-no_hand (event.JobEnd job) built = refl
-no_hand (event.Call job session (command.Create id kind n)) built = refl
-no_hand (event.Call job session (command.Write id offset bytes)) built = refl
-no_hand (event.Call job session (command.Seal id)) built = refl
-no_hand (event.Call job session (command.Get id)) built = refl
-no_hand (event.Call job session (command.Read id offset n)) built = refl
-no_hand (event.Call job session (command.Release id)) built = refl
-no_hand (event.Call job session command.List) built = refl
-no_hand (event.Call job session command.Usage) built = refl
-no_hand (event.Call job session command.Leave) built = refl
-no_hand (event.Call job session (command.Unpin id task)) built = refl
-no_hand (event.Call job session (command.Borrow id task)) built = refl
-no_hand (event.Call job session (command.GiveUp id task)) built = refl
-no_hand (event.Call job session (command.Delete id)) built = refl
-no_hand (event.Call job session (command.EndTask task)) built = absurd cc
-no_hand (event.Call job session (command.Grant id target)) built = absurd cc
-no_hand (event.Call job session (command.Withdraw id target)) built = absurd cc
-no_hand (event.Call job session (command.Peek id offset n)) built = absurd cc
-no_hand (event.Requota job quota) built = refl
-no_hand event.Take built = refl
-no_hand (event.Finish job number a) built = refl
+pub hands_after-built : (hands : List Hand) (e : Event) (told : Reply (List ℕ)) → is_built e ≡ true → IsLasting e hands → hands_after hands (Own e) told ≡ hands
+hands_after-built hands e reply.Ok built lasting = hands_stay hands e built lasting
+hands_after-built hands e _ built lasting = refl
 
-pub hands_after-built : (e : Event) (told : Reply (List ℕ)) → is_built e ≡ true → hands_after [] (Own e) told ≡ []
-hands_after-built e reply.Ok built = no_hand e built
-hands_after-built e _ built = refl
+-- where no hand stands none ends
+pub lasting_none : (e : Event) (hands : List Hand) → hands ≡ [] → IsLasting e hands
+lasting_none (event.Admit job quota key) hands none = refl
+lasting_none (event.JobEnd job) hands none = none
+lasting_none (event.Call job session c) hands none = refl
+lasting_none (event.Requota job quota) hands none = refl
+lasting_none event.Take hands none = refl
+lasting_none (event.Finish job number a) hands none = refl
 
 -- ---- every job's view
 
@@ -166,7 +169,7 @@ pub record Works (node : Hosted) (job : ℕ) (view : View) : Type 0 where
 pub works_shown : (node : Hosted) (job : ℕ) (view : View) → Shows node job view → Works node job view
 works_shown node job view h = by (row_at node (record { 0 = job })) h.by_row
   where
-    by : (o : Option Row) → IsViewBy node.admissions.greatest node.works job view o → Works node job view
+    by : (o : Option Row) → IsViewBy node.admissions.greatest (beside_at node job) job view o → Works node job view
     by (Some row) r = record {
       works = ap (λ s. s.works) r.shape;
       asked = ap (λ s. s.works_asked) r.shape;
@@ -212,11 +215,11 @@ module _ (old new : Hosted) (v : ℕ → View) (shows : ShowsAll old v) where
     asked_are : (view_step old.number (v job.0) x).works ≡ above (used_by old.works job) (works_of new.works job)
     asked_are = λ i. above (own_before.asked i) (own_after.works i)
 
-    called_line : HasAsked old.works job new.works → new.works.works ≡ old.works.works ++ queued job.0 (view_step old.number (v job.0) x).works
+    pub called_line : HasAsked old.works job new.works → new.works.works ≡ old.works.works ++ queued job.0 (view_step old.number (v job.0) x).works
     called_line h = asked_now_is old.works job new.works h own_before.used ∙ ap (λ ws. old.works.works ++ queued job.0 ws) (sym asked_are)
 
     -- where the line is the old one, the job asked for nothing
-    pub same_line : new.works.works ≡ old.works.works → new.works.works ≡ old.works.works ++ queued job.0 (view_step old.number (v job.0) x).works
+    same_line : new.works.works ≡ old.works.works → new.works.works ≡ old.works.works ++ queued job.0 (view_step old.number (v job.0) x).works
     same_line is =
         is ∙ sym (append-nil old.works.works)
         ∙ ap (λ ws. old.works.works ++ queued job.0 ws) (sym (asked_are ∙ ap (λ ws. above (used_by old.works job) (map (λ work. shown work.asked) (filter (is_of job) ws))) is ∙ above-used (used_by old.works job) (works_of old.works job) own_before.used))
@@ -290,7 +293,7 @@ module _ (old new : Hosted) (e : Event) (given : RowGiven) (built : is_built e �
 
     inputs_are : (job : ℕ) → inputs_to before (Own e) given.reply job ≡ only_of job (option_to_list (own_of e given.reply))
     inputs_are job =
-        ap (only_of job) ((λ i. option_to_list (own_here-built before e given.reply built answer never i) ++ notes_here-built before e given.reply built h.none i)
+        ap (only_of job) ((λ i. option_to_list (own_here-built before e given.reply built answer never i) ++ notes_here-built before e given.reply built h.lasting i)
         ∙ append-nil (option_to_list (own_of e given.reply)))
 
     view_is : (job : ℕ) → view_from old.number (v job) (inputs_to before (Own e) given.reply job) ≡ view_after old.number job (v job) e given.reply
@@ -307,7 +310,7 @@ module _ (old new : Hosted) (e : Event) (given : RowGiven) (built : is_built e �
     from = record {
       views = views;
       told = told;
-      notes = sym (ap (judged_notes old.number v) (notes_here-built before e given.reply built h.none));
+      notes = sym (ap (judged_notes old.number v) (notes_here-built before e given.reply built h.lasting));
       operator = operator;
       line = line;
     }
@@ -315,7 +318,7 @@ module _ (old new : Hosted) (e : Event) (given : RowGiven) (built : is_built e �
   pub all_steps : Steps old (Own e) (with_no_notes given) new
   all_steps = record {
     number = h.number;
-    hands = h.none_new ∙ sym (hands_after-built e given.reply built) ∙ ap (λ hands. hands_after hands (Own e) given.reply) (sym h.none);
+    hands = h.hands ∙ sym (hands_after-built old.hands e given.reply built h.lasting);
     admissions = h.admissions;
     lives = h.lives;
     each = from;
@@ -341,6 +344,14 @@ call_judged (event.Call job session c) _ = refl
 call_judged (event.Requota job quota) _ = refl
 call_judged event.Take _ = refl
 call_judged (event.Finish job number a) _ = refl
+
+pub other_lasting : (e : Event) (hands : List Hand) → ((job : JobNo) → e ≡ event.JobEnd job → ⊥) → IsLasting e hands
+other_lasting (event.Admit job quota key) hands other = refl
+other_lasting (event.JobEnd job) hands other = absurd (other job refl)
+other_lasting (event.Call job session c) hands other = refl
+other_lasting (event.Requota job quota) hands other = refl
+other_lasting event.Take hands other = refl
+other_lasting (event.Finish job number a) hands other = refl
 
 pub no_finish : (e : Event) → ((job : JobNo) (number : ℕ) (a : DeviceAnswer) → e ≡ event.Finish job number a → ⊥) → is_finish e ≡ false
 no_finish (event.Admit job quota key) other = refl

@@ -1,6 +1,9 @@
 -- A message that arrives is an input of its own job alone.
-use Rattle.std.proofs.Common.{◌≡◌, ℕ, false, cond, not, ◌==◌, [], ◌∷◌, ◌++◌, Some, None, option_to_list, is_some, refl, sym, ap, subst, ◌∙◌}
+use Rattle.std.proofs.Common.{◌≡◌, ℕ, true, false, cond, not, ◌==◌, List, [], ◌∷◌, ◌++◌, Some, None, option_to_list, is_some, refl, sym, ap, subst, ◌∙◌}
+use Rattle.std.specs.Map.{lookup}
 use Rattle.obj_id.specs.declared.ids.JobNo.{JobNo}
+use Rattle.obj_id.specs.declared.ids.ObjectId.{ObjectId}
+use Rattle.obj_id.specs.declared.commands.Reply.TheVariants as reply
 use Rattle.obj_id.specs.declared.messages.Arrival.{Arrival}
 use Rattle.obj_id.specs.declared.messages.Arrival.TheVariants as arrival
 use Rattle.obj_id.specs.declared.messages.PeerMessage.TheVariants as peer
@@ -8,38 +11,45 @@ use Rattle.obj_id.specs.declared.refusals.Refusal.TheVariants.{Stale}
 use Rattle.private_store.specs.declared.inputs.Input.{Input}
 use Rattle.private_store.specs.declared.inputs.Input.TheVariants as input
 use Rattle.private_store.specs.declared.schedules.NodeEvent.TheVariants.{Arrive}
+use Rattle.private_store.specs.Jobs.{same_job}
+use Rattle.private_store.specs.Hands.{Hand}
 use Rattle.private_store.specs.Events.{is_live, located, chunk_arrived, not_here_arrived, pull_arrived}
-use Rattle.private_store.specs.Contents.{View, source_in, chunk_verdict, pull_matches}
+use Rattle.private_store.specs.Contents.{Contents, View, source_in, chunk_verdict, pull_matches}
 use Rattle.private_store.specs.Private.{view_step, view_from}
 use Rattle.private_store.specs.NodeInputs.{Before, wants_memory, only_of, inputs_to}
 use Rattle.private_store.proofs.Checks.{checked-true}
-use Rattle.spill_work.specs.Line.{WorkLine}
+use Rattle.spill_work.specs.Line.{WorkLine, IsSameFor, same_job as same_line_job}
 use Rattle.job_admission.specs.Admissions.{Admissions, live_at, lives_of}
-use Rattle.node_table.specs.Shown.{Given as RowGiven}
-use Rattle.node_core.specs.Hosted.{Hosted, Shows, ShowsAll, bare, bare_shape}
+use Rattle.node_table.specs.Asked.{HasAsked}
+use Rattle.grants.specs.Table.{AreHands}
+use Rattle.node_table.specs.Row.{Row, beside_of}
+use Rattle.node_table.specs.Shown.{IsShown, Given as RowGiven, only, TakesStep}
+use Rattle.node_core.specs.Hosted.{Hosted, IsViewBy, Shows, ShowsAll, bare, bare_shape, bytes_here, beside_at}
 use Rattle.node_core.specs.OneJob.{IsStepOf}
 use Rattle.node_core.specs.Outcomes.{with_no_notes}
 use Rattle.node_core.specs.Steps.{before_of, answered, stale_unless, asked_now, line_after, StepsFrom, Steps}
-use Rattle.node_core.proofs.AllJobs.{one_input, same_line, own_shown}
+use Rattle.node_core.proofs.AllJobs.{one_input, called_line, own_shown}
+use Rattle.node_core.proofs.Lines.{asked_nothing}
 use Rattle.node_core.proofs.Never.{stale_wants}
-use Rattle.node_core.proofs.Views.{Refuses}
+use Rattle.node_core.proofs.Views.{Refuses, Takes, node_of, views_stepped, told_stepped, views_same, told_refused}
 
 -- a store that isn't live refuses it
-pub arrival_refuses : (number : ℕ) (a : Admissions) (line : WorkLine) (job : JobNo) (x : Arrival) → Refuses number a line job (input.Arrive x) Stale
-arrival_refuses number a line job (arrival.Located id n entries) life dead =
-    let s = bare_shape job.0 life in checked-true s (not (is_live s)) Stale [] (located s id n (source_in number entries)) (ap not dead)
-arrival_refuses number a line job (arrival.FromPeer from (peer.Pull id n len digest indexes)) life dead =
-    let s = bare_shape job.0 life in checked-true s (not (is_live s)) Stale [] (pull_arrived [] s id (pull_matches (bare job.0 life) id len digest)) (ap not dead)
-arrival_refuses number a line job (arrival.FromPeer from (peer.Chunk id n index bytes)) life dead =
-    let s = bare_shape job.0 life in checked-true s (not (is_live s)) Stale [] (chunk_arrived s id n index from (chunk_verdict (bare job.0 life) id n index bytes from)) (ap not dead)
-arrival_refuses number a line job (arrival.FromPeer from (peer.NotHere id n)) life dead =
-    let s = bare_shape job.0 life in checked-true s (not (is_live s)) Stale [] (not_here_arrived s id n from) (ap not dead)
+arrival_refuses : (number : ℕ) (a : Admissions) (line : WorkLine) (hands : List Hand) (job : JobNo) (x : Arrival) → Refuses number a line hands job (input.Arrive x) refl Stale
+arrival_refuses number a line hands job (arrival.Located id n entries) life beside dead =
+    let s = bare_shape job.0 life beside in checked-true s (not (is_live s)) Stale [] (located s id n (source_in number entries)) (ap not dead)
+arrival_refuses number a line hands job (arrival.FromPeer from (peer.Pull id n len digest indexes)) life beside dead =
+    let s = bare_shape job.0 life beside in checked-true s (not (is_live s)) Stale [] (pull_arrived [] s id (pull_matches (bare job.0 life beside) id len digest)) (ap not dead)
+arrival_refuses number a line hands job (arrival.FromPeer from (peer.Chunk id n index bytes)) life beside dead =
+    let s = bare_shape job.0 life beside in checked-true s (not (is_live s)) Stale [] (chunk_arrived s id n index from (chunk_verdict (bare job.0 life beside) id n index bytes from)) (ap not dead)
+arrival_refuses number a line hands job (arrival.FromPeer from (peer.NotHere id n)) life beside dead =
+    let s = bare_shape job.0 life beside in checked-true s (not (is_live s)) Stale [] (not_here_arrived s id n from) (ap not dead)
 
 -- what is told of the job's view and of the others' is the step of all of them
 module _ (old new : Hosted) (job : JobNo) (a : Arrival) (given : RowGiven)
-    (number : new.number ≡ old.number) (works : new.works ≡ old.works) (admissions : new.admissions ≡ old.admissions) (none : old.hands ≡ []) (none_new : new.hands ≡ [])
-    (views : (q : ℕ) (view : View) → Shows old q view → Shows new q (cond (q == job.0) (view_step old.number view (input.Arrive a)).view view))
+    (number : new.number ≡ old.number) (admissions : new.admissions ≡ old.admissions) (hands : new.hands ≡ old.hands)
+    (views : (v : ℕ → View) → ShowsAll old v → (q : ℕ) → Shows new q (cond (q == job.0) (view_step old.number (v q) (input.Arrive a)).view (v q)))
     (told : (view : View) → Shows old job.0 view → IsStepOf old.number view (input.Arrive a) given)
+    (asked : (v : ℕ → View) → ShowsAll old v → HasAsked old.works job new.works)
     (answer : given.reply ≡ answered (stale_unless (is_some (live_at old.admissions job)))) where
   abbrev x : Input
   x = input.Arrive a
@@ -54,28 +64,90 @@ module _ (old new : Hosted) (job : JobNo) (a : Arrival) (given : RowGiven)
     inputs_are : (q : ℕ) → inputs_to before (Arrive job a) given.reply q ≡ only_of q (record { job = job.0; input = x } ∷ [])
     inputs_are q = ap (λ w. only_of q (option_to_list (cond w None (Some (record { job = job.0; input = x }))) ++ [])) never
 
-    view_is : (q : ℕ) → view_from old.number (v q) (inputs_to before (Arrive job a) given.reply q) ≡ cond (q == job.0) (view_step old.number (v q) x).view (v q)
-    view_is q = ap (view_from old.number (v q)) (inputs_are q) ∙ one_input old.number q job.0 (v q) (Some x)
+    view_after : (q : ℕ) → view_from old.number (v q) (inputs_to before (Arrive job a) given.reply q) ≡ cond (q == job.0) (view_step old.number (v q) x).view (v q)
+    view_after q = ap (view_from old.number (v q)) (inputs_are q) ∙ one_input old.number q job.0 (v q) (Some x)
 
     line : new.works.works ≡ line_after old v (Arrive job a) given.reply
     line =
-        same_line old new v shows job x (own_shown old new v shows job x (views job.0 (v job.0) (shows job.0))) (ap (λ w. w.works) works)
+        called_line old new v shows job x (own_shown old new v shows job x (views v shows job.0)) (asked v shows)
         ∙ ap (λ w. old.works.works ++ asked_now old.number v (cond w None (Some (record { job = job.0; input = x })))) (sym never)
 
     from : StepsFrom old v (Arrive job a) (with_no_notes given) new
     from = record {
-      views = λ q. subst (Shows new q) (sym (view_is q)) (views q (v q) (shows q));
+      views = λ q. subst (Shows new q) (sym (view_after q)) (views v shows q);
       told = let t = told (v job.0) (shows job.0) in record { reply = t.reply; posts = t.posts; erased = t.erased };
       notes = refl;
       operator = answer;
       line = line;
     }
 
-  pub arrival_steps : Steps old (Arrive job a) (with_no_notes given) new
+  arrival_steps : Steps old (Arrive job a) (with_no_notes given) new
   arrival_steps = record {
     number = number;
-    hands = none_new ∙ sym none;
+    hands = hands;
     admissions = admissions;
     lives = ap (λ a. lives_of a.live) admissions;
     each = from;
   }
+
+-- ---- at a node
+
+-- a job that isn't live refuses the message
+module _ (number : ℕ) (a : Admissions) (line : WorkLine) (hands : List Hand) (job : JobNo) (x : Arrival) (rows : List (JobNo × Row)) (none : lookup (same_job job) rows ≡ None) (dead : is_some (live_at a job) ≡ false) where
+  abbrev all : Hosted
+  all = node_of number a line hands rows
+
+  pub stale_steps : Steps all (Arrive job x) (with_no_notes (only (reply.Refused Stale))) all
+  stale_steps =
+      let refuses = arrival_refuses number a line hands job x in
+      arrival_steps all all job x (only (reply.Refused Stale)) refl refl refl
+      (λ v shows q. views_same number a line hands job (input.Arrive x) refl rows none Stale refuses q (v q) (shows q))
+      (told_refused number a line hands job (input.Arrive x) refl rows none Stale refuses)
+      (λ v shows. asked_nothing line job)
+      (ap (λ b. answered (stale_unless b)) (sym dead))
+
+-- a row that took the message
+module _ (number : ℕ) (a : Admissions) (line : WorkLine) (hands : List Hand) (table : AreHands hands) (job : JobNo) (x : Arrival) (old new : List (JobNo × Row)) (row after : Row) (works : WorkLine) (told : RowGiven)
+    (found : lookup (same_job job) old ≡ Some row)
+    (updated : (q : JobNo) → lookup (same_job q) new ≡ cond (same_job job q) (Some after) (lookup (same_job q) old))
+    (took : (given : List Hand) (bytes : ObjectId → List ℕ) (contents : Contents) → IsShown row (beside_of line given bytes row.job) contents
+    → TakesStep number row (beside_of line given bytes row.job) contents (input.Arrive x) told after (beside_of works given bytes row.job))
+    (asked : HasAsked line (record { 0 = row.job }) works)
+    (others : (other : JobNo) → same_line_job (record { 0 = row.job }) other ≡ false → IsSameFor other line works)
+    (live : is_some (live_at a job) ≡ true)
+    (is_ok : told.reply ≡ reply.Ok) where
+  abbrev at_first : Hosted
+  at_first = node_of number a line hands old
+
+  abbrev afterwards : Hosted
+  afterwards = node_of number a works hands new
+
+  -- the row is the job's
+  module _ (own : row.job ≡ job.0) where
+    obeys : Takes number job (input.Arrive x) hands (bytes_here old) row line told after works
+    obeys = subst (λ n. (contents : Contents) → row.job ≡ n → IsShown row (beside_of line hands (bytes_here old) n) contents
+        → TakesStep number row (beside_of line hands (bytes_here old) n) contents (input.Arrive x) told after (beside_of works hands (bytes_here old) n)) own
+        (λ contents same shown. took hands (bytes_here old) contents shown)
+
+    same_others : (other : JobNo) → same_line_job job other ≡ false → IsSameFor other line works
+    same_others = subst (λ n. (other : JobNo) → same_line_job (record { 0 = n }) other ≡ false → IsSameFor other line works) own others
+
+    views_after : (v : ℕ → View) → ShowsAll at_first v → (q : ℕ) → Shows afterwards q (cond (q == job.0) (view_step number (v q) (input.Arrive x)).view (v q))
+    views_after = views_stepped number a a refl line works hands table job (input.Arrive x) old new row after told found updated obeys same_others
+
+    told_after : (view : View) → Shows at_first job.0 view → IsStepOf number view (input.Arrive x) told
+    told_after = told_stepped number a a refl line works hands table job (input.Arrive x) old new row after told found updated obeys same_others
+
+    asked_after : HasAsked line job works
+    asked_after = subst (λ n. HasAsked line (record { 0 = n }) works) own asked
+
+  own_row : (view : View) → Shows at_first job.0 view → row.job ≡ job.0
+  own_row view h = (subst (IsViewBy a.greatest (beside_at at_first job.0) job.0 view) found h.by_row).own
+
+  pub row_steps : Steps at_first (Arrive job x) (with_no_notes told) afterwards
+  row_steps =
+      arrival_steps at_first afterwards job x told refl refl refl
+      (λ v shows q. views_after (own_row (v job.0) (shows job.0)) v shows q)
+      (λ view h. told_after (own_row view h) view h)
+      (λ v shows. asked_after (own_row (v job.0) (shows job.0)))
+      (is_ok ∙ ap (λ b. answered (stale_unless b)) (sym live))

@@ -1,5 +1,5 @@
 -- What a node tells of a job outside of events.
-use Rattle.std.proofs.Common.{◌≡◌, ℕ, ◌==◌, true, not, cond, List, Some, is_some, sym, ap, subst, ◌∙◌, []}
+use Rattle.std.proofs.Common.{◌≡◌, ℕ, ◌==◌, true, not, cond, List, Some, is_some, sym, ap, subst, ◌∙◌}
 use Rattle.std.specs.List.{list_any}
 use Rattle.std.specs.Map.{lookup}
 use Rattle.obj_id.specs.declared.ids.JobNo.{JobNo}
@@ -16,7 +16,7 @@ use Rattle.job_admission.specs.Admissions.{Admissions, live_at}
 use Rattle.node_table.specs.Checks.{lend_check}
 use Rattle.node_table.specs.Row.{Row, Beside, beside_of, copies_of, shape_of}
 use Rattle.node_table.specs.Shown.{IsShown, IsLent}
-use Rattle.node_core.specs.Hosted.{Hosted, AreHosted, IsRowView, IsViewBy, Shows, row_at, alone}
+use Rattle.node_core.specs.Hosted.{Hosted, AreHosted, IsRowView, IsViewBy, Shows, row_at, bytes_here, beside_at}
 use Rattle.node_core.specs.Borrowed.{borrowed_check, IsBorrowed}
 use Rattle.node_core.proofs.Ending.{is_some-lookup}
 
@@ -25,13 +25,16 @@ pub live-is : (a : Admissions) (rows : List (JobNo × Row)) → AreHosted a rows
 live-is a rows kept job = is_some-lookup (same_job job) rows ∙ ap (list_any (same_job job)) kept.jobs ∙ sym (is_some-lookup (same_job job) a.live)
 
 module _ (node : Hosted) (job : JobNo) (row : Row) (found : row_at node job ≡ Some row) (view : View) (h : Shows node job.0 view) where
-  pub row_shown : IsRowView row node.works job.0 view
-  row_shown = subst (IsViewBy node.admissions.greatest node.works job.0 view) found h.by_row
+  abbrev beside : Beside
+  beside = beside_at node job.0
+
+  pub row_shown : IsRowView row beside job.0 view
+  row_shown = subst (IsViewBy node.admissions.greatest beside job.0 view) found h.by_row
 
   pub usage_told : (told : Usage) → ((hands : List Hand) (bytes : ObjectId → List ℕ) (contents : Contents) → IsShown row (beside_of node.works hands bytes row.job) contents → told ≡ usage_of (shape_of row (beside_of node.works hands bytes row.job))) → told ≡ usage_of view.shape
   usage_told told is =
-      is [] (λ id. []) view.contents (subst (λ n. IsShown row (alone node.works n) view.contents) (sym row_shown.own) row_shown.shown)
-      ∙ ap usage_of (ap (λ n. shape_of row (alone node.works n)) row_shown.own ∙ sym row_shown.shape)
+      is node.hands (bytes_here node.rows) view.contents (subst (λ n. IsShown row (beside_at node n) view.contents) (sym row_shown.own) row_shown.shown)
+      ∙ ap usage_of (ap (λ n. shape_of row (beside_at node n)) row_shown.own ∙ sym row_shown.shape)
 
   live_shape : is_live view.shape ≡ true
   live_shape = ap is_live row_shown.shape
@@ -47,7 +50,7 @@ module _ (node : Hosted) (job : JobNo) (row : Row) (found : row_at node job ≡ 
   pub lent_bytes : (session : ℕ) (id : ObjectId) (bytes : List ℕ) → (id.job.0 == job.0) ≡ true
       → ((beside : Beside) (contents : Contents) → IsShown row beside contents → IsLent (copies_of row.copies) contents session id bytes) → IsBorrowed view session id bytes
   lent_bytes session id bytes mine lent =
-      let l = lent (alone node.works job.0) view.contents row_shown.shown in
+      let l = lent beside view.contents row_shown.shown in
       record {
         passed = own_check session id mine ∙ l.passed;
         lent = subst (λ (s : Shape). IsLent s.copies view.contents session id bytes) (sym row_shown.shape) l;

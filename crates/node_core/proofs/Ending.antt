@@ -1,8 +1,10 @@
 -- What the end of a job leaves: nothing of the job, and the others as they were.
-use Rattle.std.proofs.Common.{◌≡◌, ℕ, ◌==◌, Bool, true, false, not, cond, ◌||◌, List, [], ◌∷◌, ◌++◌, filter, Some, None, is_some, refl, sym, ap, subst, ◌∙◌, arith, T}
+use Rattle.std.proofs.Common.{◌≡◌, ℕ, Bool, true, false, not, cond, ◌||◌, List, [], ◌∷◌, ◌++◌, map, filter, Some, None, is_some, refl, sym, ap, subst, ◌∙◌, arith, T}
 use Rattle.std.specs.Prelude.{nat_le}
 use Rattle.std.specs.List.{list_all, list_any}
 use Rattle.std.specs.Map.{keys_of, lookup, remove_entry}
+use Rattle.std.specs.Option.{option_map_or}
+use Rattle.std.proofs.lemmas.List.{append-nil}
 use Rattle.std.proofs.lemmas.Bool.{eqb-true}
 use Rattle.std.proofs.lemmas.Bool.Decides.{nat_tests}
 use Rattle.obj_id.specs.declared.ids.JobNo.{JobNo}
@@ -13,30 +15,42 @@ use Rattle.obj_id.specs.declared.refusals.Refusal.TheVariants.{Stale, NotAdmitte
 use Rattle.private_store.specs.declared.inputs.Input.TheVariants as input
 use Rattle.private_store.specs.declared.inputs.Judged.TheVariants as judged
 use Rattle.private_store.specs.declared.schedules.Event.TheVariants as event
+use Rattle.private_store.specs.declared.schedules.NodeEvent.TheVariants.{Own}
 use Rattle.private_store.specs.Jobs.{same_job}
-use Rattle.private_store.specs.Shape.{ended}
+use Rattle.private_store.specs.Shape.{Seen, ended}
 use Rattle.private_store.specs.Tables.{ids_of}
 use Rattle.obj_id.specs.declared.works.DeviceKey.{DeviceKey}
 use Rattle.private_store.specs.Change.{sending, erasing}
 use Rattle.private_store.specs.Events.{end_job_here, over}
 use Rattle.private_store.specs.Step.{step}
-use Rattle.private_store.specs.Contents.{Contents, View}
+use Rattle.private_store.specs.Contents.{Contents, View, kept}
+use Rattle.private_store.specs.Hands.{Hand, hands_ended, hands_left, is_given_by}
+use Rattle.private_store.specs.Kept.{has_hand}
 use Rattle.private_store.specs.Private.{view_step, outcome, to_directory, no_contents}
 use Rattle.private_store.specs.Shared.{job_is}
 use Rattle.private_store.proofs.Checks.{checked-nil, checked-false}
-use Rattle.private_store.proofs.Tests.{both, both_left, both_right}
-use Rattle.spill_work.specs.Line.{WorkLine, Drops}
+use Rattle.private_store.proofs.Tests.{true_false, both, both_left, both_right}
+use Rattle.spill_work.specs.Line.{WorkLine, Drops, is_of as is_of_line}
+use Rattle.grants.specs.Table.{AreHands}
+use Rattle.grants.proofs.Left.{left_are_hands}
 use Rattle.job_admission.specs.Admissions.{Admissions, live_at, lives_of, finished}
-use Rattle.node_table.specs.Row.{Row}
-use Rattle.node_table.specs.Shown.{seen, Given, IsShown}
+use Rattle.node_table.specs.Granting.{row_bytes}
+use Rattle.node_table.specs.Notes.{beside_rest}
+use Rattle.node_table.specs.Row.{Row, Beside, given_by, received_bytes}
+use Rattle.node_table.specs.Shown.{seen, only, IsShown}
 use Rattle.node_table.proofs.CopyTables.{sorted-copies}
 use Rattle.node_table.specs.Ending.{keys_backed}
 use Rattle.node_table.proofs.EndingKeys.{keys-backed}
-use Rattle.node_core.proofs.Others.{other_view, not_same}
-use Rattle.node_core.specs.Hosted.{Hosted, AreHosted, IsRowView, IsBare, IsViewBy, Shows, bare, alone}
-use Rattle.node_core.specs.Steps.{answered}
-use Rattle.node_core.specs.OneJob.{IsStepOf, StepsOne}
-use Rattle.node_core.proofs.Views.{itself, another, view_is}
+use Rattle.node_table.proofs.Besides.{is_of}
+use Rattle.node_table.proofs.Notes.{none_given, rest_of_job}
+use Rattle.node_table.proofs.Received.{kept_as_they_are}
+use Rattle.node_core.proofs.Granted.{own_gave}
+use Rattle.node_core.proofs.HandsEnd.{ended_shows, ended_inputs, ends_judged}
+use Rattle.node_core.specs.Hosted.{Hosted, AreHosted, IsRowView, IsBare, IsViewBy, Shows, ShowsAll, bare, bytes_here, beside_at}
+use Rattle.node_core.specs.OneJob.{IsStepOf}
+use Rattle.node_core.specs.Outcomes.{with_no_notes, end_noted}
+use Rattle.node_core.specs.Steps.{Given, answered, queued, Steps}
+use Rattle.node_core.proofs.Views.{itself, view_is, node_of}
 
 -- ---- the numbers
 
@@ -92,9 +106,9 @@ none_left : (ids : List ObjectId) → filter (λ (id : ObjectId). false) ids ≡
 none_left [] = refl
 none_left (id ∷ ids) = none_left ids
 
-module _ (number : ℕ) (row : Row) (line : WorkLine) (job : ℕ) (contents : Contents) (h : IsShown row (alone line job) contents) where
+module _ (number : ℕ) (row : Row) (beside : Beside) (contents : Contents) (h : IsShown row beside contents) where
   abbrev v : View
-  v = seen row (alone line job) contents
+  v = seen row beside contents
 
   ends : step row.order v.shape judged.End ≡ erasing v.shape (end_job_here v.shape)
   ends = checked-false v.shape false Stale [] (erasing v.shape (end_job_here v.shape)) refl ∙ checked-nil v.shape (erasing v.shape (end_job_here v.shape))
@@ -102,9 +116,20 @@ module _ (number : ℕ) (row : Row) (line : WorkLine) (job : ℕ) (contents : Co
   end_step : view_step number v input.End ≡ outcome number v input.End judged.End (erasing v.shape (end_job_here v.shape))
   end_step = ap (outcome number v input.End judged.End) ends
 
-  pub end_view : (view_step number v input.End).view ≡ bare row.job ended
+  -- what others granted stays
+  received_stays : kept (λ seen. true) (λ seen. []) contents.received beside.received ≡ received_bytes beside
+  received_stays = ap (λ t. kept (λ (seen : Seen). true) (λ seen. []) t beside.received) h.received ∙ kept_as_they_are beside.bytes beside.received
+
+  pub end_view : (view_step number v input.End).view ≡ bare row.job ended beside
   unfolding sending
-  end_view = ap (λ o. o.view) end_step ∙ ap (λ ids. record { shape = over v.shape; order = ids ++ []; contents = no_contents }) (none_left row.order)
+  end_view =
+      ap (λ o. o.view) end_step
+      ∙ ap (λ ids. record { shape = over v.shape; order = ids ++ []; contents = record no_contents { received = kept (λ (seen : Seen). true) (λ seen. []) contents.received beside.received } }) (none_left row.order)
+      ∙ ap (λ t. record { shape = over v.shape; order = []; contents = record no_contents { received = t } }) received_stays
+
+  pub end_works : (view_step number v input.End).works ≡ []
+  unfolding sending
+  end_works = ap (λ o. o.works) end_step
 
   pub end_told : (erased : List DeviceKey) → erased ≡ keys_backed row (ids_of row.copies) → IsStepOf number v input.End (record { reply = reply.Ok; posts = to_directory (EndJob number); erased = erased })
   unfolding sending
@@ -116,16 +141,41 @@ module _ (number : ℕ) (row : Row) (line : WorkLine) (job : ℕ) (contents : Co
 
 -- ---- the step
 
-module _ (number : ℕ) (a b : Admissions) (line after_line : WorkLine) (job : JobNo) (old new : List (JobNo × Row))
+-- a job that isn't live is refused, and nothing changes
+pub end_refused : (node : Hosted) (job : JobNo) → is_some (live_at node.admissions job) ≡ false → Steps node (Own (event.JobEnd job)) (with_no_notes (only (reply.Refused NotAdmitted))) node
+end_refused node job none = record {
+  number = refl;
+  hands = refl;
+  admissions = refl;
+  lives = refl;
+  each = λ v shows. record {
+    views = shows;
+    told = record { posts = refl; erased = refl };
+    notes = refl;
+    operator = sym (ap (λ t. answered (cond t None (Some NotAdmitted))) none);
+    line = sym (append-nil node.works.works);
+  };
+}
+
+module _ (number : ℕ) (a b : Admissions) (line after_line : WorkLine) (hands : List Hand) (table : AreHands hands) (job : JobNo) (old new : List (JobNo × Row))
     (kept : AreHosted a old) (is_live : is_some (live_at a job) ≡ true) (is : b ≡ finished a job) (drops : Drops line job after_line)
     (updated : (q : JobNo) → lookup (same_job q) new ≡ cond (same_job job q) None (lookup (same_job q) old))
     (lives : lives_of b.live ≡ filter (λ live. not (job_is job.0 live)) (lives_of a.live))
     (own_row : Row) (found : lookup (same_job job) old ≡ Some own_row) (erased : List DeviceKey) (keys : erased ≡ keys_backed own_row (ids_of own_row.copies)) where
+  abbrev test : Hand → Bool
+  test = is_given_by job.0
+
+  abbrev left : List Hand
+  left = hands_left test hands
+
+  abbrev ended_hands : List Hand
+  ended_hands = hands_ended test hands
+
   abbrev before : Hosted
-  before = record { number = number; admissions = a; works = line; hands = []; rows = old }
+  before = node_of number a line hands old
 
   abbrev after : Hosted
-  after = record { number = number; admissions = b; works = after_line; hands = []; rows = new }
+  after = node_of number b after_line left new
 
   listed : list_any (same_job job) (keys_of a.live) ≡ true
   listed = sym (is_some-lookup (same_job job) a.live) ∙ is_live
@@ -133,59 +183,81 @@ module _ (number : ℕ) (a b : Admissions) (line after_line : WorkLine) (job : J
   not_above : nat_le job.0 a.greatest ≡ true
   not_above = low_found a.greatest job (keys_of a.live) listed kept.within
 
-  row_view : (view : View) → Shows before job.0 view → IsRowView own_row line job.0 view
-  row_view view h = subst (IsViewBy a.greatest line job.0 view) found h.by_row
+  row_view : (view : View) → Shows before job.0 view → IsRowView own_row (beside_at before job.0) job.0 view
+  row_view view h = subst (IsViewBy a.greatest (beside_at before job.0) job.0 view) found h.by_row
 
-  shows_at : (q : ℕ) (view : View) → IsViewBy a.greatest after_line q view (lookup (same_job (record { 0 = q })) new) → Shows after q view
-  shows_at q view h = record { by_row = subst (λ (c : Admissions). IsViewBy c.greatest after_line q view (lookup (same_job (record { 0 = q })) new)) (sym is) h }
+  -- no hand is left of an object of the job
+  none_of_job : (id : ObjectId) → list_any (is_of id) left ≡ true → same_job job id.job ≡ true → false ≡ true
+  none_of_job id there same =
+      let jobs : id.job.0 ≡ job.0 = sym (eqb-true job.0 id.job.0 same) in
+      let gave : has_hand (given_by left job.0) id ≡ true = subst (λ n. has_hand (given_by left n) id ≡ true) jobs (own_gave left (left_are_hands test hands table) id there) in
+      ap (λ given. has_hand given id) (sym (none_given hands (bytes_here old) test table number job.0 ended (rest_of_job hands (bytes_here old) job.0))) ∙ gave
 
-  left_bare : (view : View) → IsRowView own_row line job.0 view → IsBare a.greatest after_line job.0 (view_step number view input.End).view
-  left_bare view r = record {
-    life = ended;
-    is = ap (λ w. (view_step number w input.End).view) (view_is own_row line job.0 view r) ∙ end_view number own_row line job.0 view.contents r.shown ∙ ap (λ n. bare n ended) r.own;
-    dead = refl;
-    fresh = λ above. absurd (grind (arith, nat_tests, not_above, above));
-    works = drops.own_works;
-    used = drops.own_used;
-  }
+  rows_other : (q : JobNo) → same_job job q ≡ false → lookup (same_job q) new ≡ lookup (same_job q) old
+  rows_other q e = updated q ∙ ap (λ t. cond t None (lookup (same_job q) old)) e
 
-  own_shows : (view : View) → Shows before job.0 view → Shows after job.0 (view_step number view input.End).view
-  own_shows view h =
-      shows_at job.0 _ (subst (IsViewBy a.greatest after_line job.0 (view_step number view input.End).view)
-      (sym (updated job ∙ ap (λ t. cond t None (lookup (same_job job) old)) (itself job))) (left_bare view (row_view view h)))
-
-  other_shows : (q : ℕ) (view : View) → (q == job.0) ≡ false → Shows before q view → Shows after q view
-  other_shows q view differ h =
-      shows_at q view (subst (IsViewBy a.greatest after_line q view)
-      (sym (updated (record { 0 = q }) ∙ ap (λ t. cond t None (lookup (same_job (record { 0 = q })) old)) (another job q differ)))
-      (other_view a.greatest line after_line q view (lookup (same_job (record { 0 = q })) old) (drops.others (record { 0 = q }) (not_same job q differ)) h.by_row))
-
-  views : (q : ℕ) (view : View) → Shows before q view → Shows after q (cond (q == job.0) (view_step number view input.End).view view)
-  views q view h = by (q == job.0) refl
+  bytes_left : (id : ObjectId) → list_any (is_of id) left ≡ true → bytes_here old id ≡ bytes_here new id
+  bytes_left id there = by (same_job job id.job) refl
     where
-      by : (t : Bool) → (q == job.0) ≡ t → Shows after q (cond t (view_step number view input.End).view view)
-      by true e =
-          let same = eqb-true q job.0 e in
-          subst (λ n. Shows after n (view_step number view input.End).view) (sym same) (own_shows view (subst (λ n. Shows before n view) same h))
-      by false e = other_shows q view e h
+      by : (t : Bool) → same_job job id.job ≡ t → bytes_here old id ≡ bytes_here new id
+      by true e = true_false (none_of_job id there e)
+      by false e = sym (ap (λ o. option_map_or (λ row. row_bytes row id) o []) (rows_other id.job e))
+
+  low : b.greatest ≡ a.greatest
+  low = ap (λ (c : Admissions). c.greatest) is
+
+  module _ (v : ℕ → View) (shows : ShowsAll before v) where
+    r : IsRowView own_row (beside_at before job.0) job.0 (v job.0)
+    r = row_view (v job.0) (shows job.0)
+
+    -- after the own step, before it is told of ends
+    left_bare : IsBare a.greatest (beside_rest after_line test hands (bytes_here old) job.0) job.0 (view_step number (v job.0) input.End).view
+    left_bare = record {
+      life = ended;
+      is = ap (λ w. (view_step number w input.End).view) (view_is own_row (beside_at before job.0) job.0 (v job.0) r)
+          ∙ end_view number own_row (beside_at before job.0) (v job.0).contents r.shown ∙ ap (λ n. bare n ended (beside_at before job.0)) r.own;
+      dead = refl;
+      fresh = λ above. absurd (grind (arith, nat_tests, not_above, above));
+      works = drops.own_works;
+      used = drops.own_used;
+      given = rest_of_job hands (bytes_here old) job.0;
+    }
+
+    own_left : IsViewBy a.greatest (beside_rest after_line test hands (bytes_here old) job.0) job.0 (view_step number (v job.0) input.End).view (lookup (same_job job) new)
+    own_left =
+        subst (IsViewBy a.greatest (beside_rest after_line test hands (bytes_here old) job.0) job.0 (view_step number (v job.0) input.End).view)
+        (sym (updated job ∙ ap (λ t. cond t None (lookup (same_job job) old)) (itself job))) left_bare
+
+    told_end : IsStepOf number (v job.0) input.End (record { reply = reply.Ok; posts = to_directory (EndJob number); erased = erased })
+    told_end =
+        subst (λ w. IsStepOf number w input.End (record { reply = reply.Ok; posts = to_directory (EndJob number); erased = erased }))
+        (sym (view_is own_row (beside_at before job.0) job.0 (v job.0) r)) (end_told number own_row (beside_at before job.0) (v job.0).contents r.shown erased keys)
+
+    no_works : (view_step number (v job.0) input.End).works ≡ []
+    no_works =
+        ap (λ w. (view_step number w input.End).works) (view_is own_row (beside_at before job.0) job.0 (v job.0) r)
+        ∙ end_works number own_row (beside_at before job.0) (v job.0).contents r.shown
 
   abbrev pub given : Given
-  given = record { reply = reply.Ok; posts = to_directory (EndJob number); erased = erased }
+  given = record { reply = reply.Ok; posts = to_directory (EndJob number); erased = erased; notes = map end_noted ended_hands }
 
-  pub end_steps : StepsOne before (event.JobEnd job) given after
+  pub end_steps : Steps before (Own (event.JobEnd job)) given after
   end_steps = record {
     number = refl;
-    views = λ v shows q. views q (v q) (shows q);
-    told = λ view h.
-        let r = row_view view h in
-        subst (λ w. IsStepOf number w input.End given) (sym (view_is own_row line job.0 view r)) (end_told number own_row line job.0 view.contents r.shown erased keys);
-    operator = sym (ap (λ t. answered (cond t None (Some NotAdmitted))) is_live);
-    by_views = λ v h. refl;
+    hands = refl;
     admissions = is;
     lives = lives;
-    line = λ v shows. drops.works;
-    none = refl;
-    none_new = refl;
+    each = λ v shows.
+        let told = told_end v shows in
+        record {
+          views = λ q. subst (Shows after q) (sym (ended_inputs number job.0 input.End ended_hands q (v q)))
+              (ended_shows number a b low line after_line hands table test job input.End old new (λ hand e. e) rows_other drops.others bytes_left v shows (own_left v shows) q);
+          told = record { reply = told.reply; posts = told.posts; erased = told.erased };
+          notes = ends_judged number v ended_hands;
+          operator = sym (ap (λ t. answered (cond t None (Some NotAdmitted))) is_live);
+          line = drops.works ∙ sym (append-nil (filter (λ work. not (is_of_line job work)) line.works))
+              ∙ ap (λ ws. filter (λ work. not (is_of_line job work)) line.works ++ queued job.0 ws) (sym (no_works v shows));
+        };
   }
 
 -- a live job has a row

@@ -6,6 +6,7 @@ use Rattle.std.specs.Option.{option_map_or}
 use Rattle.std.specs.Map.{lookup, set_value}
 use Rattle.std.proofs.lemmas.Map.Steps.{set_value_same}
 use Rattle.obj_id.specs.declared.ids.JobNo.{JobNo}
+use Rattle.obj_id.specs.declared.ids.ObjectId.{ObjectId}
 use Rattle.obj_id.specs.declared.refusals.Refusal.{Refusal}
 use Rattle.obj_id.specs.declared.refusals.Refusal.TheVariants.{Stale}
 use Rattle.obj_id.specs.declared.commands.Reply.TheVariants as reply
@@ -17,6 +18,7 @@ use Rattle.private_store.specs.declared.inputs.WorkVerdict.{WorkVerdict}
 use Rattle.private_store.specs.declared.inputs.WorkVerdict.TheVariants as work
 use Rattle.private_store.specs.declared.schedules.Event.{Event}
 use Rattle.private_store.specs.declared.schedules.Event.TheVariants as event
+use Rattle.private_store.specs.Hands.{Hand}
 use Rattle.private_store.specs.Jobs.{same_job}
 use Rattle.private_store.specs.Tables.{at}
 use Rattle.private_store.specs.Shape.{Copy, Shape, Change, WorkInFlight}
@@ -29,16 +31,17 @@ use Rattle.private_store.proofs.Tests.{true_false, none_some}
 use Rattle.spill_work.specs.declared.queue.Queued.{Queued}
 use Rattle.spill_work.specs.Line.{WorkLine, IsSameFor, same_job as same_line_job, shown, is_of, is_at, finish_check}
 use Rattle.job_admission.specs.Admissions.{Admissions}
-use Rattle.node_table.specs.Row.{Row, shape_of}
+use Rattle.grants.specs.Table.{AreHands}
+use Rattle.node_table.specs.Row.{Row, Beside, beside_of, shape_of}
 use Rattle.node_table.specs.Shown.{seen, IsShown, Given, only, TakesStep}
 use Rattle.node_table.proofs.Answering.{copy_at_work}
 use Rattle.node_table.proofs.CopyTables.{at-copies_found}
-use Rattle.node_core.specs.Hosted.{Hosted, IsRowView, IsBare, IsViewBy, Shows, ShowsAll, alone}
+use Rattle.node_core.specs.Hosted.{Hosted, IsRowView, IsBare, IsViewBy, Shows, ShowsAll, bytes_here, beside_at}
 use Rattle.node_core.specs.Judged.{if_ok}
 use Rattle.node_core.specs.OneJob.{IsGiven, input_of, view_by, StepsOne}
 use Rattle.node_core.specs.Steps.{is_taken, answered, stale_unless}
 use Rattle.node_core.proofs.Taking.{part, one_each}
-use Rattle.node_core.proofs.Views.{with_rows, with_all, view_is, views_stepped, told_stepped}
+use Rattle.node_core.proofs.Views.{node_of, view_is, views_stepped, told_stepped}
 
 -- ---- the line
 
@@ -168,7 +171,7 @@ same_view q job old view h = by (q == job)
     by true = h
     by false = h
 
-module _ (nodeno : ℕ) (a : Admissions) (line : WorkLine) (job : JobNo) (number : ℕ) (answer : DeviceAnswer) where
+module _ (nodeno : ℕ) (a : Admissions) (line : WorkLine) (hands : List Hand) (job : JobNo) (number : ℕ) (answer : DeviceAnswer) where
   abbrev x : Input
   x = input.Answer number answer
 
@@ -177,11 +180,11 @@ module _ (nodeno : ℕ) (a : Admissions) (line : WorkLine) (job : JobNo) (number
 
   module _ (rows : List (JobNo × Row)) (none : lookup (same_job job) rows ≡ None) where
     abbrev without : Hosted
-    without = with_rows nodeno a line job x rows
+    without = node_of nodeno a line hands rows
 
     none_at : (view : View) → Shows without job.0 view → is_taken line.works job.0 number ≡ false
     none_at view h =
-        let b : IsBare a.greatest line job.0 view = subst (IsViewBy a.greatest line job.0 view) none h.by_row in
+        let b : IsBare a.greatest (beside_at without job.0) job.0 view = subst (IsViewBy a.greatest (beside_at without job.0) job.0 view) none h.by_row in
         none_out job number line.works b.works
 
     pub stale_steps : StepsOne without e (only (reply.Refused Stale)) without
@@ -194,40 +197,45 @@ module _ (nodeno : ℕ) (a : Admissions) (line : WorkLine) (job : JobNo) (number
       admissions = refl;
       lives = refl;
       line = λ v shows. untaken_stay job number line.works (none_at (v job.0) (shows job.0));
-      none = refl;
-      none_new = refl;
+      hands = refl;
+      lasting = refl;
     }
 
   -- ---- a live job
 
   -- what is told of the row and the line, where the row's job is of this number
   pub record Finished (row after : Row) (works : WorkLine) (told : Given) (verdict : WorkVerdict) (n : ℕ) : Type 0 where
-    pub step : finish_check line (record { 0 = n }) number ≡ None → (contents : Contents) → IsShown row (alone line n) contents → TakesStep nodeno row (alone line n) contents x told after (alone works n)
-    pub judged : finish_check line (record { 0 = n }) number ≡ None → (contents : Contents) → IsShown row (alone line n) contents → verdict ≡ work_verdict (seen row (alone line n) contents) number answer
+    pub step : finish_check line (record { 0 = n }) number ≡ None → (bytes : ObjectId → List ℕ) (contents : Contents) → IsShown row (beside_of line hands bytes n) contents
+        → TakesStep nodeno row (beside_of line hands bytes n) contents x told after (beside_of works hands bytes n)
+    pub judged : finish_check line (record { 0 = n }) number ≡ None → (bytes : ObjectId → List ℕ) (contents : Contents) → IsShown row (beside_of line hands bytes n) contents
+        → verdict ≡ work_verdict (seen row (beside_of line hands bytes n) contents) number answer
     pub line_is : finish_check line (record { 0 = n }) number ≡ None → works ≡ record line { works = filter (λ work. not (is_at (record { 0 = n }) number work)) line.works }
     pub others : (other : JobNo) → same_line_job (record { 0 = n }) other ≡ false → IsSameFor other line works
     pub stale : (r : Refusal) → finish_check line (record { 0 = n }) number ≡ Some r → told ≡ only (reply.Refused Stale)
     pub same : (r : Refusal) → finish_check line (record { 0 = n }) number ≡ Some r → after ≡ row
     pub same_line : (r : Refusal) → finish_check line (record { 0 = n }) number ≡ Some r → works ≡ line
 
-  module _ (old new : List (JobNo × Row)) (row after : Row) (works : WorkLine) (told : Given) (verdict : WorkVerdict)
+  module _ (table : AreHands hands) (old new : List (JobNo × Row)) (row after : Row) (works : WorkLine) (told : Given) (verdict : WorkVerdict)
       (found : lookup (same_job job) old ≡ Some row)
       (updated : (q : JobNo) → lookup (same_job q) new ≡ cond (same_job job q) (Some after) (lookup (same_job q) old))
       (new_is : new ≡ set_value (same_job job) old after)
       (finished : Finished row after works told verdict row.job) where
     abbrev node_old : Hosted
-    node_old = with_rows nodeno a line job x old
+    node_old = node_of nodeno a line hands old
 
     abbrev node_new : Hosted
-    node_new = with_all nodeno a line job x new works
+    node_new = node_of nodeno a works hands new
+
+    abbrev beside : Beside
+    beside = beside_at node_old job.0
 
     abbrev taken : Bool
     taken = is_taken line.works job.0 number
 
     -- with the view of the job
     module _ (view : View) (h : Shows node_old job.0 view) where
-      r : IsRowView row line job.0 view
-      r = subst (IsViewBy a.greatest line job.0 view) found h.by_row
+      r : IsRowView row beside job.0 view
+      r = subst (IsViewBy a.greatest beside job.0 view) found h.by_row
 
       f : Finished row after works told verdict job.0
       f = subst (Finished row after works told verdict) r.own finished
@@ -246,18 +254,18 @@ module _ (nodeno : ℕ) (a : Admissions) (line : WorkLine) (job : JobNo) (number
 
       untouched : taken ≡ false → node_new ≡ node_old
       untouched is =
-          (λ i. with_all nodeno a line job x ((new_is ∙ ap (set_value (same_job job) old) (f.same Stale (failed is)) ∙ set_value_same (same_job job) old row found) i) (f.same_line Stale (failed is) i))
+          (λ i. node_of nodeno a (f.same_line Stale (failed is) i) hands ((new_is ∙ ap (set_value (same_job job) old) (f.same Stale (failed is)) ∙ set_value_same (same_job job) old row found) i))
 
-      step_ok : taken ≡ true → (view_step nodeno (seen row (alone line job.0) view.contents) x).reply ≡ reply.Ok
+      step_ok : taken ≡ true → (view_step nodeno (seen row beside view.contents) x).reply ≡ reply.Ok
       step_ok is =
           let w = check_passed job number (find (is_at job number) line.works) (passed is) in
           let flying = found_part job number line.works w.0 w.1 in
-          let k = copy_at_work row (alone line job.0) view.contents r.shown number (shown w.0.asked) flying in
-          ap (whole_reply (seen row (alone line job.0) view.contents) x)
-          (answer_ok (shape_of row (alone line job.0)) number (work_verdict (seen row (alone line job.0) view.contents) number answer) (shown w.0.asked) k.0.copy flying (at-copies_found row.copies w.0.asked.id k.0 k.1))
+          let k = copy_at_work row beside view.contents r.shown number (shown w.0.asked) flying in
+          ap (whole_reply (seen row beside view.contents) x)
+          (answer_ok (shape_of row beside) number (work_verdict (seen row beside view.contents) number answer) (shown w.0.asked) k.0.copy flying (at-copies_found row.copies w.0.asked.id k.0 k.1))
 
       told_ok : taken ≡ true → told.reply ≡ reply.Ok
-      told_ok is = (f.step (passed is) view.contents r.shown).reply ∙ step_ok is
+      told_ok is = (f.step (passed is) (bytes_here old) view.contents r.shown).reply ∙ step_ok is
 
       told_stale : taken ≡ false → told ≡ only (reply.Refused Stale)
       told_stale is = f.stale Stale (failed is)
@@ -275,7 +283,7 @@ module _ (nodeno : ℕ) (a : Admissions) (line : WorkLine) (job : JobNo) (number
           by : (t : Bool) → taken ≡ t → IsGiven nodeno view (input_of e told.reply) told
           by true is =
               subst (λ g. IsGiven nodeno view (input_of e g) told) (sym (told_ok is))
-              (told_stepped nodeno a line job x old new row after works told found updated (λ contents own shown. f.step (passed is) contents shown) f.others view h)
+              (told_stepped nodeno a a refl line works hands table job x old new row after told found updated (λ contents own shown. f.step (passed is) (bytes_here old) contents shown) f.others view h)
           by false is = subst (λ g. IsGiven nodeno view (input_of e g.reply) g) (sym (told_stale is)) (record { posts = refl; erased = refl })
 
       line_left : works.works ≡ filter (left_by job number) line.works
@@ -292,7 +300,7 @@ module _ (nodeno : ℕ) (a : Admissions) (line : WorkLine) (job : JobNo) (number
           by : (t : Bool) → taken ≡ t → option_map (judge nodeno view) (input_of e told.reply) ≡ if_ok told.reply (judged.Answer number verdict)
           by true is =
               subst (λ g. option_map (judge nodeno view) (input_of e g) ≡ if_ok g (judged.Answer number verdict)) (sym (told_ok is))
-              (ap (λ v. Some (judged.Answer number v)) (ap (λ v. work_verdict v number answer) (view_is row line job.0 view r) ∙ sym (f.judged (passed is) view.contents r.shown)))
+              (ap (λ v. Some (judged.Answer number v)) (ap (λ v. work_verdict v number answer) (view_is row beside job.0 view r) ∙ sym (f.judged (passed is) (bytes_here old) view.contents r.shown)))
           by false is = subst (λ g. option_map (judge nodeno view) (input_of e g.reply) ≡ if_ok g.reply (judged.Answer number verdict)) (sym (told_stale is)) refl
 
     views : (v : ℕ → View) → ShowsAll node_old v → (q : ℕ) → Shows node_new q (cond (q == job.0) (view_by nodeno (v q) (input_of e told.reply)) (v q))
@@ -305,7 +313,7 @@ module _ (nodeno : ℕ) (a : Admissions) (line : WorkLine) (job : JobNo) (number
         by true is =
             let f = f (v job.0) own in
             subst (λ g. Shows node_new q (cond (q == job.0) (view_by nodeno (v q) (input_of e g)) (v q))) (sym (told_ok (v job.0) own is))
-            (views_stepped nodeno a line job x old new row after works told found updated (λ contents at shown. f.step (passed (v job.0) own is) contents shown) f.others q (v q) (shows q))
+            (views_stepped nodeno a a refl line works hands table job x old new row after told found updated (λ contents at shown. f.step (passed (v job.0) own is) (bytes_here old) contents shown) f.others v shows q)
         by false is =
             subst (λ g. Shows node_new q (cond (q == job.0) (view_by nodeno (v q) (input_of e g.reply)) (v q))) (sym (told_stale (v job.0) own is))
             (subst (λ n. Shows n q (cond (q == job.0) (v q) (v q))) (sym (untouched (v job.0) own is)) (same_view q job.0 node_old (v q) (shows q)))
@@ -320,6 +328,6 @@ module _ (nodeno : ℕ) (a : Admissions) (line : WorkLine) (job : JobNo) (number
       admissions = refl;
       lives = refl;
       line = λ v shows. line_left (v job.0) (shows job.0);
-      none = refl;
-      none_new = refl;
+      hands = refl;
+      lasting = refl;
     }

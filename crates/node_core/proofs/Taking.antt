@@ -12,6 +12,7 @@ use Rattle.obj_id.specs.declared.works.Work.{Work}
 use Rattle.private_store.specs.declared.schedules.Event.TheVariants as event
 use Rattle.private_store.specs.Jobs.{same_job}
 use Rattle.private_store.specs.Contents.{Contents, View}
+use Rattle.private_store.specs.Hands.{Hand}
 use Rattle.private_store.specs.Shape.{WorkInFlight}
 use Rattle.private_store.proofs.KeptLists.{count-yes, count-no, some_counted, find-any}
 use Rattle.private_store.proofs.Tests.{some_value, none_some}
@@ -21,13 +22,14 @@ use Rattle.spill_work.specs.Line.{WorkLine, shown, is_of, is_at, used_by, front_
 use Rattle.job_admission.specs.Admissions.{Admissions}
 use Rattle.node_table.specs.Row.{Row, Beside}
 use Rattle.node_table.specs.Shown.{seen, only, IsShown}
-use Rattle.node_core.specs.Hosted.{Hosted, IsRowView, IsBare, IsViewBy, Shows, ShowsAll, alone}
+use Rattle.node_core.specs.Hosted.{Hosted, IsRowView, IsBare, IsViewBy, Shows, ShowsAll, bytes_here, beside_at}
 use Rattle.node_core.specs.OneJob.{StepsOne}
 use Rattle.node_table.proofs.Answering.{copy_at_work}
+use Rattle.node_table.proofs.Besides.{alike_bytes}
 use Rattle.node_table.proofs.Handing.{work_is}
 use Rattle.node_core.specs.Steps.{taken_if, work_given, work_of, take_told}
 use Rattle.node_core.proofs.Others.{other_view}
-use Rattle.node_core.proofs.Views.{view_is}
+use Rattle.node_core.proofs.Views.{node_of, view_is}
 
 -- ---- the line
 
@@ -125,9 +127,9 @@ front_found (w ∷ ws) asked front one = by w.taken front (is_of asked.job w) re
 
 -- ---- the step
 
-module _ (number : ℕ) (a : Admissions) (line : WorkLine) (rows : List (JobNo × Row)) where
+module _ (number : ℕ) (a : Admissions) (line : WorkLine) (hands : List Hand) (rows : List (JobNo × Row)) where
   abbrev pub at_line : WorkLine → Hosted
-  at_line works = record { number = number; admissions = a; works = works; hands = []; rows = rows }
+  at_line works = node_of number a works hands rows
 
   same_view : (q : ℕ) (view : View) → Shows (at_line line) q view → (told : Reply (List ℕ)) (new : Hosted) → Shows new q view → Shows new q (cond (q == 0) view view)
   same_view q view h told new shows = by (q == 0)
@@ -147,8 +149,8 @@ module _ (number : ℕ) (a : Admissions) (line : WorkLine) (rows : List (JobNo �
     admissions = refl;
     lives = refl;
     line = λ v shows. refl;
-    none = refl;
-    none_new = refl;
+    hands = refl;
+    lasting = refl;
   }
 
   module _ (asked : Asked) (front : front_of line.works ≡ Some asked) where
@@ -161,47 +163,54 @@ module _ (number : ℕ) (a : Admissions) (line : WorkLine) (rows : List (JobNo �
     -- a job without a row has no works
     pub no_row : lookup (same_job asked.job) rows ≡ None → (v : ℕ → View) → ShowsAll (at_line line) v → reply.NoWork ≡ take_told line.works v
     no_row none v shows =
-        let b : IsBare a.greatest line asked.job.0 (v asked.job.0) = subst (IsViewBy a.greatest line asked.job.0 (v asked.job.0)) none (shows asked.job.0).by_row in
+        let beside = beside_at (at_line line) asked.job.0 in
+        let b : IsBare a.greatest beside asked.job.0 (v asked.job.0) = subst (IsViewBy a.greatest beside asked.job.0 (v asked.job.0)) none (shows asked.job.0).by_row in
         front_told v None (sym (ap (work_of asked.job.0 asked.number) b.is))
 
     module _ (row : Row) (found : lookup (same_job asked.job) rows ≡ Some row) (o : Option (Work (List ℕ)))
         (given : (beside : Beside) (contents : Contents) → asked.job.0 ≡ row.job → IsShown row beside contents → find (λ w. w.number == asked.number) beside.works ≡ Some (shown asked) → o ≡ work_of row.job asked.number (seen row beside contents)) where
       pub told_is : (v : ℕ → View) → ShowsAll (at_line line) v → option_map_or reply.Work o reply.NoWork ≡ take_told line.works v
       told_is v shows =
-          let r : IsRowView row line asked.job.0 (v asked.job.0) = subst (IsViewBy a.greatest line asked.job.0 (v asked.job.0)) found (shows asked.job.0).by_row in
+          let beside = beside_at (at_line line) asked.job.0 in
+          let r : IsRowView row beside asked.job.0 (v asked.job.0) = subst (IsViewBy a.greatest beside asked.job.0 (v asked.job.0)) found (shows asked.job.0).by_row in
           front_told v o (
-          given (alone line asked.job.0) (v asked.job.0).contents (sym r.own) r.shown (front_found line.works asked front (r.shown.kept.kept.shape.one_number asked.number))
-          ∙ ap (λ job. work_of job asked.number (seen row (alone line asked.job.0) (v asked.job.0).contents)) r.own
-          ∙ ap (work_of asked.job.0 asked.number) (sym (view_is row line asked.job.0 (v asked.job.0) r)))
+          given beside (v asked.job.0).contents (sym r.own) r.shown (front_found line.works asked front (r.shown.kept.kept.shape.one_number asked.number))
+          ∙ ap (λ job. work_of job asked.number (seen row beside (v asked.job.0).contents)) r.own
+          ∙ ap (work_of asked.job.0 asked.number) (sym (view_is row beside asked.job.0 (v asked.job.0) r)))
 
       pub taken_so : (work : Work (List ℕ)) → o ≡ Some work → work.job ≡ asked.job → work.number ≡ asked.number → (after : WorkLine) → MarksTaken line asked.job asked.number after
           → StepsOne (at_line line) event.Take (only (reply.Work work)) (at_line after)
       taken_so work is of_job under after marks = record {
         number = refl;
         views = λ v shows q. same_view q (v q) (shows q) (reply.Work work) (at_line after)
-            (record { by_row = other_view a.greatest line after q (v q) (lookup (same_job (record { 0 = q })) rows) (record { works = marks.same (record { 0 = q }); used = ap (λ (l : WorkLine). used_by l (record { 0 = q })) marks.line }) (shows q).by_row });
+            (record {
+              by_row = other_view (beside_at (at_line line) q) (beside_at (at_line after) q)
+                  (alike_bytes (bytes_here rows) (bytes_here rows) line after hands q (record { works = marks.same (record { 0 = q }); used = ap (λ (l : WorkLine). used_by l (record { 0 = q })) marks.line }) (λ id there. refl))
+                  a.greatest q (v q) (lookup (same_job (record { 0 = q })) rows) (shows q).by_row;
+            });
         told = λ view h. record { posts = refl; erased = refl };
         operator = refl;
         by_views = λ v shows. sym (ap (λ o. option_map_or reply.Work o reply.NoWork) is) ∙ told_is v shows;
         admissions = refl;
         lives = refl;
         line = λ v shows. ap (λ (l : WorkLine). l.works) marks.line ∙ (λ i. marked (sym of_job i) (sym under i) line.works);
-        none = refl;
-        none_new = refl;
+        hands = refl;
+        lasting = refl;
       }
 
 -- the front of a job that has a row is given
 pub front_given : (node : Hosted) (asked : Asked) → front_of node.works.works ≡ Some asked → (row : Row) → lookup (same_job asked.job) node.rows ≡ Some row → (v : ℕ → View) → ShowsAll node v
     → (work : Work (List ℕ)) × (take_told node.works.works v ≡ reply.Work work)
 front_given node asked front row found v shows =
-    let r : IsRowView row node.works asked.job.0 (v asked.job.0) = subst (IsViewBy node.admissions.greatest node.works asked.job.0 (v asked.job.0)) found (shows asked.job.0).by_row in
+    let beside = beside_at node asked.job.0 in
+    let r : IsRowView row beside asked.job.0 (v asked.job.0) = subst (IsViewBy node.admissions.greatest beside asked.job.0 (v asked.job.0)) found (shows asked.job.0).by_row in
     let flying = front_found node.works.works asked front (r.shown.kept.kept.shape.one_number asked.number) in
-    let k = copy_at_work row (alone node.works asked.job.0) (v asked.job.0).contents r.shown asked.number (shown asked) flying in
-    let given = work_is row (alone node.works asked.job.0) (v asked.job.0).contents r.shown asked flying k.0 k.1 in
-    let work = work_given row.job (seen row (alone node.works asked.job.0) (v asked.job.0).contents) (shown asked) k.0.copy in (
+    let k = copy_at_work row beside (v asked.job.0).contents r.shown asked.number (shown asked) flying in
+    let given = work_is row beside (v asked.job.0).contents r.shown asked flying k.0 k.1 in
+    let work = work_given row.job (seen row beside (v asked.job.0).contents) (shown asked) k.0.copy in (
       work,
       ap (λ o. option_map_or (λ (asked : Asked). option_map_or reply.Work (work_of asked.job.0 asked.number (v asked.job.0)) reply.NoWork) o reply.NoWork) front
           ∙ ap (λ o. option_map_or reply.Work o reply.NoWork)
-          (ap (work_of asked.job.0 asked.number) (view_is row node.works asked.job.0 (v asked.job.0) r)
-          ∙ ap (λ job. work_of job asked.number (seen row (alone node.works asked.job.0) (v asked.job.0).contents)) (sym r.own) ∙ given),
+          (ap (work_of asked.job.0 asked.number) (view_is row beside asked.job.0 (v asked.job.0) r)
+          ∙ ap (λ job. work_of job asked.number (seen row beside (v asked.job.0).contents)) (sym r.own) ∙ given),
     )

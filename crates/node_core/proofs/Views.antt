@@ -1,9 +1,11 @@
 -- A step of one job changes the views of that job alone.
 use Rattle.std.proofs.Common.{◌≡◌, ℕ, ◌==◌, Bool, true, false, cond, not, List, [], Some, None, refl, sym, ap, subst, ◌∙◌, arith}
+use Rattle.std.specs.List.{list_any}
 use Rattle.std.specs.Map.{lookup}
 use Rattle.std.proofs.lemmas.Bool.{eqb-true}
 use Rattle.std.proofs.lemmas.Bool.Decides.{nat_tests}
 use Rattle.obj_id.specs.declared.ids.JobNo.{JobNo}
+use Rattle.obj_id.specs.declared.ids.ObjectId.{ObjectId}
 use Rattle.obj_id.specs.declared.commands.Command.{Command}
 use Rattle.obj_id.specs.declared.commands.Reply.TheVariants as reply
 use Rattle.obj_id.specs.declared.refusals.Refusal.{Refusal}
@@ -12,20 +14,24 @@ use Rattle.private_store.specs.declared.inputs.Input.{Input}
 use Rattle.private_store.specs.declared.inputs.Input.TheVariants as input
 use Rattle.private_store.specs.declared.schedules.Event.TheVariants as event
 use Rattle.private_store.specs.Jobs.{same_job}
-use Rattle.private_store.specs.Shape.{Life, Shape}
+use Rattle.private_store.specs.Hands.{Hand}
+use Rattle.private_store.specs.Shape.{Life, Shape, Seen}
 use Rattle.private_store.specs.Change.{refused, erasing}
 use Rattle.private_store.specs.Events.{is_live}
 use Rattle.private_store.specs.Step.{step, commanded}
-use Rattle.private_store.specs.Contents.{Contents, View, brief, judge}
+use Rattle.private_store.specs.Contents.{Contents, View, brief, judge, bytes_received, brought, kept}
 use Rattle.private_store.specs.Private.{view_step, outcome}
 use Rattle.private_store.proofs.Checks.{checked-true}
 use Rattle.spill_work.specs.Line.{WorkLine, IsSameFor, same_job as same_line_job}
 use Rattle.node_core.proofs.Others.{other_view, not_same}
 use Rattle.job_admission.specs.Admissions.{Admissions}
-use Rattle.node_table.specs.Row.{Row, shape_of}
+use Rattle.grants.specs.Table.{AreHands}
+use Rattle.node_table.specs.Row.{Row, Beside, beside_of, received_bytes, shape_of}
 use Rattle.node_table.specs.Shown.{seen, IsShown, Given, only, TakesStep}
-use Rattle.node_core.specs.Hosted.{Hosted, IsRowView, IsBare, IsViewBy, Shows, bare, bare_shape, alone}
-use Rattle.node_core.specs.Calls.{Obeys}
+use Rattle.node_table.proofs.Besides.{is_of, alike_bytes}
+use Rattle.node_table.proofs.Received.{kept_as_they_are}
+use Rattle.node_core.specs.Hosted.{Hosted, IsRowView, IsBare, IsViewBy, Shows, ShowsAll, bare, bare_shape, bytes_here, beside_at}
+use Rattle.node_core.proofs.Granted.{bytes_same}
 use Rattle.node_core.specs.OneJob.{IsStepOf, StepsOne}
 use Rattle.node_table.specs.Asked.{HasAsked}
 use Rattle.node_core.proofs.Lines.{asked_nothing}
@@ -37,82 +43,113 @@ itself job = grind (arith, nat_tests)
 pub another : (job : JobNo) (q : ℕ) → (q == job.0) ≡ false → same_job job (record { 0 = q }) ≡ false
 another job q e = grind (arith, nat_tests, e)
 
--- the view that a row and its works show
-pub view_is : (row : Row) (line : WorkLine) (job : ℕ) (view : View) → IsRowView row line job view → view ≡ seen row (alone line job) view.contents
-view_is row line job view h =
+-- the view that a row shows with what stands beside it
+pub view_is : (row : Row) (beside : Beside) (job : ℕ) (view : View) → IsRowView row beside job view → view ≡ seen row beside view.contents
+view_is row beside job view h =
     ap (λ s. record { shape = s; order = view.order; contents = view.contents }) h.shape
-    ∙ ap (λ ids. record { shape = shape_of row (alone line job); order = ids; contents = view.contents }) h.order
+    ∙ ap (λ ids. record { shape = shape_of row beside; order = ids; contents = view.contents }) h.order
 
-module _ (number : ℕ) (a : Admissions) (line : WorkLine) (job : JobNo) (x : Input) where
-  abbrev pub with_rows : List (JobNo × Row) → Hosted
-  with_rows rows = record { number = number; admissions = a; works = line; hands = []; rows = rows }
+abbrev pub node_of : ℕ → Admissions → WorkLine → List Hand → List (JobNo × Row) → Hosted
+node_of number a line hands rows = record { number = number; admissions = a; works = line; hands = hands; rows = rows }
 
-  abbrev pub with_all : List (JobNo × Row) → WorkLine → Hosted
-  with_all rows works = record { number = number; admissions = a; works = works; hands = []; rows = rows }
+-- ---- a row takes a step, and no hand changes
 
-  -- ---- on a live job
+-- the row and the line of works take the step, beside these hands where objects have these bytes
+abbrev pub Takes : ℕ → JobNo → Input → List Hand → (ObjectId → List ℕ) → Row → WorkLine → Given → Row → WorkLine → Type 0
+Takes number job x hands bytes row line told after works =
+    (contents : Contents) → row.job ≡ job.0 → IsShown row (beside_of line hands bytes job.0) contents
+    → TakesStep number row (beside_of line hands bytes job.0) contents x told after (beside_of works hands bytes job.0)
 
-  module _ (old new : List (JobNo × Row)) (row after : Row) (works : WorkLine) (told : Given)
-      (found : lookup (same_job job) old ≡ Some row)
-      (updated : (q : JobNo) → lookup (same_job q) new ≡ cond (same_job job q) (Some after) (lookup (same_job q) old))
-      (obeys : (contents : Contents) → row.job ≡ job.0 → IsShown row (alone line job.0) contents → TakesStep number row (alone line job.0) contents x told after (alone works job.0))
-      (others : (other : JobNo) → same_line_job job other ≡ false → IsSameFor other line works) where
-    row_view : (view : View) → Shows (with_rows old) job.0 view → IsRowView row line job.0 view
-    row_view view h = subst (IsViewBy a.greatest line job.0 view) found h.by_row
+module _ (number : ℕ) (a b : Admissions) (low : b.greatest ≡ a.greatest) (line works : WorkLine) (hands : List Hand) (table : AreHands hands) (job : JobNo) (x : Input)
+    (old new : List (JobNo × Row)) (row after : Row) (told : Given)
+    (found : lookup (same_job job) old ≡ Some row)
+    (updated : (q : JobNo) → lookup (same_job q) new ≡ cond (same_job job q) (Some after) (lookup (same_job q) old))
+    (obeys : Takes number job x hands (bytes_here old) row line told after works)
+    (others : (other : JobNo) → same_line_job job other ≡ false → IsSameFor other line works) where
+  abbrev at_old : Hosted
+  at_old = node_of number a line hands old
 
-    row_stepped : (view : View) → IsRowView row line job.0 view → IsRowView after works job.0 (view_step number view x).view
-    row_stepped view r =
-        let t = obeys view.contents r.own r.shown in
-        subst (λ v. IsRowView after works job.0 (view_step number v x).view) (sym (view_is row line job.0 view r)) (record {
-          own = sym (ap (λ s. s.job) t.shape) ∙ step_keeps_job row.order (shape_of row (alone line job.0)) (judge number (seen row (alone line job.0) view.contents) x) ∙ r.own;
-          shape = t.shape;
-          order = t.order;
-          shown = t.shown;
-        })
+  abbrev at_new : Hosted
+  at_new = node_of number b works hands new
 
-    told_step : (view : View) → IsRowView row line job.0 view → IsStepOf number view x told
-    told_step view r =
-        let t = obeys view.contents r.own r.shown in
-        subst (λ v. IsStepOf number v x told) (sym (view_is row line job.0 view r)) (record { reply = t.reply; posts = t.posts; erased = t.erased })
+  abbrev before : Beside
+  before = beside_at at_old job.0
 
-    own_shows : (view : View) → Shows (with_rows old) job.0 view → Shows (with_all new works) job.0 (view_step number view x).view
-    own_shows view h = record {
-      by_row = subst (IsViewBy a.greatest works job.0 (view_step number view x).view)
-          (sym (updated job ∙ ap (λ b. cond b (Some after) (lookup (same_job job) old)) (itself job))) (row_stepped view (row_view view h));
-    }
+  -- after the step, while objects have the bytes that they had
+  abbrev between : Beside
+  between = beside_of works hands (bytes_here old) job.0
 
-    other_shows : (q : ℕ) (view : View) → (q == job.0) ≡ false → Shows (with_rows old) q view → Shows (with_all new works) q view
-    other_shows q view differ h = record {
-      by_row = subst (IsViewBy a.greatest works q view)
-          (sym (updated (record { 0 = q }) ∙ ap (λ b. cond b (Some after) (lookup (same_job (record { 0 = q })) old)) (another job q differ))) (other_view a.greatest line works q view (lookup (same_job (record { 0 = q })) old) (others (record { 0 = q }) (not_same job q differ)) h.by_row);
-    }
+  row_view : (view : View) → Shows at_old job.0 view → IsRowView row before job.0 view
+  row_view view h = subst (IsViewBy a.greatest before job.0 view) found h.by_row
 
-    pub views_stepped : (q : ℕ) (view : View) → Shows (with_rows old) q view → Shows (with_all new works) q (cond (q == job.0) (view_step number view x).view view)
-    views_stepped q view h = by (q == job.0) refl
-      where
-        by : (b : Bool) → (q == job.0) ≡ b → Shows (with_all new works) q (cond b (view_step number view x).view view)
-        by true e =
-            let same = eqb-true q job.0 e in
-            subst (λ n. Shows (with_all new works) n (view_step number view x).view) (sym same) (own_shows view (subst (λ n. Shows (with_rows old) n view) same h))
-        by false e = other_shows q view e h
+  shows_at : (q : ℕ) (view : View) → IsViewBy a.greatest (beside_at at_new q) q view (lookup (same_job (record { 0 = q })) new) → Shows at_new q view
+  shows_at q view h = record { by_row = subst (λ g. IsViewBy g (beside_at at_new q) q view (lookup (same_job (record { 0 = q })) new)) (sym low) h }
 
-    pub told_stepped : (view : View) → Shows (with_rows old) job.0 view → IsStepOf number view x told
-    told_stepped view h = told_step view (row_view view h)
+  pub told_stepped : (view : View) → Shows at_old job.0 view → IsStepOf number view x told
+  told_stepped view h =
+      let r = row_view view h in
+      let t = obeys view.contents r.own r.shown in
+      subst (λ v. IsStepOf number v x told) (sym (view_is row before job.0 view r)) (record { reply = t.reply; posts = t.posts; erased = t.erased })
 
-  -- ---- on a job that isn't live
+  module _ (own : View) (h : Shows at_old job.0 own) where
+    r : IsRowView row before job.0 own
+    r = row_view own h
 
-  module _ (life : Life) (refusal : Refusal) (is_refused : step [] (bare_shape job.0 life) (judge number (bare job.0 life) x) ≡ refused (bare_shape job.0 life) refusal) where
+    t : TakesStep number row before own.contents x told after between
+    t = obeys own.contents r.own r.shown
+
+    own_after : after.job ≡ job.0
+    own_after = sym (ap (λ s. s.job) t.shape) ∙ step_keeps_job row.order (shape_of row before) (judge number (seen row before own.contents) x) ∙ r.own
+
+    same_bytes : (id : ObjectId) → list_any (is_of id) hands ≡ true → bytes_here old id ≡ bytes_here new id
+    same_bytes = bytes_same hands table number line works (bytes_here old) job old new row after own.contents x told found updated r.own own_after r.shown t
+
+    row_stepped : IsRowView after between job.0 (view_step number own x).view
+    row_stepped =
+        subst (λ v. IsRowView after between job.0 (view_step number v x).view) (sym (view_is row before job.0 own r))
+        (record { own = own_after; shape = t.shape; order = t.order; shown = t.shown })
+
+    own_shows : Shows at_new job.0 (view_step number own x).view
+    own_shows =
+        shows_at job.0 (view_step number own x).view
+        (other_view between (beside_at at_new job.0) (alike_bytes (bytes_here old) (bytes_here new) works works hands job.0 (record { works = refl; used = refl }) same_bytes)
+        a.greatest job.0 (view_step number own x).view (lookup (same_job job) new)
+        (subst (IsViewBy a.greatest between job.0 (view_step number own x).view)
+        (sym (updated job ∙ ap (λ b. cond b (Some after) (lookup (same_job job) old)) (itself job))) row_stepped))
+
+    other_shows : (q : ℕ) (view : View) → (q == job.0) ≡ false → Shows at_old q view → Shows at_new q view
+    other_shows q view differ shown =
+        shows_at q view
+        (other_view (beside_at at_old q) (beside_at at_new q) (alike_bytes (bytes_here old) (bytes_here new) line works hands q (others (record { 0 = q }) (not_same job q differ)) same_bytes)
+        a.greatest q view (lookup (same_job (record { 0 = q })) new)
+        (subst (IsViewBy a.greatest (beside_at at_old q) q view)
+        (sym (updated (record { 0 = q }) ∙ ap (λ b. cond b (Some after) (lookup (same_job (record { 0 = q })) old)) (another job q differ))) shown.by_row))
+
+  pub views_stepped : (v : ℕ → View) → ShowsAll at_old v → (q : ℕ) → Shows at_new q (cond (q == job.0) (view_step number (v q) x).view (v q))
+  views_stepped v shows q = by (q == job.0) refl
+    where
+      by : (b : Bool) → (q == job.0) ≡ b → Shows at_new q (cond b (view_step number (v q) x).view (v q))
+      by true e = subst (λ n. Shows at_new n (view_step number (v n) x).view) (sym (eqb-true q job.0 e)) (own_shows (v job.0) (shows job.0))
+      by false e = other_shows (v job.0) (shows job.0) q (v q) e (shows q)
+
+-- ---- on a job that isn't live
+
+module _ (number : ℕ) (a : Admissions) (line : WorkLine) (hands : List Hand) (job : JobNo) (x : Input) (quiet : bytes_received x ≡ None) where
+  module _ (life : Life) (beside : Beside) (refusal : Refusal) (is_refused : step [] (bare_shape job.0 life beside) (judge number (bare job.0 life beside) x) ≡ refused (bare_shape job.0 life beside) refusal) where
     abbrev s : Shape
-    s = bare_shape job.0 life
+    s = bare_shape job.0 life beside
 
     abbrev v : View
-    v = bare job.0 life
+    v = bare job.0 life beside
 
     refused_step : view_step number v x ≡ outcome number v x (judge number v x) (refused s refusal)
     refused_step = ap (outcome number v x (judge number v x)) is_refused
 
+    received_stays : kept (λ seen. true) (λ seen. []) (brought (received_bytes beside) (bytes_received x)) beside.received ≡ received_bytes beside
+    received_stays = ap (λ o. kept (λ (seen : Seen). true) (λ seen. []) (brought (received_bytes beside) o) beside.received) quiet ∙ kept_as_they_are beside.bytes beside.received
+
     pub bare_stays : (view_step number v x).view ≡ v
-    bare_stays = ap (λ o. o.view) refused_step
+    bare_stays = ap (λ o. o.view) refused_step ∙ ap (λ t. record { shape = s; order = []; contents = record { bytes = []; digests = []; received = t } }) received_stays
 
     pub bare_told : IsStepOf number v x (only (reply.Refused refusal))
     bare_told = record {
@@ -123,68 +160,74 @@ module _ (number : ℕ) (a : Admissions) (line : WorkLine) (job : JobNo) (x : In
 
   -- whatever of it was not begun or has ended
   abbrev pub Refuses : Refusal → Type 0
-  Refuses refusal = (life : Life) → is_live (bare_shape job.0 life) ≡ false → step [] (bare_shape job.0 life) (judge number (bare job.0 life) x) ≡ refused (bare_shape job.0 life) refusal
+  Refuses refusal =
+      (life : Life) (beside : Beside) → is_live (bare_shape job.0 life beside) ≡ false
+      → step [] (bare_shape job.0 life beside) (judge number (bare job.0 life beside) x) ≡ refused (bare_shape job.0 life beside) refusal
 
   module _ (rows : List (JobNo × Row)) (none : lookup (same_job job) rows ≡ None) (refusal : Refusal) (refuses : Refuses refusal) where
-    no_row : (view : View) → Shows (with_rows rows) job.0 view → IsBare a.greatest line job.0 view
-    no_row view h = subst (IsViewBy a.greatest line job.0 view) none h.by_row
+    abbrev node : Hosted
+    node = node_of number a line hands rows
 
-    stays_bare : (view : View) → IsBare a.greatest line job.0 view → (view_step number view x).view ≡ view
-    stays_bare view b = ap (λ w. (view_step number w x).view) b.is ∙ bare_stays b.life refusal (refuses b.life b.dead) ∙ sym b.is
+    no_row : (view : View) → Shows node job.0 view → IsBare a.greatest (beside_at node job.0) job.0 view
+    no_row view h = subst (IsViewBy a.greatest (beside_at node job.0) job.0 view) none h.by_row
 
-    pub views_same : (q : ℕ) (view : View) → Shows (with_rows rows) q view → Shows (with_rows rows) q (cond (q == job.0) (view_step number view x).view view)
+    stays_bare : (view : View) → IsBare a.greatest (beside_at node job.0) job.0 view → (view_step number view x).view ≡ view
+    stays_bare view b =
+        ap (λ w. (view_step number w x).view) b.is ∙ bare_stays b.life (beside_at node job.0) refusal (refuses b.life (beside_at node job.0) b.dead) ∙ sym b.is
+
+    pub views_same : (q : ℕ) (view : View) → Shows node q view → Shows node q (cond (q == job.0) (view_step number view x).view view)
     views_same q view h = by (q == job.0) refl
       where
-        by : (b : Bool) → (q == job.0) ≡ b → Shows (with_rows rows) q (cond b (view_step number view x).view view)
+        by : (b : Bool) → (q == job.0) ≡ b → Shows node q (cond b (view_step number view x).view view)
         by true e =
             let same = eqb-true q job.0 e in
-            subst (Shows (with_rows rows) q) (sym (stays_bare view (no_row view (subst (λ n. Shows (with_rows rows) n view) same h)))) h
+            subst (Shows node q) (sym (stays_bare view (no_row view (subst (λ n. Shows node n view) same h)))) h
         by false e = h
 
-    pub told_refused : (view : View) → Shows (with_rows rows) job.0 view → IsStepOf number view x (only (reply.Refused refusal))
+    pub told_refused : (view : View) → Shows node job.0 view → IsStepOf number view x (only (reply.Refused refusal))
     told_refused view h =
         let b = no_row view h in
-        subst (λ w. IsStepOf number w x (only (reply.Refused refusal))) (sym b.is) (bare_told b.life refusal (refuses b.life b.dead))
+        subst (λ w. IsStepOf number w x (only (reply.Refused refusal))) (sym b.is) (bare_told b.life (beside_at node job.0) refusal (refuses b.life (beside_at node job.0) b.dead))
 
 -- ---- a command
 
-module _ (number : ℕ) (a : Admissions) (line : WorkLine) (job : JobNo) (session : ℕ) (c : Command (List ℕ)) where
-  module _ (old new : List (JobNo × Row)) (row after : Row) (works : WorkLine) (told : Given)
+module _ (number : ℕ) (a : Admissions) (line : WorkLine) (hands : List Hand) (job : JobNo) (session : ℕ) (c : Command (List ℕ)) where
+  module _ (table : AreHands hands) (old new : List (JobNo × Row)) (row after : Row) (works : WorkLine) (told : Given)
       (found : lookup (same_job job) old ≡ Some row)
       (updated : (q : JobNo) → lookup (same_job q) new ≡ cond (same_job job q) (Some after) (lookup (same_job q) old))
       (line_after : HasAsked line job works)
-      (obeys : Obeys number job.0 row line session c told after works)
+      (obeys : Takes number job (input.Call session c) hands (bytes_here old) row line told after works)
       (others : (other : JobNo) → same_line_job job other ≡ false → IsSameFor other line works) where
-    pub call_steps : StepsOne (with_rows number a line job (input.Call session c) old) (event.Call job session c) told (with_all number a line job (input.Call session c) new works)
+    pub call_steps : StepsOne (node_of number a line hands old) (event.Call job session c) told (node_of number a works hands new)
     call_steps = record {
       number = refl;
-      views = λ v shows q. views_stepped number a line job (input.Call session c) old new row after works told found updated obeys others q (v q) (shows q);
-      told = told_stepped number a line job (input.Call session c) old new row after works told found updated obeys others;
+      views = views_stepped number a a refl line works hands table job (input.Call session c) old new row after told found updated obeys others;
+      told = told_stepped number a a refl line works hands table job (input.Call session c) old new row after told found updated obeys others;
       operator = refl;
       by_views = λ v h. refl;
       admissions = refl;
       lives = refl;
       line = λ v shows. line_after;
-      none = refl;
-      none_new = refl;
+      hands = refl;
+      lasting = refl;
     }
 
-  call_refuses : Refuses number a line job (input.Call session c) NotAdmitted
-  call_refuses life dead =
-      let s = bare_shape job.0 life in
+  pub call_refuses : Refuses number a line hands job (input.Call session c) refl NotAdmitted
+  call_refuses life beside dead =
+      let s = bare_shape job.0 life beside in
       checked-true s (not (is_live s)) NotAdmitted [] (erasing s (commanded [] s session (brief c))) (ap not dead)
 
   module _ (rows : List (JobNo × Row)) (none : lookup (same_job job) rows ≡ None) where
-    pub refused_steps : StepsOne (with_rows number a line job (input.Call session c) rows) (event.Call job session c) (only (reply.Refused NotAdmitted)) (with_rows number a line job (input.Call session c) rows)
+    pub refused_steps : StepsOne (node_of number a line hands rows) (event.Call job session c) (only (reply.Refused NotAdmitted)) (node_of number a line hands rows)
     refused_steps = record {
       number = refl;
-      views = λ v shows q. views_same number a line job (input.Call session c) rows none NotAdmitted call_refuses q (v q) (shows q);
-      told = told_refused number a line job (input.Call session c) rows none NotAdmitted call_refuses;
+      views = λ v shows q. views_same number a line hands job (input.Call session c) refl rows none NotAdmitted call_refuses q (v q) (shows q);
+      told = told_refused number a line hands job (input.Call session c) refl rows none NotAdmitted call_refuses;
       operator = refl;
       by_views = λ v h. refl;
       admissions = refl;
       lives = refl;
       line = λ v shows. asked_nothing line job;
-      none = refl;
-      none_new = refl;
+      hands = refl;
+      lasting = refl;
     }

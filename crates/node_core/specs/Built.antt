@@ -4,9 +4,6 @@ use Rattle.obj_id.specs.declared.commands.Command.{Command}
 use Rattle.obj_id.specs.declared.commands.Command.TheVariants as command
 use Rattle.private_store.specs.declared.schedules.Event.{Event}
 use Rattle.private_store.specs.declared.schedules.Event.TheVariants as event
-use Rattle.obj_id.specs.declared.messages.Arrival.{Arrival}
-use Rattle.obj_id.specs.declared.messages.Arrival.TheVariants as arrival
-use Rattle.obj_id.specs.declared.messages.PeerMessage.TheVariants as peer
 
 -- the commands that are built
 abbrev pub is_built_command : Command (List ℕ) → Bool
@@ -20,15 +17,11 @@ is_built_command (command.Unpin id task) = true
 is_built_command (command.Borrow id task) = true
 is_built_command (command.GiveUp id task) = true
 is_built_command (command.Delete id) = true
+is_built_command (command.Peek id offset n) = true
 is_built_command command.List = true
 is_built_command command.Usage = true
 is_built_command command.Leave = true
 is_built_command _ = false
-
--- the arrivals that are built
-abbrev pub is_built_arrival : Arrival → Bool
-is_built_arrival (arrival.FromPeer from (peer.Pull id number n digest indexes)) = false
-is_built_arrival _ = true
 
 -- the events that are built
 abbrev pub is_built : Event → Bool

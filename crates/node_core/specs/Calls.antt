@@ -1,17 +1,19 @@
 -- What a command is to the job of its session.
 use Rattle.std.specs.Prelude.{◌≡◌, ℕ, ◌==◌, Bool, true, false, List, Option}
 use Rattle.std.specs.Option.{option_map_or}
+use Rattle.obj_id.specs.declared.ids.ObjectId.{ObjectId}
 use Rattle.obj_id.specs.declared.commands.Command.{Command}
 use Rattle.obj_id.specs.declared.commands.Command.TheVariants as command
 use Rattle.private_store.specs.declared.inputs.Input.TheVariants as input
 use Rattle.private_store.specs.declared.schedules.Event.{Event}
 use Rattle.private_store.specs.declared.schedules.Event.TheVariants as event
 use Rattle.private_store.specs.Contents.{Contents}
+use Rattle.private_store.specs.Hands.{Hand}
 use Rattle.spill_work.specs.Line.{WorkLine}
-use Rattle.node_table.specs.Row.{Row}
+use Rattle.node_table.specs.Row.{Row, beside_of}
 use Rattle.node_table.specs.Shown.{IsShown, Given, TakesStep}
 use Rattle.node_table.specs.Usages.{total, doomed_one}
-use Rattle.node_core.specs.Hosted.{Hosted, row_at, alone}
+use Rattle.node_core.specs.Hosted.{Hosted, row_at}
 
 -- whether the object that the command names, if it must name an own one, is the job's
 abbrev pub is_own : ℕ → Command (List ℕ) → Bool
@@ -27,10 +29,27 @@ is_own job (command.GiveUp id task) = id.job.0 == job
 is_own job (command.Delete id) = id.job.0 == job
 is_own job _ = true
 
--- the job's row and works take the command's step, whatever contents it shows
+-- the commands that a row carries out, with the line of works
+abbrev pub is_of_row : Command (List ℕ) → Bool
+is_of_row (command.Create id kind n) = true
+is_of_row (command.Write id offset bytes) = true
+is_of_row (command.Seal id) = true
+is_of_row (command.Get id) = true
+is_of_row (command.Read id offset n) = true
+is_of_row (command.Release id) = true
+is_of_row (command.Unpin id task) = true
+is_of_row (command.Borrow id task) = true
+is_of_row (command.GiveUp id task) = true
+is_of_row (command.Delete id) = true
+is_of_row command.Usage = true
+is_of_row command.Leave = true
+is_of_row _ = false
+
+-- the job's row and works take the command's step, whatever hands stand and contents it shows
 abbrev pub Obeys : ℕ → ℕ → Row → WorkLine → ℕ → Command (List ℕ) → Given → Row → WorkLine → Type 0
 Obeys node job old line session c told new after =
-    (contents : Contents) → old.job ≡ job → IsShown old (alone line job) contents → TakesStep node old (alone line job) contents (input.Call session c) told new (alone after job)
+    (hands : List Hand) (bytes : ObjectId → List ℕ) (contents : Contents) → old.job ≡ job → IsShown old (beside_of line hands bytes job) contents
+    → TakesStep node old (beside_of line hands bytes job) contents (input.Call session c) told new (beside_of after hands bytes job)
 
 -- a command that takes no memory of a job with this row, or none, and so is never refused for it: Leave takes some
 -- where a copy is doomed

@@ -1,10 +1,18 @@
--- What is known of an event before it is taken: how many messages it sends at most.
-use Rattle.std.specs.Prelude.{ℕ, ◌+◌, List, length, Option}
+-- What is known of an event before it is taken: how many messages it sends at most, and whom it may tell of hands.
+use Rattle.std.specs.Prelude.{◌≡◌, ℕ, ◌+◌, List, [], ◌∷◌, length, map, Option}
 use Rattle.std.specs.Option.{option_map_or}
+use Rattle.obj_id.specs.declared.ids.JobNo.{JobNo}
 use Rattle.obj_id.specs.declared.commands.Command.{Command}
 use Rattle.obj_id.specs.declared.commands.Command.TheVariants as command
+use Rattle.obj_id.specs.declared.messages.Arrival.{Arrival}
+use Rattle.obj_id.specs.declared.messages.Arrival.TheVariants as arrival
+use Rattle.obj_id.specs.declared.messages.PeerMessage.TheVariants as peer
+use Rattle.obj_id.specs.declared.commands.Reply.{Reply}
+use Rattle.obj_id.specs.declared.commands.Reply.TheVariants as reply
 use Rattle.private_store.specs.declared.schedules.Event.{Event}
 use Rattle.private_store.specs.declared.schedules.Event.TheVariants as event
+use Rattle.private_store.specs.Hands.{Hand, hands_ended}
+use Rattle.private_store.specs.Trace.{ends}
 use Rattle.node_table.specs.Row.{Row}
 use Rattle.node_core.specs.Hosted.{Hosted, row_at}
 
@@ -24,3 +32,25 @@ abbrev pub most_messages : Hosted → Event → ℕ
 most_messages node (event.JobEnd job) = 1
 most_messages node (event.Call job session c) = most_by_command (row_at node job) c
 most_messages node _ = 0
+
+-- the most messages that an arrival for a job with this row, or none, sends: a Pull is sent the chunks that it asks for, or
+-- makes room for bytes that are read back, for which each copy may be evicted
+abbrev pub most_by_arrival : Option Row → Arrival → ℕ
+most_by_arrival own (arrival.Located id number entries) = 0
+most_by_arrival own (arrival.FromPeer from (peer.Pull id number n digest indexes)) = option_map_or (λ row. length row.copies + length indexes + 1) own 0
+most_by_arrival own (arrival.FromPeer from (peer.Chunk id number index bytes)) = option_map_or (λ row. 1) own 0
+most_by_arrival own (arrival.FromPeer from (peer.NotHere id number)) = option_map_or (λ row. 1) own 0
+
+-- of hands, those to whom they were given
+abbrev pub takers_told : List Hand → List JobNo
+takers_told hands = map (λ hand. record { 0 = hand.taker }) hands
+
+-- the jobs that the event tells of hands if it is accepted, one for each note, in their order
+abbrev pub takers_of : List Hand → Event → List JobNo
+takers_of hands (event.Call job session (command.Grant id target)) = target ∷ []
+takers_of hands e = option_map_or (λ test. takers_told (hands_ended test hands)) (ends e) []
+
+-- these are the jobs that it told
+abbrev pub AreTakers : List Hand → Event → Reply (List ℕ) → List JobNo → Type 0
+AreTakers hands e reply.Ok takers = takers ≡ takers_of hands e
+AreTakers hands e _ takers = takers ≡ []

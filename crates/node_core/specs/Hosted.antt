@@ -2,16 +2,20 @@
 use Rattle.std.specs.Prelude.{◌≡◌, ℕ, ◌<◌, nat_le, true, false, List, [], Option, Some, None}
 use Rattle.std.specs.List.{list_all}
 use Rattle.std.specs.Map.{keys_of, lookup}
+use Rattle.std.specs.Option.{option_map_or}
 use Rattle.obj_id.specs.declared.ids.JobNo.{JobNo}
+use Rattle.obj_id.specs.declared.ids.ObjectId.{ObjectId}
 use Rattle.private_store.specs.Jobs.{same_job}
 use Rattle.private_store.specs.Shape.{Life, Shape, not_begun, unbegun}
 use Rattle.private_store.specs.Events.{is_live}
 use Rattle.private_store.specs.Contents.{View}
 use Rattle.private_store.specs.Hands.{Hand}
 use Rattle.private_store.specs.Private.{no_contents}
-use Rattle.spill_work.specs.Line.{WorkLine, works_of, used_by}
+use Rattle.spill_work.specs.Line.{WorkLine}
+use Rattle.grants.specs.Table.{AreHands}
 use Rattle.job_admission.specs.Admissions.{Admissions}
-use Rattle.node_table.specs.Row.{Row, Beside, beside_of, shape_of}
+use Rattle.node_table.specs.Granting.{row_bytes}
+use Rattle.node_table.specs.Row.{Row, Beside, beside_of, received_bytes, shape_of}
 use Rattle.node_table.specs.Shown.{IsShown}
 
 pub record Hosted : Type 0 where
@@ -34,45 +38,57 @@ pub record AreHosted (a : Admissions) (rows : List (JobNo × Row)) : Type 0 wher
   pub jobs : keys_of rows ≡ keys_of a.live
   pub within : list_all (λ job. nat_le job.0 a.greatest) (keys_of a.live) ≡ true
 
+-- what is so of every node: its hands are a table
+pub record IsHosted (a : Admissions) (hands : List Hand) (rows : List (JobNo × Row)) : Type 0 where
+  pub jobs : AreHosted a rows
+  pub table : AreHands hands
+
+-- ---- bytes
+
+-- of an object, by the row of its own job, at a node with these rows
+abbrev pub bytes_here : List (JobNo × Row) → ObjectId → List ℕ
+bytes_here rows id = option_map_or (λ row. row_bytes row id) (lookup (same_job id.job) rows) []
+
 -- ---- views
 
--- what a row is shown beside at a node where no hand stands
-abbrev pub alone : WorkLine → ℕ → Beside
-alone line job = beside_of line [] (λ id. []) job
+-- what a job's row is shown beside
+abbrev pub beside_at : Hosted → ℕ → Beside
+beside_at node job = beside_of node.works node.hands (bytes_here node.rows) job
 
--- the row and the works of a live job show the view
-pub record IsRowView (row : Row) (line : WorkLine) (job : ℕ) (view : View) : Type 0 where
+-- the row and what stands beside it show the view of a live job
+pub record IsRowView (row : Row) (beside : Beside) (job : ℕ) (view : View) : Type 0 where
   pub own : row.job ≡ job
-  pub shape : view.shape ≡ shape_of row (alone line job)
+  pub shape : view.shape ≡ shape_of row beside
   pub order : view.order ≡ row.order
-  pub shown : IsShown row (alone line job) view.contents
+  pub shown : IsShown row beside view.contents
 
--- a store with nothing in it
-abbrev pub bare_shape : ℕ → Life → Shape
-bare_shape job life = record (unbegun job) { life = life }
+-- a store with nothing but what others granted
+abbrev pub bare_shape : ℕ → Life → Beside → Shape
+bare_shape job life beside = record (unbegun job) { life = life; received = beside.received }
 
-abbrev pub bare : ℕ → Life → View
-bare job life = record { shape = bare_shape job life; order = []; contents = no_contents }
+abbrev pub bare : ℕ → Life → Beside → View
+bare job life beside = record { shape = bare_shape job life beside; order = []; contents = record no_contents { received = received_bytes beside } }
 
--- a job that isn't live has a store that isn't, with nothing in it
-pub record IsBare (greatest : ℕ) (line : WorkLine) (job : ℕ) (view : View) : Type 0 where
+-- a job that isn't live has a store that isn't, with nothing but what others granted
+pub record IsBare (greatest : ℕ) (beside : Beside) (job : ℕ) (view : View) : Type 0 where
   pub life : Life
-  pub is : view ≡ bare job life
-  pub dead : is_live (bare_shape job life) ≡ false
+  pub is : view ≡ bare job life beside
+  pub dead : is_live (bare_shape job life beside) ≡ false
   -- one whose number is above all that were admitted here has not begun
   pub fresh : greatest < job → life ≡ not_begun
-  -- and the line has no work of it
-  pub works : works_of line (record { 0 = job }) ≡ []
-  pub used : used_by line (record { 0 = job }) ≡ 0
+  -- and the line has no work of it, and no hand is its gift
+  pub works : beside.works ≡ []
+  pub used : beside.used ≡ 0
+  pub given : beside.given ≡ []
 
 -- the view of a job that has this row, or none
-abbrev pub IsViewBy : ℕ → WorkLine → ℕ → View → Option Row → Type 0
-IsViewBy greatest line job view (Some row) = IsRowView row line job view
-IsViewBy greatest line job view None = IsBare greatest line job view
+abbrev pub IsViewBy : ℕ → Beside → ℕ → View → Option Row → Type 0
+IsViewBy greatest beside job view (Some row) = IsRowView row beside job view
+IsViewBy greatest beside job view None = IsBare greatest beside job view
 
 -- the node shows this view of the job
 pub record Shows (node : Hosted) (job : ℕ) (view : View) : Type 0 where
-  pub by_row : IsViewBy node.admissions.greatest node.works job view (row_at node (record { 0 = job }))
+  pub by_row : IsViewBy node.admissions.greatest (beside_at node job) job view (row_at node (record { 0 = job }))
 
 -- and one of each job
 abbrev pub ShowsAll : Hosted → (ℕ → View) → Type 0

@@ -1,5 +1,5 @@
--- What an event was to its own job, without contents.
-use Rattle.std.specs.Prelude.{◌≡◌, List, ℕ, Bool, true, false, Option, Some, None, option_map}
+-- What an event was to its own job, without contents, and which replies have a frame.
+use Rattle.std.specs.Prelude.{◌≡◌, List, ℕ, Bool, true, false, Option, Some, None, is_some, option_map}
 use Rattle.obj_id.specs.declared.commands.Reply.{Reply}
 use Rattle.obj_id.specs.declared.commands.Reply.TheVariants as reply
 use Rattle.private_store.specs.declared.inputs.Judged.{Judged}
@@ -7,7 +7,8 @@ use Rattle.private_store.specs.declared.inputs.Judged.TheVariants as judged
 use Rattle.private_store.specs.declared.schedules.Event.{Event}
 use Rattle.private_store.specs.declared.schedules.Event.TheVariants as event
 use Rattle.private_store.specs.Contents.{View, brief, judge}
-use Rattle.node_core.specs.Hosted.{Hosted, Shows}
+use Rattle.private_store.specs.Answers.{is_small_reply, AreGrantedWithin}
+use Rattle.node_core.specs.Hosted.{Hosted, Shows, ShowsAll, row_at}
 use Rattle.node_core.specs.OneJob.{input_of}
 use Rattle.node_core.specs.Steps.{job_of_event}
 
@@ -20,6 +21,11 @@ if_ok _ x = None
 abbrev pub is_finish : Event → Bool
 is_finish (event.Finish job number a) = true
 is_finish _ = false
+
+-- whether it is the end of a job, which those are told of as well to whom the job granted objects
+abbrev pub is_job_end : Event → Bool
+is_job_end (event.JobEnd job) = true
+is_job_end _ = false
 
 -- what an event with this answer was, if it is no Finish
 abbrev pub judged_as : Event → Reply (List ℕ) → Option Judged
@@ -38,3 +44,17 @@ IsCallJudged _ was = was ≡ was
 pub record IsJudged (old : Hosted) (e : Event) (told : Reply (List ℕ)) (was : Option Judged) : Type 0 where
   pub by_view : (view : View) → Shows old (job_of_event e) view → option_map (judge old.number view) (input_of e told) ≡ was
   pub by_call : IsCallJudged e was
+
+-- ---- small enough for a frame
+
+-- what others granted to a live job is no more than a frame has room for
+abbrev pub SeesFew : Hosted → Type 0
+SeesFew node = (v : ℕ → View) → ShowsAll node v → (job : ℕ) → is_some (row_at node (record { 0 = job })) ≡ true → AreGrantedWithin (v job).shape.received
+
+abbrev pub IsSmallCall : Event → Reply (List ℕ) → Type 0
+IsSmallCall (event.Call job session c) told = is_small_reply told ≡ true
+IsSmallCall _ told = told ≡ told
+
+-- the reply to a command has a frame, if the node shows a view of each job
+abbrev pub IsSmall : Hosted → Event → Reply (List ℕ) → Type 0
+IsSmall old e told = (v : ℕ → View) → ShowsAll old v → IsSmallCall e told

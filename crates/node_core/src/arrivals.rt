@@ -1,5 +1,7 @@
 //! Messages that arrive at a node for one of its jobs.
-ghost use Rattle.std.specs.Prelude.{◌≡◌, ◌≤◌, true, length, IfOk, OnErr, IsErrOf};
+ghost use Rattle.std.specs.Prelude.{◌≡◌, ℕ, ◌≤◌, List, false, length, Some, IfOk, OnOk, OnErr, IsErrOf};
+ghost use Rattle.obj_id.specs.declared.ids.JobNo.{JobNo};
+ghost use Rattle.obj_id.specs.declared.ids.ObjectId.{ObjectId};
 ghost use Rattle.obj_id.specs.declared.commands.Reply.TheVariants as reply;
 ghost use Rattle.obj_id.specs.declared.messages.Arrival.TheVariants as arrival;
 ghost use Rattle.obj_id.specs.declared.refusals.Refusal.{Refusal};
@@ -7,10 +9,14 @@ ghost use Rattle.obj_id.specs.declared.refusals.Refusal.TheVariants.{NoMemory};
 ghost use Rattle.private_store.specs.declared.inputs.Input.TheVariants as input;
 ghost use Rattle.private_store.specs.declared.schedules.NodeEvent.TheVariants as node_event;
 ghost use Rattle.private_store.specs.Contents.{Contents};
+ghost use Rattle.private_store.specs.Hands.{Hand};
+ghost use Rattle.spill_work.specs.Line.{same_job, IsSameFor};
+ghost use Rattle.node_table.specs.Asked.{HasAsked};
 ghost use Rattle.node_table.specs.Outcomes.{given_of as row_given_of};
-ghost use Rattle.node_table.specs.Row.{Beside};
+ghost use Rattle.node_table.specs.Row.{beside_of};
 ghost use Rattle.node_table.specs.Shown.{IsShown, TakesStep};
-ghost use Rattle.node_core.specs.Built.{is_built_arrival};
+ghost use Rattle.node_core.specs.Foreseen.{most_by_arrival};
+ghost use Rattle.node_core.specs.Hosted.{row_at};
 ghost use Rattle.node_core.specs.Late.{IsLate};
 ghost use Rattle.node_core.specs.Outcomes.{given_of};
 ghost use Rattle.node_core.specs.Steps.{Steps};
@@ -19,20 +25,20 @@ use crate::Node;
 use crate::outcome::Outcome;
 use node_table::JobRow;
 use obj_id::{Arrival, JobNo, PeerMessage, Refusal, Reply};
-use std::alloc::{AllocError, Global};
+use spill_work::Works;
+use std::alloc::Global;
 
 impl Node {
     /// A message of a job arrives.
     ///
     /// The view that the node shows of the job afterwards is what the private step makes of the view before on that
     /// message, and every other job's is as it was. `Stale` where the job isn't live, and then nothing changes. `NoMemory`
-    /// alone is an error, and then nothing has changed; it never stands in for `Stale`. At most one message is sent.
-    /// What the message was, without contents, isn't told.
+    /// alone is an error, and then nothing has changed; it never stands in for `Stale`. It sends no more messages than
+    /// `foresee_arrival` says. What the message was, without contents, isn't told.
     pub fn arrive(&mut self, job: JobNo, arrival: &Arrival) -> Result<Outcome, Refusal>
-        requires { is_built_arrival arrival.now ≡ true }
         ensures ok { IfOk result (λ o. Steps self.old (node_event.Arrive job arrival.now) (given_of o) self.new) }
         ensures late { OnErr result (IsLate self.old (node_event.Arrive job arrival.now)) }
-        ensures few { IfOk result (λ o. length o.messages ≤ 1) }
+        ensures few { IfOk result (λ o. length o.messages ≤ most_by_arrival (row_at self.old job) arrival.now) }
         ensures memory { (r : Refusal) → IsErrOf result r → r ≡ NoMemory }
         ensures err { OnErr result (self.new ≡ self.old) }
     {
@@ -41,31 +47,36 @@ impl Node {
             let outcome = node_table::Outcome::only(self.alloc, reply);
             return Ok(Outcome::of_row(self.alloc, outcome, None));
         };
-        let outcome = deliver(self.alloc, self.number, row, arrival)?;
+        let outcome = deliver(self.alloc, self.number, row, &mut self.works, arrival)?;
         Ok(Outcome::of_row(self.alloc, outcome, None))
     }
 }
 
-/// The row of the job takes the message. The error is out of memory, and then nothing has changed.
+/// The row of the job takes the message. The error is out of memory, and then nothing has changed. Works that it asks for
+/// come last in the line, and those before them stay.
 fn deliver(
     alloc: Global,
     node: u32,
     row: &mut JobRow,
+    works: &mut Works,
     arrival: &Arrival,
-) -> Result<node_table::Outcome, AllocError>
-    requires { is_built_arrival arrival.now ≡ true }
-    ensures ok { IfOk result (λ o. (beside : Beside) (contents : Contents) → IsShown row.old beside contents
-        → TakesStep node row.old beside contents (input.Arrive arrival.now) (row_given_of o) row.new beside) }
+) -> Result<node_table::Outcome, Refusal>
+    ensures ok { IfOk result (λ o. (hands : List Hand) (bytes : ObjectId → List ℕ) (contents : Contents) → IsShown row.old (beside_of works.old hands bytes row.old.job) contents
+        → TakesStep node row.old (beside_of works.old hands bytes row.old.job) contents (input.Arrive arrival.now) (row_given_of o) row.new (beside_of works.new hands bytes row.old.job)) }
     ensures told { IfOk result (λ o. o.reply ≡ reply.Ok) }
-    ensures few { IfOk result (λ o. length o.messages ≤ 1) }
+    ensures few { IfOk result (λ o. length o.messages ≤ most_by_arrival (Some row.old) arrival.now) }
+    ensures line { OnOk result (HasAsked works.old (record { 0 = row.old.job }) works.new) }
+    ensures others { (other : JobNo) → same_job (record { 0 = row.old.job }) other ≡ false → IsSameFor other works.old works.new }
+    ensures memory { (r : Refusal) → IsErrOf result r → r ≡ NoMemory }
     ensures err { OnErr result (row.new ≡ row.old) }
+    ensures works { OnErr result (works.new ≡ works.old) }
 {
     match arrival {
         Arrival::Located(id, number, entries) => {
             row.located(node, id, *number, entries.as_slice());
             Ok(node_table::Outcome::only(alloc, Reply::Ok))
         }
-        Arrival::FromPeer(from, message) => deliver_from(alloc, node, row, *from, message),
+        Arrival::FromPeer(from, message) => deliver_from(alloc, node, row, works, *from, message),
     }
 }
 
@@ -74,21 +85,41 @@ fn deliver_from(
     alloc: Global,
     node: u32,
     row: &mut JobRow,
+    works: &mut Works,
     from: u32,
     message: &PeerMessage,
-) -> Result<node_table::Outcome, AllocError>
-    requires { is_built_arrival (arrival.FromPeer from message.now) ≡ true }
-    ensures ok { IfOk result (λ o. (beside : Beside) (contents : Contents) → IsShown row.old beside contents
-        → TakesStep node row.old beside contents (input.Arrive (arrival.FromPeer from message.now)) (row_given_of o) row.new beside) }
+) -> Result<node_table::Outcome, Refusal>
+    ensures ok { IfOk result (λ o. (hands : List Hand) (bytes : ObjectId → List ℕ) (contents : Contents) → IsShown row.old (beside_of works.old hands bytes row.old.job) contents
+        → TakesStep node row.old (beside_of works.old hands bytes row.old.job) contents (input.Arrive (arrival.FromPeer from message.now)) (row_given_of o) row.new (beside_of works.new hands bytes row.old.job)) }
     ensures told { IfOk result (λ o. o.reply ≡ reply.Ok) }
-    ensures few { IfOk result (λ o. length o.messages ≤ 1) }
+    ensures few { IfOk result (λ o. length o.messages ≤ most_by_arrival (Some row.old) (arrival.FromPeer from message.now)) }
+    ensures line { OnOk result (HasAsked works.old (record { 0 = row.old.job }) works.new) }
+    ensures others { (other : JobNo) → same_job (record { 0 = row.old.job }) other ≡ false → IsSameFor other works.old works.new }
+    ensures memory { (r : Refusal) → IsErrOf result r → r ≡ NoMemory }
     ensures err { OnErr result (row.new ≡ row.old) }
+    ensures works { OnErr result (works.new ≡ works.old) }
 {
     match message {
+        PeerMessage::Pull {
+            id,
+            number,
+            length,
+            digest,
+            indexes,
+        } => row.serve_pull(
+            alloc,
+            node,
+            works,
+            from,
+            id,
+            *number,
+            *length,
+            digest,
+            indexes.as_slice(),
+        ),
         PeerMessage::Chunk(id, number, index, bytes) => {
-            row.chunk(alloc, node, from, id, *number, *index, bytes)
+            Ok(row.chunk(alloc, node, from, id, *number, *index, bytes)?)
         }
-        PeerMessage::NotHere(id, number) => row.not_here(alloc, from, id, *number),
-        PeerMessage::Pull { .. } => unreachable!(),
+        PeerMessage::NotHere(id, number) => Ok(row.not_here(alloc, from, id, *number)?),
     }
 }

@@ -1,9 +1,9 @@
 //! Which events are built.
 ghost use Rattle.std.specs.Prelude.{◌≡◌};
-ghost use Rattle.node_core.specs.Built.{is_built as is_built_lem, is_built_arrival as is_built_arrival_lem, is_built_command as is_built_command_lem};
+ghost use Rattle.node_core.specs.Built.{is_built as is_built_lem, is_built_command as is_built_command_lem};
 
 use bytes::Bytes;
-use obj_id::{Arrival, Command, PeerMessage};
+use obj_id::Command;
 use private_store::Event;
 
 /// Whether the event is built.
@@ -14,13 +14,6 @@ pub fn is_built(event: &Event) -> bool
         Event::Call(_, _, command) => is_built_command(command),
         _ => true,
     }
-}
-
-/// Whether the arrival is built.
-pub fn is_built_arrival(arrival: &Arrival) -> bool
-    ensures { result ≡ is_built_arrival_lem arrival.now }
-{
-    !matches!(arrival, Arrival::FromPeer(_, PeerMessage::Pull { .. }))
 }
 
 /// Whether the command is built.
@@ -38,6 +31,7 @@ pub fn is_built_command(command: &Command<Bytes>) -> bool
         Command::Borrow(..) => true,
         Command::GiveUp(..) => true,
         Command::Delete(_) => true,
+        Command::Peek(..) => true,
         Command::List => true,
         Command::Usage => true,
         Command::Leave => true,

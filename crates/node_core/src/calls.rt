@@ -6,14 +6,13 @@ ghost use Rattle.obj_id.specs.declared.refusals.Refusal.TheVariants.{NoMemory};
 ghost use Rattle.spill_work.specs.Line.{same_job, IsSameFor};
 ghost use Rattle.node_table.specs.Asked.{HasAsked};
 ghost use Rattle.node_table.specs.Outcomes.{given_of};
-ghost use Rattle.node_core.specs.Calls.{is_own as is_own_lem, takes_no_memory, Obeys};
-ghost use Rattle.node_core.specs.Built.{is_built_command};
+ghost use Rattle.node_core.specs.Calls.{is_of_row, is_own as is_own_lem, takes_no_memory, Obeys};
 ghost use Rattle.node_core.specs.Foreseen.{most_by_command};
 ghost use Rattle.node_core.specs.Late.{IsUnrefused};
 
 use bytes::Bytes;
 use node_table::{JobRow, Outcome};
-use obj_id::{Command, Items, JobNo, Refusal, Reply};
+use obj_id::{Command, JobNo, Refusal, Reply};
 use spill_work::Works;
 use std::alloc::Global;
 
@@ -30,7 +29,7 @@ pub(crate) fn carry_out(
     session: u32,
     command: &Command<Bytes>,
 ) -> Result<Outcome, Refusal>
-    requires { is_built_command command.now ≡ true }
+    requires { is_of_row command.now ≡ true }
     ensures ok { IfOk result (λ o. Obeys node job.0 row.old works.old session command.now (given_of o) row.new works.new) }
     ensures few { IfOk result (λ o. length o.messages ≤ most_by_command (Some row.old) command.now) }
     ensures line { OnOk result (HasAsked works.old job works.new) }
@@ -58,10 +57,12 @@ pub(crate) fn carry_out(
         Command::Leave => return Ok(row.leave(alloc, session)?),
         Command::Write(id, offset, bytes) => row.write(session, id, *offset, bytes),
         Command::Read(id, offset, len) => row.read(alloc, session, id, *offset, *len)?,
-        Command::List => row.list(alloc, Items::new(alloc))?,
         Command::Usage => row.tell_usage(works),
-        Command::EndTask(_) | Command::Grant(..) | Command::Withdraw(..) | Command::Peek(..) =>
-            unreachable!(),
+        Command::EndTask(_)
+        | Command::Grant(..)
+        | Command::Withdraw(..)
+        | Command::Peek(..)
+        | Command::List => unreachable!(),
     };
     Ok(Outcome::only(alloc, reply))
 }

@@ -1,9 +1,10 @@
 //! The works that a node's device workers take and answer.
-ghost use Rattle.std.specs.Prelude.{◌≡◌, [], IfOk, OnErr, IsErrOf, option_map};
+ghost use Rattle.std.specs.Prelude.{◌≡◌, [], IfOk, OnErr, IsErrOf, option_map, is_some};
 ghost use Rattle.obj_id.specs.declared.refusals.Refusal.{Refusal};
 ghost use Rattle.obj_id.specs.declared.refusals.Refusal.TheVariants.{NoMemory};
 ghost use Rattle.private_store.specs.declared.schedules.Event.TheVariants as event;
 ghost use Rattle.private_store.specs.Contents.{View, judge};
+ghost use Rattle.spill_work.specs.Line.{front_of};
 ghost use Rattle.node_table.specs.Outcomes.{given_of as row_given_of};
 ghost use Rattle.node_core.specs.Hosted.{Shows};
 ghost use Rattle.node_core.specs.Late.{IsFront};
@@ -15,6 +16,13 @@ use obj_id::{DeviceAnswer, JobNo, Refusal, Reply};
 use private_store::Judged;
 
 impl Node {
+    /// Whether a work waits that nobody has taken. No event: nothing changes. Takes no memory.
+    pub fn has_work(&self) -> bool
+        ensures { result ≡ is_some (front_of self.now.works.works) }
+    {
+        self.works.front().is_some()
+    }
+
     /// A worker asks for a work: of all jobs' the first that nobody has taken, with a write's bytes. `NoWork` if there is
     /// none. The error is out of memory, and then nobody has taken the work.
     pub(crate) fn take(&mut self) -> Result<node_table::Outcome, Refusal>

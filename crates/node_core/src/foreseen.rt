@@ -1,13 +1,18 @@
 //! What a node knows of an event before it is taken.
-ghost use Rattle.std.specs.Prelude.{◌≡◌, true};
+ghost use Rattle.std.specs.Prelude.{◌≡◌, true, Some, IfOk, IsErrOf};
+ghost use Rattle.obj_id.specs.declared.refusals.Refusal.{Refusal};
+ghost use Rattle.obj_id.specs.declared.refusals.Refusal.TheVariants.{NoMemory};
 ghost use Rattle.node_core.specs.Hosted.{row_at};
 ghost use Rattle.node_core.specs.Built.{is_built};
-ghost use Rattle.node_core.specs.Foreseen.{most_by_command as most_by_command_lem, most_messages as most_messages_lem};
+ghost use Rattle.node_core.specs.Foreseen.{most_by_arrival as most_by_arrival_lem, most_by_command as most_by_command_lem, most_messages as most_messages_lem, takers_of as takers_of_lem, takers_told};
 
 use crate::Node;
 use bytes::Bytes;
-use obj_id::{Command, JobNo};
+use grants::Hand;
+use node_table::JobRow;
+use obj_id::{Arrival, Command, Items, JobNo, PeerMessage, Refusal};
 use private_store::Event;
+use std::alloc::{AllocError, Global};
 
 /// What a caller has to grow for before an event is taken.
 #[derive(Debug, Drop)]
@@ -25,6 +30,32 @@ impl Node {
         Foreseen {
             most_messages: self.most_messages(event),
         }
+    }
+
+    /// What a message of the job will make the node send, if it arrives now. Takes no memory and a look-up of the job, and
+    /// changes nothing.
+    pub fn foresee_arrival(&self, job: JobNo, arrival: &Arrival) -> Foreseen
+        ensures messages { result.most_messages ≡ most_by_arrival_lem (row_at self.now job) arrival.now }
+    {
+        let most_messages = match self.rows.get(&job) {
+            Some(row) => most_by_arrival(row, arrival),
+            None => 0,
+        };
+        Foreseen { most_messages }
+    }
+
+    /// The jobs that the event tells of hands if it is accepted, one for each note, in their order. `NoMemory` alone is an
+    /// error. It changes nothing.
+    pub fn takers(&self, event: &Event) -> Result<Items<JobNo>, Refusal>
+        requires { is_built event.now ≡ true }
+        ensures takers { IfOk result (λ takers. takers ≡ takers_of_lem self.now.hands event.now) }
+        ensures memory { (r : Refusal) → IsErrOf result r → r ≡ NoMemory }
+    {
+        let Event::JobEnd(job) = event else {
+            return Ok(Items::new(self.alloc));
+        };
+        let ended = self.hands.ends_with_job(*job)?;
+        Ok(takers_of(self.alloc, ended.as_slice())?)
     }
 
     /// The most messages that the event sends.
@@ -55,5 +86,30 @@ impl Node {
             Command::Seal(_) | Command::Unpin(..) | Command::GiveUp(..) | Command::Delete(_) => 1,
             _ => 0,
         }
+    }
+}
+
+/// The takers of the hands, in their order.
+fn takers_of(alloc: Global, hands: &[Hand]) -> Result<Items<JobNo>, AllocError>
+    ensures { IfOk result (λ takers. takers ≡ takers_told hands.now) }
+{
+    let mut takers = Vec::with_capacity(alloc, hands.len())?;
+    for hand in hands {
+        takers.push(hand.taker())?;
+    }
+    Ok(Items::from_vec(takers))
+}
+
+/// The most messages that a live job's node sends if this arrives: a Pull is sent the chunks that it asks for, or makes room
+/// for bytes that are read back.
+fn most_by_arrival(row: &JobRow, arrival: &Arrival) -> usize
+    ensures { result ≡ most_by_arrival_lem (Some row.now) arrival.now }
+{
+    match arrival {
+        Arrival::Located(_, _, _) => 0,
+        Arrival::FromPeer(_, PeerMessage::Pull { indexes, .. }) => {
+            row.copy_count() + indexes.as_slice().len() + 1
+        }
+        Arrival::FromPeer(_, PeerMessage::Chunk(..) | PeerMessage::NotHere(..)) => 1,
     }
 }

@@ -1,7 +1,7 @@
 //! One node: the stores of many jobs, each as if it were alone.
 #![tactic(auto)]
 
-ghost use Rattle.std.specs.Prelude.{◌≡◌, ◌↔◌, ℕ, ◌+◌, ◌≤◌, true, false, [], length, Some, None, IfOk, IfErr, OnOk, OnErr, IsErrOf, IsOk, is_ok, is_some};
+ghost use Rattle.std.specs.Prelude.{◌≡◌, ◌↔◌, ℕ, ◌+◌, ◌≤◌, true, false, [], length, map, Some, None, IfOk, IfErr, OnOk, OnErr, IsErrOf, IsOk, is_ok, is_some};
 ghost use Rattle.obj_id.specs.declared.ids.JobNo.{JobNo};
 ghost use Rattle.obj_id.specs.declared.refusals.Refusal.{Refusal};
 ghost use Rattle.obj_id.specs.declared.refusals.Refusal.TheVariants.{NoMemory, NotAdmitted};
@@ -17,33 +17,34 @@ ghost use Rattle.node_core.specs.Calls.{takes_no_memory, is_frugal};
 ghost use Rattle.node_core.specs.Hosted.{Shows, row_at};
 ghost use Rattle.node_core.specs.Borrowed.{borrowed_check, IsBorrowed};
 ghost use Rattle.node_core.specs.Built.{is_built, is_built_command};
-ghost use Rattle.node_core.specs.Steps.{Steps, end_check};
+ghost use Rattle.node_core.specs.Steps.{Steps};
 ghost use Rattle.node_core.specs.Late.{IsCallUnrefused, IsEventUnrefused, IsLate};
 ghost use Rattle.node_core.specs.OneJob.{StepsOne};
 ghost use Rattle.node_core.specs.Outcomes.{given_of};
-ghost use Rattle.node_core.specs.Foreseen.{most_by_command, most_messages};
-ghost use Rattle.node_core.specs.Judged.{is_finish, IsJudged};
+ghost use Rattle.node_core.specs.Foreseen.{most_by_command, most_messages, AreTakers};
+ghost use Rattle.node_core.specs.Judged.{is_finish, is_job_end, IsJudged, SeesFew, IsSmall};
 
 mod arrivals;
 mod built;
 mod calls;
 mod device_works;
 mod foreseen;
+mod job_ends;
 mod judged;
+mod listing;
 mod outcome;
+mod peeking;
 mod quotas;
 
-pub use built::{is_built, is_built_arrival, is_built_command};
+pub use built::{is_built, is_built_command};
 use bytes::Bytes;
 pub use foreseen::Foreseen;
+use grants::Grants;
 use indexmap::IndexMap;
 use job_admission::Admission;
 pub use node_table::Erase;
 use node_table::JobRow;
-use obj_id::{
-    Command, DirectoryMessage, JobKey, JobNo, Message, ObjectId, Place, Quota, Refusal, Reply,
-    Usage,
-};
+use obj_id::{Command, JobKey, JobNo, ObjectId, Quota, Refusal, Reply, Usage};
 pub use outcome::{Note, Outcome};
 use private_store::Event;
 use spill_work::Works;
@@ -57,19 +58,20 @@ pub struct Node {
     number: u32,
     admission: Admission,
     works: Works,
+    // those that stand
+    hands: Grants,
     // of the live jobs
     rows: IndexMap<JobNo, JobRow>,
 }
 
 impl Model for Node {
-    ghost use Rattle.std.specs.Prelude.{[]};
-    ghost use Rattle.node_core.specs.Hosted.{Hosted, AreHosted};
+    ghost use Rattle.node_core.specs.Hosted.{Hosted, IsHosted};
 
     ghost Value = { Hosted };
 
-    ghost view = { λ n. record { number = n.number; admissions = n.admission; works = n.works; hands = []; rows = n.rows.entries } };
+    ghost view = { λ n. record { number = n.number; admissions = n.admission; works = n.works; hands = n.hands; rows = n.rows.entries } };
 
-    ghost invariant = { λ n. AreHosted n.admission n.rows.entries };
+    ghost invariant = { λ n. IsHosted n.admission n.hands n.rows.entries };
 }
 
 impl Node {
@@ -87,6 +89,7 @@ impl Node {
             number,
             admission: Admission::new(alloc, memory),
             works: Works::new(alloc),
+            hands: Grants::new(alloc),
             rows: IndexMap::new(alloc),
         }
     }
@@ -97,30 +100,45 @@ impl Node {
     /// make of the view before, on the list of inputs that the event is to that job. `NoMemory` alone, and then nothing
     /// has changed: it never stands in for a refusal that is known before anything grows. A Finish and the commands Write,
     /// Release and Usage take no memory, nor does Leave while no copy is doomed. It sends no more messages than
-    /// `foresee` says, and tells what it was to its own job.
+    /// `foresee` says, tells of hands the jobs that `takers` says, and says what it was to its own job. The reply to a command
+    /// has a frame.
     pub fn apply(&mut self, event: &Event) -> Result<Outcome, Refusal>
         requires { is_built event.now ≡ true }
         ensures ok { IfOk result (λ o. Steps self.old (node_event.Own event.now) (given_of o) self.new) }
         ensures late { OnErr result (IsLate self.old (node_event.Own event.now)) }
         ensures few { IfOk result (λ o. length o.messages ≤ most_messages self.old event.now) }
         ensures judged { IfOk result (λ o. IsJudged self.old event.now o.reply o.judged) }
+        ensures takers { IfOk result (λ o. AreTakers self.old.hands event.now o.reply (map (λ note. note.job) o.notes)) }
+        ensures small { IfOk result (λ o. IsSmall self.old event.now o.reply) }
         ensures memory { (r : Refusal) → IsErrOf result r → r ≡ NoMemory }
         ensures frugal { is_frugal self.old event.now ≡ true → IsOk result }
         ensures err { OnErr result (self.new ≡ self.old) }
     {
+        self.sees_few();
         if let Event::Finish(job, number, answer) = event {
             let (outcome, judged) = self.finish(*job, *number, answer);
             return Ok(Outcome::of_row(self.alloc, outcome, judged));
+        }
+        if let Event::JobEnd(job) = event {
+            return self.end_job(*job);
         }
         let outcome = self.step_one(event)?;
         let judged = judged::judged_as(event, &outcome.reply);
         Ok(Outcome::of_row(self.alloc, outcome, judged))
     }
 
-    /// The same of all but a Finish.
+    /// A law of every node: at most 63 other live jobs granted something to a live job, each no more than 64 objects.
+    fn sees_few(&self)
+        ensures { SeesFew self.now }
+    {
+        let _ = self.admission.live_jobs();
+    }
+
+    /// The same of all but a Finish and the end of a job: what ends no hand and gives none.
     fn step_one(&mut self, event: &Event) -> Result<node_table::Outcome, Refusal>
         requires built { is_built event.now ≡ true }
         requires other { is_finish event.now ≡ false }
+        requires lasting { is_job_end event.now ≡ false }
         ensures ok { IfOk result (λ o. StepsOne self.old event.now (row_given_of o) self.new) }
         ensures few { IfOk result (λ o. length o.messages ≤ most_messages self.old event.now) }
         ensures late { OnErr result (IsEventUnrefused self.old event.now) }
@@ -131,10 +149,9 @@ impl Node {
         match event {
             Event::Admit(job, quota, key) => self.admit(*job, *quota, *key),
             Event::Requota(job, quota) => self.requota(*job, *quota),
-            Event::JobEnd(job) => self.end_job(*job),
             Event::Take => self.take(),
             Event::Call(job, session, command) => self.call(*job, *session, command),
-            Event::Finish(..) => unreachable!(),
+            Event::JobEnd(_) | Event::Finish(..) => unreachable!(),
         }
     }
 
@@ -185,7 +202,8 @@ impl Node {
         row.lend(session, id)
     }
 
-    /// A session's command: its job's row carries it out. `NotAdmitted` where the job isn't live.
+    /// A session's command: its job's row carries it out, but for List and Peek, which read other rows too. `NotAdmitted` where the
+    /// job isn't live.
     fn call(
         &mut self,
         job: JobNo,
@@ -200,6 +218,12 @@ impl Node {
         ensures frugal { takes_no_memory (row_at self.old job) command.now ≡ true → IsOk result }
         ensures err { OnErr result (self.new ≡ self.old) }
     {
+        if let Command::List = command {
+            return self.list(job, session);
+        }
+        if let Command::Peek(id, offset, len) = command {
+            return self.peek(job, session, id, *offset, *len);
+        }
         let Some(row) = self.rows.get_mut(&job) else {
             let reply = Reply::Refused(Refusal::NotAdmitted);
             return Ok(node_table::Outcome::only(self.alloc, reply));
@@ -242,36 +266,5 @@ impl Node {
             Ok(_) => Ok(node_table::Outcome::only(self.alloc, Reply::Ok)),
             Err(_) => Err(Refusal::NoMemory),
         }
-    }
-
-    /// The operator ends a job: nothing is left of it here, the directory is told, and the device keys of its copies are to
-    /// be erased.
-    fn end_job(&mut self, job: JobNo) -> Result<node_table::Outcome, Refusal>
-        ensures ok { IfOk result (λ o. StepsOne self.old (event.JobEnd job) (row_given_of o) self.new) }
-        ensures few { IfOk result (λ o. length o.messages ≤ 1) }
-        ensures late { OnErr result (end_check self.old.admissions job ≡ None) }
-        ensures memory { (r : Refusal) → IsErrOf result r → r ≡ NoMemory }
-        ensures err { OnErr result (self.new ≡ self.old) }
-    {
-        if !self.admission.is_live(job) {
-            let reply = Reply::Refused(Refusal::NotAdmitted);
-            return Ok(node_table::Outcome::only(self.alloc, reply));
-        }
-        let Some(row) = self.rows.get(&job) else {
-            unreachable!()
-        };
-        let erase = row.device_keys(self.alloc)?;
-        let message = Message::ToDirectory(DirectoryMessage::EndJob(self.number));
-        let messages = node_table::Outcome::one_message(self.alloc, Place::Directory, message)?;
-        let Ok(()) = self.admission.finish_job(job) else {
-            unreachable!()
-        };
-        self.works.drop_job(job);
-        self.rows.shift_remove(&job);
-        Ok(node_table::Outcome {
-            reply: Reply::Ok,
-            messages,
-            erase,
-        })
     }
 }

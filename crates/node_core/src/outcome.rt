@@ -1,9 +1,10 @@
 //! What an event gives at a node.
-ghost use Rattle.std.specs.Prelude.{◌≡◌, []};
+ghost use Rattle.std.specs.Prelude.{◌≡◌, ◌≤◌, [], length, vec_len, vec_capacity};
 ghost use Rattle.node_table.specs.Outcomes.{given_of as row_given_of};
-ghost use Rattle.node_core.specs.Outcomes.{given_of, with_no_notes};
+ghost use Rattle.node_core.specs.Outcomes.{given_of, input_noted, end_noted, with_no_notes, with_ends};
 
 use bytes::Bytes;
+use grants::Hand;
 use node_table::Erase;
 use obj_id::{Items, JobNo, Message, Place, Reply};
 use private_store::Judged;
@@ -37,6 +38,7 @@ impl Outcome {
         judged: Option<Judged>,
     ) -> Outcome
         ensures given { given_of result ≡ with_no_notes (row_given_of outcome) }
+        ensures notes { result.notes ≡ [] }
         ensures judged { result.judged ≡ judged }
     {
         Outcome {
@@ -46,5 +48,40 @@ impl Outcome {
             notes: Items::new(alloc),
             judged,
         }
+    }
+
+    /// The same, where these hands end by it: `notes` is empty, and has room for a note of each.
+    pub(crate) fn with_ends(
+        outcome: node_table::Outcome,
+        notes: Vec<Note>,
+        ended: &[Hand],
+        judged: Option<Judged>,
+    ) -> Outcome
+        requires empty { (notes.items ≡ []) × (vec_len notes ≡ 0) }
+        requires room { length ended.now ≤ vec_capacity notes }
+        ensures given { given_of result ≡ with_ends (row_given_of outcome) ended.now }
+        ensures judged { result.judged ≡ judged }
+    {
+        let mut notes = notes;
+        for hand in ended {
+            notes.push(end_note(hand)).unwrap();
+        }
+        Outcome {
+            reply: outcome.reply,
+            messages: outcome.messages,
+            erase: outcome.erase,
+            notes: Items::from_vec(notes),
+            judged,
+        }
+    }
+}
+
+/// What the end of a hand is to its taker.
+fn end_note(hand: &Hand) -> Note
+    ensures { input_noted result ≡ end_noted hand.now }
+{
+    Note {
+        job: hand.taker(),
+        input: Judged::Withdrawn(hand.id(), hand.giver(), hand.depth()),
     }
 }

@@ -16,10 +16,13 @@ invariant_of-self-in-Ok-insert c =
     let new = c.insert.new.self.entries in
     let same : c.reserve.new.self.entries ≡ rows = c.reserve.ensures.entries in
     let passed = sym c.admit_check.ensures ∙ c.in_default.is in
-    let none = absent c.self.inside.number c.self.inside.admission c.admit.new.self c.self.inside.works c.args.job c.args.quota c.args.key rows new c.self.invariant passed c.in-Ok-admit.ensures.ok in
-    admitted_hosted c.self.inside.number c.self.inside.admission c.admit.new.self c.self.inside.works c.args.job c.args.quota c.args.key rows new c.self.invariant passed c.in-Ok-admit.ensures.ok
-    (c.in-Ok-insert.ensures.entries ∙ insert_entry-new same_job c.reserve.new.self c.args.job c.in-Ok.row (ap (lookup (same_job c.args.job)) same ∙ none)
-    ∙ ap (λ (es : List (JobNo × Row)). es ++ (c.args.job, c.in-Ok.row) ∷ []) same ∙ ap (λ (r : Row). rows ++ (c.args.job, r) ∷ []) c.in-Ok.ensures)
+    let none = absent c.self.inside.number c.self.inside.admission c.admit.new.self c.self.inside.works c.self.inside.hands c.args.job c.args.quota c.args.key rows new c.self.invariant.jobs passed c.in-Ok-admit.ensures.ok in
+    record {
+      jobs = admitted_hosted c.self.inside.number c.self.inside.admission c.admit.new.self c.self.inside.works c.self.inside.hands c.args.job c.args.quota c.args.key rows new c.self.invariant.jobs passed c.in-Ok-admit.ensures.ok
+          (c.in-Ok-insert.ensures.entries ∙ insert_entry-new same_job c.reserve.new.self c.args.job c.in-Ok.row (ap (lookup (same_job c.args.job)) same ∙ none)
+          ∙ ap (λ (es : List (JobNo × Row)). es ++ (c.args.job, c.in-Ok.row) ∷ []) same ∙ ap (λ (r : Row). rows ++ (c.args.job, r) ∷ []) c.in-Ok.ensures);
+      table = c.self.invariant.table;
+    }
 
 pub returns-in-Ok-insert-clause-ok : goal.returns-in-Ok-insert-clause-ok
 returns-in-Ok-insert-clause-ok c =
@@ -28,10 +31,10 @@ returns-in-Ok-insert-clause-ok c =
     let same : c.reserve.new.self.entries ≡ rows = c.reserve.ensures.entries in
     let passed = sym c.admit_check.ensures ∙ c.in_default.is in
     let e = event.Admit c.args.job c.args.quota c.args.key in
-    let after : Hosted = record { number = c.self.inside.number; admissions = c.admit.new.self; works = c.self.inside.works; hands = []; rows = new } in
+    let after : Hosted = record { number = c.self.inside.number; admissions = c.admit.new.self; works = c.self.inside.works; hands = c.self.inside.hands; rows = new } in
     subst (λ given. StepsOne c.args.self.now e given after) (sym c.only-in-Ok-insert.ensures)
     (subst (λ old. StepsOne old e _ after) c.self.view_is
-    (admit_steps c.self.inside.number c.self.inside.admission c.admit.new.self c.self.inside.works c.args.job c.args.quota c.args.key rows new c.self.invariant passed c.in-Ok-admit.ensures.ok
+    (admit_steps c.self.inside.number c.self.inside.admission c.admit.new.self c.self.inside.works c.self.inside.hands c.args.job c.args.quota c.args.key rows new c.self.invariant.jobs passed c.in-Ok-admit.ensures.ok
     (λ q. c.in-Ok-insert.ensures.updates.0 q
     ∙ ap (λ (r : Row). cond (same_job c.args.job q) (Some r) (lookup (same_job q) c.reserve.new.self.entries)) c.in-Ok.ensures
     ∙ ap (λ (es : List (JobNo × Row)). cond (same_job c.args.job q) (Some (new_row c.args.job.0 c.args.quota)) (lookup (same_job q) es)) same)

@@ -3,25 +3,24 @@ use Rattle.std.specs.Map.{lookup, set_value}
 use Rattle.std.specs.Option.{option_copied_mut}
 use Rattle.std.proofs.lemmas.Map.Steps.{set_value_same}
 use Rattle.private_store.specs.Jobs.{same_job}
-use Rattle.private_store.specs.declared.inputs.Input.TheVariants as input
 use Rattle.private_store.specs.declared.schedules.Event.TheVariants as event
 use Rattle.node_table.specs.Outcomes.{given_of}
 use Rattle.node_core.specs.Calls.{takes_no_memory}
-use Rattle.node_core.specs.Hosted.{row_at}
+use Rattle.node_core.specs.Hosted.{row_at, bytes_here}
 use Rattle.node_core.specs.OneJob.{StepsOne}
 use Rattle.node_core.proofs.Calling.{if_ok_on, both_err}
-use Rattle.node_core.proofs.Views.{with_rows, with_all, call_steps, refused_steps}
+use Rattle.node_core.proofs.Views.{node_of, call_steps, refused_steps}
 use Rattle.node_core.proofs.Node.call.Goals as goal
 
-pub returns-in_default-clause-ok : goal.returns-in_default-clause-ok
-returns-in_default-clause-ok c =
+pub returns-in_default-get_mut-clause-ok : goal.returns-in_default-get_mut-clause-ok
+returns-in_default-get_mut-clause-ok c =
     let rows = c.get_mut.follows.lender-at-none.entries in
     let same = ap (λ r. r.entries) c.get_mut.follows.holds-at-none in
-    let none = ap (lookup (same_job c.args.job)) same ∙ sym c.get_mut.ensures.value ∙ ap option_copied_mut c.in_default.is in
-    let all = with_rows c.self.inside.number c.self.inside.admission c.self.inside.works c.args.job (input.Call c.args.session c.args.command.now) in
+    let none = ap (lookup (same_job c.args.job)) same ∙ sym c.get_mut.ensures.value ∙ ap option_copied_mut c.in_default-get_mut.is in
+    let all = node_of c.self.inside.number c.self.inside.admission c.self.inside.works c.self.inside.hands in
     subst (λ given. StepsOne c.args.self.now (event.Call c.args.job c.args.session c.args.command.now) given (all rows)) (sym c.only.ensures)
     (subst (λ old. StepsOne old (event.Call c.args.job c.args.session c.args.command.now) _ (all rows)) (ap all same ∙ c.self.view_is)
-    (refused_steps c.self.inside.number c.self.inside.admission c.self.inside.works c.args.job c.args.session c.args.command.now rows none))
+    (refused_steps c.self.inside.number c.self.inside.admission c.self.inside.works c.self.inside.hands c.args.job c.args.session c.args.command.now rows none))
 
 pub returns-clause-ok : goal.returns-clause-ok
 returns-clause-ok c =
@@ -30,9 +29,9 @@ returns-clause-ok c =
     let found = sym c.get_mut.ensures.value ∙ ap option_copied_mut c.in-Some.is in
     let wrote = c.get_mut.follows.holds c.carry_out.new.row in
     if_ok_on c.carry_out.result c.carry_out.ensures.ok c.carry_out.ensures.line (λ o h line.
-    subst (λ old. StepsOne old (event.Call c.args.job c.args.session c.args.command.now) (given_of o) (with_all c.self.inside.number c.self.inside.admission c.self.inside.works c.args.job (input.Call c.args.session c.args.command.now) new c.carry_out.new.works)) c.self.view_is
-    (call_steps c.self.inside.number c.self.inside.admission c.self.inside.works c.args.job c.args.session c.args.command.now rows new c.in-Some.row.now c.carry_out.new.row c.carry_out.new.works (given_of o)
-    found (wrote.3 (ap is_some found)).0 line h c.carry_out.ensures.others))
+    subst (λ old. StepsOne old (event.Call c.args.job c.args.session c.args.command.now) (given_of o) (node_of c.self.inside.number c.self.inside.admission c.carry_out.new.works c.self.inside.hands new)) c.self.view_is
+    (call_steps c.self.inside.number c.self.inside.admission c.self.inside.works c.self.inside.hands c.args.job c.args.session c.args.command.now c.self.invariant.table rows new c.in-Some.row.now c.carry_out.new.row c.carry_out.new.works (given_of o)
+    found (wrote.3 (ap is_some found)).0 line (h c.self.inside.hands (bytes_here rows)) c.carry_out.ensures.others))
 
 pub returns-clause-err : goal.returns-clause-err
 returns-clause-err c =
@@ -40,8 +39,8 @@ returns-clause-err c =
     let found = sym c.get_mut.ensures.value ∙ ap option_copied_mut c.in-Some.is in
     let wrote = c.get_mut.follows.holds c.carry_out.new.row in
     both_err c.carry_out.result c.carry_out.ensures.err c.carry_out.ensures.works (λ same works.
-    (λ i. with_all c.self.inside.number c.self.inside.admission c.self.inside.works c.args.job (input.Call c.args.session c.args.command.now)
-    ((wrote.0 ∙ ap (set_value (same_job c.args.job) rows) same ∙ set_value_same (same_job c.args.job) rows c.in-Some.row.now found) i) (works i)) ∙ c.self.view_is)
+    (λ i. node_of c.self.inside.number c.self.inside.admission (works i) c.self.inside.hands
+    ((wrote.0 ∙ ap (set_value (same_job c.args.job) rows) same ∙ set_value_same (same_job c.args.job) rows c.in-Some.row.now found) i)) ∙ c.self.view_is)
 
 pub returns-clause-frugal : goal.returns-clause-frugal
 returns-clause-frugal c frugal =

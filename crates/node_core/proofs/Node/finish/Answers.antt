@@ -1,11 +1,10 @@
-use Rattle.std.proofs.Common.{[], is_some, sym, ap, subst, ◌∙◌}
+use Rattle.std.proofs.Common.{is_some, sym, ap, subst, ◌∙◌}
 use Rattle.std.specs.Prelude.{option_map}
 use Rattle.std.specs.Map.{lookup}
 use Rattle.std.specs.Option.{option_copied_mut}
 use Rattle.obj_id.specs.declared.commands.Reply.TheVariants as reply
 use Rattle.obj_id.specs.declared.refusals.Refusal.TheVariants.{Stale}
 use Rattle.private_store.specs.Jobs.{same_job}
-use Rattle.private_store.specs.declared.inputs.Input.TheVariants as input
 use Rattle.private_store.specs.declared.schedules.Event.TheVariants as event
 use Rattle.node_table.specs.Outcomes.{given_of}
 use Rattle.node_table.specs.Shown.{only}
@@ -13,7 +12,7 @@ use Rattle.private_store.specs.Contents.{judge}
 use Rattle.node_core.specs.Hosted.{Hosted, Shows}
 use Rattle.node_core.specs.OneJob.{input_of, StepsOne}
 use Rattle.node_core.proofs.Finishing.{Finished, stale_steps, finish_steps, finish_judged}
-use Rattle.node_core.proofs.Views.{with_rows, with_all}
+use Rattle.node_core.proofs.Views.{node_of}
 use Rattle.node_core.proofs.Node.finish.Goals as goal
 
 pub returns-in_default-clause-ok : goal.returns-in_default-clause-ok
@@ -22,10 +21,10 @@ returns-in_default-clause-ok c =
     let same = ap (λ r. r.entries) c.get_mut.follows.holds-at-none in
     let none = ap (lookup (same_job c.args.job)) same ∙ sym c.get_mut.ensures.value ∙ ap option_copied_mut c.in_default.is in
     let e = event.Finish c.args.job c.args.number c.args.answer.now in
-    let all = with_rows c.self.inside.number c.self.inside.admission c.self.inside.works c.args.job (input.Answer c.args.number c.args.answer.now) in
+    let all = node_of c.self.inside.number c.self.inside.admission c.self.inside.works c.self.inside.hands in
     subst (λ given. StepsOne c.args.self.now e given (all rows)) (sym c.only.ensures)
     (subst (λ old. StepsOne old e (only (reply.Refused Stale)) (all rows)) (ap all same ∙ c.self.view_is)
-    (stale_steps c.self.inside.number c.self.inside.admission c.self.inside.works c.args.job c.args.number c.args.answer.now rows none))
+    (stale_steps c.self.inside.number c.self.inside.admission c.self.inside.works c.self.inside.hands c.args.job c.args.number c.args.answer.now rows none))
 
 pub returns-clause-ok : goal.returns-clause-ok
 returns-clause-ok c =
@@ -37,9 +36,9 @@ returns-clause-ok c =
     let found = sym c.get_mut.ensures.value ∙ ap option_copied_mut c.in-Some.is in
     let wrote = c.get_mut.follows.holds after in
     let done = c.finish-answered.ensures in
-    let finished : Finished c.self.inside.number c.self.inside.admission c.self.inside.works c.args.job c.args.number c.args.answer.now c.in-Some.row.now after works told c.finish-answered.result.verdict c.in-Some.row.now.job = record {
-      step = λ passed contents shown. done.step passed c.self.inside.number [] (λ id. []) contents shown;
-      judged = λ passed contents shown. done.verdict passed [] (λ id. []) contents shown;
+    let finished : Finished c.self.inside.number c.self.inside.admission c.self.inside.works c.self.inside.hands c.args.job c.args.number c.args.answer.now c.in-Some.row.now after works told c.finish-answered.result.verdict c.in-Some.row.now.job = record {
+      step = λ passed bytes contents shown. done.step passed c.self.inside.number c.self.inside.hands bytes contents shown;
+      judged = λ passed bytes contents shown. done.verdict passed c.self.inside.hands bytes contents shown;
       line_is = done.line;
       others = done.others;
       stale = done.stale;
@@ -47,8 +46,8 @@ returns-clause-ok c =
       same_line = done.works;
     } in
     subst (λ old. StepsOne old (event.Finish c.args.job c.args.number c.args.answer.now) told
-    (with_all c.self.inside.number c.self.inside.admission c.self.inside.works c.args.job (input.Answer c.args.number c.args.answer.now) new works)) c.self.view_is
-    (finish_steps c.self.inside.number c.self.inside.admission c.self.inside.works c.args.job c.args.number c.args.answer.now rows new c.in-Some.row.now after works told c.finish-answered.result.verdict
+    (node_of c.self.inside.number c.self.inside.admission works c.self.inside.hands new)) c.self.view_is
+    (finish_steps c.self.inside.number c.self.inside.admission c.self.inside.works c.self.inside.hands c.args.job c.args.number c.args.answer.now c.self.invariant.table rows new c.in-Some.row.now after works told c.finish-answered.result.verdict
     found (wrote.3 (ap is_some found)).0 wrote.0 finished)
 
 pub returns-clause-judged : goal.returns-clause-judged
@@ -61,9 +60,9 @@ returns-clause-judged c view h =
     let found = sym c.get_mut.ensures.value ∙ ap option_copied_mut c.in-Some.is in
     let wrote = c.get_mut.follows.holds after in
     let done = c.finish-answered.ensures in
-    let finished : Finished c.self.inside.number c.self.inside.admission c.self.inside.works c.args.job c.args.number c.args.answer.now c.in-Some.row.now after works told c.finish-answered.result.verdict c.in-Some.row.now.job = record {
-      step = λ passed contents shown. done.step passed c.self.inside.number [] (λ id. []) contents shown;
-      judged = λ passed contents shown. done.verdict passed [] (λ id. []) contents shown;
+    let finished : Finished c.self.inside.number c.self.inside.admission c.self.inside.works c.self.inside.hands c.args.job c.args.number c.args.answer.now c.in-Some.row.now after works told c.finish-answered.result.verdict c.in-Some.row.now.job = record {
+      step = λ passed bytes contents shown. done.step passed c.self.inside.number c.self.inside.hands bytes contents shown;
+      judged = λ passed bytes contents shown. done.verdict passed c.self.inside.hands bytes contents shown;
       line_is = done.line;
       others = done.others;
       stale = done.stale;
@@ -71,5 +70,5 @@ returns-clause-judged c view h =
       same_line = done.works;
     } in
     ap (λ (n : Hosted). option_map (judge n.number view) (input_of (event.Finish c.args.job c.args.number c.args.answer.now) told.reply)) (sym c.self.view_is)
-    ∙ finish_judged c.self.inside.number c.self.inside.admission c.self.inside.works c.args.job c.args.number c.args.answer.now rows new c.in-Some.row.now after works told c.finish-answered.result.verdict
+    ∙ finish_judged c.self.inside.number c.self.inside.admission c.self.inside.works c.self.inside.hands c.args.job c.args.number c.args.answer.now c.self.invariant.table rows new c.in-Some.row.now after works told c.finish-answered.result.verdict
     found (wrote.3 (ap is_some found)).0 wrote.0 finished view (subst (λ n. Shows n c.args.job.0 view) (sym c.self.view_is) h) ∙ sym c.if_ok-judged.ensures

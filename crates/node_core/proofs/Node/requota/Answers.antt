@@ -1,4 +1,4 @@
-use Rattle.std.proofs.Common.{◌≡◌, [], None, is_some, sym, ap, subst, ◌∙◌}
+use Rattle.std.proofs.Common.{◌≡◌, None, is_some, sym, ap, subst, ◌∙◌}
 use Rattle.std.specs.Map.{keys_of, set_value}
 use Rattle.std.specs.Option.{option_copied_mut}
 use Rattle.std.proofs.lemmas.Map.{keys-set_value}
@@ -13,22 +13,25 @@ use Rattle.node_core.specs.OneJob.{StepsOne}
 use Rattle.node_core.specs.Quotas.{requota_refusal}
 use Rattle.node_core.specs.Steps.{requota_check}
 use Rattle.node_core.proofs.Requotas.{resized_hosted, requota_steps}
-use Rattle.node_core.proofs.Taking.{at_line}
+use Rattle.node_core.proofs.Views.{node_of}
 use Rattle.node_core.proofs.Node.requota.Goals as goal
 
 pub invariant_of-self-2 : goal.invariant_of-self-2
 invariant_of-self-2 c =
     let rows = c.self.inside.rows.entries in
     let wrote = c.get_mut.follows.holds c.requota.new.self in
-    resized_hosted c.self.inside.admission c.args.job c.args.quota c.resize.new.self rows (c.get_mut.follows.lender c.requota.new.self).entries c.self.invariant c.in-Ok-resize.ensures.ok
-    (ap keys_of wrote.0 ∙ keys-set_value (same_job c.args.job) rows c.requota.new.self)
+    record {
+      jobs = resized_hosted c.self.inside.admission c.args.job c.args.quota c.resize.new.self rows (c.get_mut.follows.lender c.requota.new.self).entries c.self.invariant.jobs c.in-Ok-resize.ensures.ok
+          (ap keys_of wrote.0 ∙ keys-set_value (same_job c.args.job) rows c.requota.new.self);
+      table = c.self.invariant.table;
+    }
 
 pub returns-in_default-requota-clause-err : goal.returns-in_default-requota-clause-err
 returns-in_default-requota-clause-err c =
     let rows = c.self.inside.rows.entries in
     let found = sym c.get_mut.ensures.value ∙ ap option_copied_mut c.in-Some-get_mut.is in
     let wrote = c.get_mut.follows.holds c.requota.new.self in
-    ap (λ es. at_line c.self.inside.number c.self.inside.admission c.self.inside.works es c.self.inside.works)
+    ap (node_of c.self.inside.number c.self.inside.admission c.self.inside.works c.self.inside.hands)
     (wrote.0 ∙ ap (set_value (same_job c.args.job) rows) c.in_default-requota.ensures.err ∙ set_value_same (same_job c.args.job) rows c.in-Some-get_mut.own_row.now found) ∙ c.self.view_is
 
 pub returns-clause-ok : goal.returns-clause-ok
@@ -37,13 +40,13 @@ returns-clause-ok c =
     let new = (c.get_mut.follows.lender c.requota.new.self).entries in
     let found = sym c.get_mut.ensures.value ∙ ap option_copied_mut c.in-Some-get_mut.is in
     let wrote = c.get_mut.follows.holds c.requota.new.self in
-    let after : Hosted = record { number = c.self.inside.number; admissions = c.resize.new.self; works = c.self.inside.works; hands = []; rows = new } in
-    let none : requota_refusal (at_line c.self.inside.number c.self.inside.admission c.self.inside.works rows c.self.inside.works) c.args.job c.args.quota ≡ None =
+    let after : Hosted = node_of c.self.inside.number c.resize.new.self c.self.inside.works c.self.inside.hands new in
+    let none : requota_refusal (node_of c.self.inside.number c.self.inside.admission c.self.inside.works c.self.inside.hands rows) c.args.job c.args.quota ≡ None =
     ap (λ n. requota_refusal n c.args.job c.args.quota) c.self.view_is ∙ sym c.requota_check.ensures.refusal ∙ c.in_default.is in
-    let shown : (view : View) → Shows (at_line c.self.inside.number c.self.inside.admission c.self.inside.works rows c.self.inside.works) c.args.job.0 view → None ≡ requota_check c.self.inside.admission view c.args.job c.args.quota =
+    let shown : (view : View) → Shows (node_of c.self.inside.number c.self.inside.admission c.self.inside.works c.self.inside.hands rows) c.args.job.0 view → None ≡ requota_check c.self.inside.admission view c.args.job c.args.quota =
     subst (λ (n : Hosted). (view : View) → Shows n c.args.job.0 view → None ≡ requota_check n.admissions view c.args.job c.args.quota) (sym c.self.view_is)
     (λ view h. sym c.in_default.is ∙ c.requota_check.ensures.shown view h) in
     subst (λ given. StepsOne c.args.self.now (event.Requota c.args.job c.args.quota) given after) (sym c.only-2.ensures)
     (subst (λ old. StepsOne old (event.Requota c.args.job c.args.quota) (only reply.Ok) after) c.self.view_is
-    (requota_steps c.self.inside.number c.self.inside.admission c.resize.new.self c.self.inside.works c.args.job c.args.quota rows new c.in-Some-get_mut.own_row.now c.requota.new.self
+    (requota_steps c.self.inside.number c.self.inside.admission c.resize.new.self c.self.inside.works c.self.inside.hands c.self.invariant.table c.args.job c.args.quota rows new c.in-Some-get_mut.own_row.now c.requota.new.self
     found (wrote.3 (ap is_some found)).0 c.in-Ok-resize.ensures.ok c.in-Ok-resize.ensures.lives c.in-Ok.ensures.ok none shown))

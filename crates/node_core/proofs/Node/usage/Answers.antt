@@ -15,11 +15,11 @@ returns-in-Some-clause-told c = subst (λ node. (view : View) → Shows node c.a
 pub returns-in-Some-clause-live : goal.returns-in-Some-clause-live
 returns-in-Some-clause-live c =
     sym (ap is_some (sym c.get.ensures.value ∙ ap option_copied c.in-Some.is))
-    ∙ live-is c.self.inside.admission c.self.inside.rows.entries c.self.invariant c.args.job
+    ∙ live-is c.self.inside.admission c.self.inside.rows.entries c.self.invariant.jobs c.args.job
     ∙ ap (λ (n : Hosted). is_some (live_at n.admissions c.args.job)) c.self.view_is
 
 pub returns-in-None-clause-live : goal.returns-in-None-clause-live
 returns-in-None-clause-live c =
     sym (ap is_some (sym c.get.ensures.value ∙ ap option_copied c.in-None.is))
-    ∙ live-is c.self.inside.admission c.self.inside.rows.entries c.self.invariant c.args.job
+    ∙ live-is c.self.inside.admission c.self.inside.rows.entries c.self.invariant.jobs c.args.job
     ∙ ap (λ (n : Hosted). is_some (live_at n.admissions c.args.job)) c.self.view_is

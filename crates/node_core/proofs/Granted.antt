@@ -1,0 +1,119 @@
+-- The bytes of an object of which a hand stands stay as they are while its own job takes a step: so what stands beside each
+-- row stays the same.
+use Rattle.std.proofs.Common.{◌≡◌, ℕ, ◌==◌, Bool, true, false, cond, ◌||◌, ◌&&◌, List, [], ◌∷◌, filter, map, take, Option, Some, None, is_some, refl, sym, ap, subst, ◌∙◌}
+use Rattle.std.specs.List.{list_any}
+use Rattle.std.specs.Map.{lookup}
+use Rattle.std.specs.Option.{option_map_or}
+use Rattle.std.proofs.lemmas.Bool.{eqb-true}
+use Rattle.obj_id.specs.declared.commands.CopyState.{CopyState}
+use Rattle.obj_id.specs.declared.commands.CopyState.TheVariants.{Created, Sealed, Restoring, Fetching, Away}
+use Rattle.obj_id.specs.declared.ids.JobNo.{JobNo}
+use Rattle.obj_id.specs.declared.ids.ObjectId.{ObjectId}
+use Rattle.obj_id.specs.Ids.{same_id}
+use Rattle.private_store.specs.declared.inputs.Input.{Input}
+use Rattle.private_store.specs.Copies.{extent_of, is_sealed}
+use Rattle.private_store.specs.Contents.{Contents, bytes_at}
+use Rattle.private_store.specs.Hands.{Hand}
+use Rattle.private_store.specs.Jobs.{same_job}
+use Rattle.private_store.specs.Kept.{has_extent, has_hand}
+use Rattle.private_store.specs.Private.{view_step}
+use Rattle.private_store.specs.Shape.{Fetch}
+use Rattle.private_store.specs.Tables.{at}
+use Rattle.private_store.proofs.BytesStay.{bytes_stay}
+use Rattle.private_store.proofs.Tests.{true_false}
+use Rattle.job_region.specs.Region.{bytes_at as placed_bytes}
+use Rattle.spill_work.specs.Line.{WorkLine}
+use Rattle.grants.specs.Private.{as_given}
+use Rattle.grants.specs.Table.{AreHands, is_first}
+use Rattle.grants.proofs.Reach.{first_stands}
+use Rattle.node_table.specs.Granting.{kept_bytes, row_bytes}
+use Rattle.node_table.specs.Kept.{Kept}
+use Rattle.node_table.specs.Row.{Row, Beside, given_by, beside_of}
+use Rattle.node_table.specs.Shown.{seen, IsShown, Given, TakesStep}
+use Rattle.node_table.proofs.Besides.{is_of}
+use Rattle.node_table.proofs.CopyTables.{at-copies_found, at-copies_none}
+use Rattle.node_core.specs.Hosted.{bytes_here}
+
+-- ---- a copy of which its job gave a hand
+
+lies : (state : CopyState) (fetch : Option Fetch) → is_sealed state ≡ true → has_extent state fetch ≡ true
+lies Created fetch sealed = refl
+lies Sealed fetch sealed = refl
+lies Restoring fetch sealed = refl
+lies Fetching fetch sealed = true_false sealed
+lies Away fetch sealed = true_false sealed
+
+module _ (row : Row) (beside : Beside) (contents : Contents) (h : IsShown row beside contents) (id : ObjectId) (own : id.job.0 ≡ row.job) (given : has_hand beside.given id ≡ true) where
+  -- it is there, and sealed
+  pub record Granted : Type 0 where
+    pub kept : Kept
+    pub found : at row.copies id ≡ Some kept
+    pub sealed : is_sealed kept.copy.state ≡ true
+
+  pub granted_copy : Granted
+  granted_copy = by (at row.copies id) refl
+    where
+      by : (o : Option Kept) → at row.copies id ≡ o → Granted
+      by None none = true_false (sym (h.kept.kept.shape.hands_of_copies id own (at-copies_none row.copies id none)) ∙ given)
+      by (Some k) found = record { kept = k; found = found; sealed = ((h.kept.kept.shape.each id k.copy (at-copies_found row.copies id k found)).granted given).0 }
+
+  -- its bytes are those that it has in its own job's store
+  pub granted_bytes : row_bytes row id ≡ bytes_at contents.bytes id
+  granted_bytes =
+      let g = granted_copy in
+      let copy = (h.kept.kept.shape.each id g.kept.copy (at-copies_found row.copies id g.kept g.found)) in
+      ap (λ o. option_map_or (kept_bytes row) o []) g.found ∙ by_place g.kept g.found g.kept.copy.offset refl (copy.resident ∙ lies g.kept.copy.state g.kept.copy.fetch g.sealed)
+    where
+      by_place : (k : Kept) → at row.copies id ≡ Some k → (o : Option ℕ) → k.copy.offset ≡ o → is_some k.copy.offset ≡ true → kept_bytes row k ≡ bytes_at contents.bytes id
+      by_place k found None is there = true_false (sym (ap is_some is) ∙ there)
+      by_place k found (Some offset) is there =
+          let e = ap (λ p. extent_of (record k.copy { offset = p })) is in
+          ap (λ p. option_map_or (λ e. take k.copy.length (placed_bytes e row.window.placed)) p []) e ∙ sym (h.bytes id k _ found e)
+
+-- a step leaves them
+module _ (node : ℕ) (row after : Row) (before beside : Beside) (contents : Contents) (x : Input) (told : Given) (h : IsShown row before contents) (t : TakesStep node row before contents x told after beside) where
+  pub granted_stay : (id : ObjectId) → id.job.0 ≡ row.job → id.job.0 ≡ after.job → has_hand before.given id ≡ true → has_hand beside.given id ≡ true → row_bytes row id ≡ row_bytes after id
+  granted_stay id own own_after given still =
+      let g = granted_copy row before contents h id own given in
+      let s = granted_copy after beside (view_step node (seen row before contents) x).view.contents t.shown id own_after still in
+      granted_bytes row before contents h id own given
+      ∙ sym (bytes_stay node (seen row before contents) h.kept.kept.shape h.kept.kept.filled id g.kept.copy (at-copies_found row.copies id g.kept g.found) g.sealed
+      x s.kept.copy (ap (λ c. at c.copies id) t.shape ∙ at-copies_found after.copies id s.kept s.found) s.sealed)
+      ∙ sym (granted_bytes after beside (view_step node (seen row before contents) x).view.contents t.shown id own_after still)
+
+-- ---- at a node
+
+-- an object's own job gave a hand of it exactly if a first hand of it stands
+pub first_given : (id : ObjectId) (hands : List Hand) → list_any (is_first id) hands ≡ has_hand (given_by hands id.job.0) id
+first_given id [] = refl
+first_given id (h ∷ hs) = by (same_id id h.id) (h.giver == id.job.0) refl (first_given id hs)
+  where
+    by : (s g : Bool) → same_id id h.id ≡ s → list_any (is_first id) hs ≡ has_hand (given_by hs id.job.0) id
+        → ((s && g) || list_any (is_first id) hs) ≡ has_hand (map as_given (cond g (h ∷ filter (λ hand. hand.giver == id.job.0) hs) (filter (λ hand. hand.giver == id.job.0) hs))) id
+    by true true is rest = sym (ap (λ b. b || has_hand (given_by hs id.job.0) id) is)
+    by true false is rest = rest
+    by false true is rest = rest ∙ sym (ap (λ b. b || has_hand (given_by hs id.job.0) id) is)
+    by false false is rest = rest
+
+module _ (hands : List Hand) (table : AreHands hands) where
+  -- where a hand of an object stands, its own job gave one
+  pub own_gave : (id : ObjectId) → list_any (is_of id) hands ≡ true → has_hand (given_by hands id.job.0) id ≡ true
+  own_gave id there = sym (first_given id hands) ∙ first_stands hands table id there
+
+  module _ (node : ℕ) (line works : WorkLine) (bytes : ObjectId → List ℕ) (job : JobNo) (old new : List (JobNo × Row)) (row after : Row) (contents : Contents) (x : Input) (told : Given)
+      (found : lookup (same_job job) old ≡ Some row)
+      (updated : (q : JobNo) → lookup (same_job q) new ≡ cond (same_job job q) (Some after) (lookup (same_job q) old))
+      (own : row.job ≡ job.0) (own_after : after.job ≡ job.0)
+      (h : IsShown row (beside_of line hands bytes job.0) contents)
+      (t : TakesStep node row (beside_of line hands bytes job.0) contents x told after (beside_of works hands bytes job.0)) where
+    pub bytes_same : (id : ObjectId) → list_any (is_of id) hands ≡ true → bytes_here old id ≡ bytes_here new id
+    bytes_same id there = by (same_job job id.job) refl
+      where
+        by : (b : Bool) → same_job job id.job ≡ b → bytes_here old id ≡ bytes_here new id
+        by false other = sym (ap (λ o. option_map_or (λ row. row_bytes row id) o []) (updated id.job ∙ ap (λ b. cond b (Some after) (lookup (same_job id.job) old)) other))
+        by true same =
+            let jobs : id.job.0 ≡ job.0 = sym (eqb-true job.0 id.job.0 same) in
+            let gave : has_hand (given_by hands job.0) id ≡ true = subst (λ n. has_hand (given_by hands n) id ≡ true) jobs (own_gave id there) in
+            ap (λ o. option_map_or (λ row. row_bytes row id) o []) (ap (λ n. lookup (same_job (record { 0 = n })) old) jobs ∙ found)
+            ∙ granted_stay node row after (beside_of line hands bytes job.0) (beside_of works hands bytes job.0) contents x told h t id (jobs ∙ sym own) (jobs ∙ sym own_after) gave gave
+            ∙ sym (ap (λ o. option_map_or (λ row. row_bytes row id) o []) (updated id.job ∙ ap (λ b. cond b (Some after) (lookup (same_job id.job) old)) same))

@@ -1,0 +1,159 @@
+-- The reply to a command has a frame, and no event that is built tells of a hand.
+use Rattle.std.proofs.Common.{◌≡◌, ℕ, ◌==◌, ◌≤◌, Bool, true, false, cond, ◌||◌, ◌&&◌, not, List, [], ◌∷◌, length, map, Option, Some, None, is_some, refl, sym, ap, subst, ◌∙◌, arith}
+use Rattle.std.specs.List.{list_any, list_all}
+use Rattle.std.specs.Map.{lookup, keys_of}
+use Rattle.std.proofs.lemmas.Bool.Decides.{nat_tests}
+use Rattle.std.proofs.lemmas.List.{length-map}
+use Rattle.obj_id.specs.declared.ids.JobNo.{JobNo}
+use Rattle.obj_id.specs.declared.commands.Command.{Command}
+use Rattle.obj_id.specs.declared.commands.Command.TheVariants as command
+use Rattle.obj_id.specs.declared.commands.Reply.{Reply}
+use Rattle.obj_id.specs.declared.commands.Reply.TheVariants as reply
+use Rattle.obj_id.specs.declared.refusals.Refusal.TheVariants.{NotAdmitted}
+use Rattle.private_store.specs.declared.inputs.Input.{Input}
+use Rattle.private_store.specs.declared.inputs.Input.TheVariants as input
+use Rattle.private_store.specs.declared.schedules.Event.{Event}
+use Rattle.private_store.specs.declared.schedules.Event.TheVariants as event
+use Rattle.private_store.specs.Answers.{is_small_reply, AreGrantedWithin}
+use Rattle.private_store.specs.Contents.{View}
+use Rattle.private_store.specs.Hands.{Hand, is_given_by, hands_ended}
+use Rattle.private_store.specs.Jobs.{same_job}
+use Rattle.private_store.specs.Kept.{IsViewKept}
+use Rattle.private_store.specs.Limits.{most_live_jobs}
+use Rattle.private_store.specs.Private.{view_step}
+use Rattle.private_store.proofs.AnswersAre.{answers_small}
+use Rattle.private_store.proofs.Tests.{both_left, both_right, none_some, true_false}
+use Rattle.grants.specs.Private.{as_given}
+use Rattle.grants.specs.Table.{AreHands, given_by}
+use Rattle.grants.proofs.Few.{is_among, few_granted}
+use Rattle.node_table.specs.Row.{Row}
+use Rattle.node_table.specs.Shown.{Given}
+use Rattle.node_core.specs.Built.{is_built}
+use Rattle.node_core.specs.Foreseen.{takers_told, AreTakers}
+use Rattle.node_core.specs.Hosted.{Hosted, IsViewBy, Shows, ShowsAll, row_at, beside_at, bytes_here}
+use Rattle.node_core.specs.Judged.{SeesFew, IsSmall}
+use Rattle.node_core.specs.OneJob.{IsLasting, StepsOne}
+use Rattle.node_core.specs.declared.outcome.Note.{Note}
+use Rattle.node_core.specs.Outcomes.{inputs_noted, end_noted}
+use Rattle.node_core.specs.Steps.{JobJudged}
+use Rattle.node_core.proofs.Views.{view_is, told_refused, call_refuses}
+
+-- ---- the givers of hands are live
+
+abbrev numbers : List (JobNo × Row) → List ℕ
+numbers rows = map (λ (e : JobNo × Row). e.0.0) rows
+
+has_number : (rows : List (JobNo × Row)) (n : ℕ) (row : Row) → lookup (same_job (record { 0 = n })) rows ≡ Some row → is_among (numbers rows) n ≡ true
+has_number [] n row found = none_some row found
+has_number (e ∷ rows) n row found = by (n == e.0.0) (e.0.0 == n) (grind (arith, nat_tests)) found (has_number rows n row)
+  where
+    by : (a b : Bool) → a ≡ b → cond a (Some e.1) (lookup (same_job (record { 0 = n })) rows) ≡ Some row → (lookup (same_job (record { 0 = n })) rows ≡ Some row → is_among (numbers rows) n ≡ true) → b || is_among (numbers rows) n ≡ true
+    by true true is found rest = refl
+    by false false is found rest = rest found
+    by false true is found rest = refl
+    by true false is found rest = absurd cc
+
+-- no hand is of a giver that gave none
+none_given : (hands : List Hand) (g : ℕ) → map as_given (given_by g hands) ≡ [] → list_all (λ (h : Hand). not (h.giver == g)) hands ≡ true
+none_given [] g none = refl
+none_given (h ∷ hs) g none = by (h.giver == g) none (none_given hs g)
+  where
+    by : (b : Bool) → map as_given (cond b (h ∷ given_by g hs) (given_by g hs)) ≡ [] → (map as_given (given_by g hs) ≡ [] → list_all (λ (x : Hand). not (x.giver == g)) hs ≡ true) → not b && list_all (λ (x : Hand). not (x.giver == g)) hs ≡ true
+    by true none rest = absurd cc
+    by false none rest = rest none
+
+module _ (numbers_live : List ℕ) where
+  all_live : (hs : List Hand) → ((g : ℕ) → is_among numbers_live g ≡ false → list_all (λ (h : Hand). not (h.giver == g)) hs ≡ true) → list_all (λ (h : Hand). is_among numbers_live h.giver) hs ≡ true
+  all_live [] f = refl
+  all_live (h ∷ hs) f = by (is_among numbers_live h.giver) refl (all_live hs (λ g none. both_right (not (h.giver == g)) (list_all (λ (x : Hand). not (x.giver == g)) hs) (f g none)))
+    where
+      by : (b : Bool) → is_among numbers_live h.giver ≡ b → list_all (λ (x : Hand). is_among numbers_live x.giver) hs ≡ true → b && list_all (λ (x : Hand). is_among numbers_live x.giver) hs ≡ true
+      by true e rest = rest
+      by false e rest = let itself = both_left (not (h.giver == h.giver)) (list_all (λ (x : Hand). not (x.giver == h.giver)) hs) (f h.giver e) in absurd (grind (arith, nat_tests, itself))
+
+module _ (node : Hosted) (v : ℕ → View) (shows : ShowsAll node v) where
+  none_of : (g : ℕ) → is_among (numbers node.rows) g ≡ false → list_all (λ (h : Hand). not (h.giver == g)) node.hands ≡ true
+  none_of g none = by (row_at node (record { 0 = g })) refl (shows g).by_row
+    where
+      by : (o : Option Row) → row_at node (record { 0 = g }) ≡ o → IsViewBy node.admissions.greatest (beside_at node g) g (v g) o → list_all (λ (h : Hand). not (h.giver == g)) node.hands ≡ true
+      by (Some row) is r = true_false (sym none ∙ has_number node.rows g row is)
+      by None is b = none_given node.hands g b.given
+
+  few_shown : AreHands node.hands → length (numbers node.rows) ≤ most_live_jobs → (job : ℕ) → is_some (row_at node (record { 0 = job })) ≡ true → AreGrantedWithin (v job).shape.received
+  few_shown table few job live = by (row_at node (record { 0 = job })) refl (shows job).by_row live
+    where
+      by : (o : Option Row) → row_at node (record { 0 = job }) ≡ o → IsViewBy node.admissions.greatest (beside_at node job) job (v job) o → is_some o ≡ true → AreGrantedWithin (v job).shape.received
+      by (Some row) is r live =
+          subst AreGrantedWithin (sym (ap (λ s. s.received) r.shape))
+          (few_granted (λ id. length (bytes_here node.rows id)) node.hands (numbers node.rows) job table (all_live (numbers node.rows) node.hands none_of) few (has_number node.rows job row is))
+      by None is b live = true_false live
+
+pub sees_few : (node : Hosted) → AreHands node.hands → keys_of node.rows ≡ keys_of node.admissions.live → length node.admissions.live ≤ most_live_jobs → SeesFew node
+sees_few node table jobs few v shows = few_shown node v shows table (less (length-map node.rows (λ (e : JobNo × Row). e.0.0)) (sym (length-map node.rows (λ (e : JobNo × Row). e.0)) ∙ ap length jobs ∙ length-map node.admissions.live (λ e. e.0)))
+  where
+    less : length (numbers node.rows) ≡ length node.rows → length node.rows ≡ length node.admissions.live → length (numbers node.rows) ≤ most_live_jobs
+    less a b = omega (arith, a, b, few)
+
+-- ---- replies
+
+module _ (node : Hosted) (few : SeesFew node) (v : ℕ → View) (shows : ShowsAll node v) (job : JobNo) (session : ℕ) (c : Command (List ℕ)) where
+  abbrev x : Input
+  x = input.Call session c
+
+  small_call : is_small_reply (view_step node.number (v job.0) x).reply ≡ true
+  small_call = by (row_at node job) refl (shows job.0).by_row
+    where
+      by : (o : Option Row) → row_at node job ≡ o → IsViewBy node.admissions.greatest (beside_at node job.0) job.0 (v job.0) o → is_small_reply (view_step node.number (v job.0) x).reply ≡ true
+      by (Some row) is r =
+          answers_small node.number (v job.0) x (subst IsViewKept (sym (view_is row (beside_at node job.0) job.0 (v job.0) r)) r.shown.kept) (few v shows job.0 (ap is_some is))
+      by None is b =
+          ap is_small_reply (sym (told_refused node.number node.admissions node.works node.hands job x refl node.rows is NotAdmitted
+          (call_refuses node.number node.admissions node.works node.hands job session c) (v job.0) (shows job.0)).reply)
+
+pub small : (old new : Hosted) (e : Event) (given : Given) → SeesFew old → StepsOne old e given new → IsSmall old e given.reply
+small old new (event.Call job session c) given few steps v shows = ap is_small_reply (steps.told (v job.0) (shows job.0)).reply ∙ small_call old few v shows job session c
+small old new (event.Admit job quota key) given few steps v shows = refl
+small old new (event.Requota job quota) given few steps v shows = refl
+small old new (event.JobEnd job) given few steps v shows = refl
+small old new event.Take given few steps v shows = refl
+small old new (event.Finish job number a) given few steps v shows = refl
+
+-- ---- takers
+
+-- where no hand ends, no event that is built tells of one
+pub none_told : (hands : List Hand) (e : Event) (told : Reply (List ℕ)) → is_built e ≡ true → IsLasting e hands → AreTakers hands e told []
+none_told hands (event.Call job session (command.Create id kind n)) reply.Ok built last = refl
+none_told hands (event.Call job session (command.Write id offset bytes)) reply.Ok built last = refl
+none_told hands (event.Call job session (command.Seal id)) reply.Ok built last = refl
+none_told hands (event.Call job session (command.Get id)) reply.Ok built last = refl
+none_told hands (event.Call job session (command.Read id offset n)) reply.Ok built last = refl
+none_told hands (event.Call job session (command.Release id)) reply.Ok built last = refl
+none_told hands (event.Call job session (command.Unpin id task)) reply.Ok built last = refl
+none_told hands (event.Call job session (command.Borrow id task)) reply.Ok built last = refl
+none_told hands (event.Call job session (command.GiveUp id task)) reply.Ok built last = refl
+none_told hands (event.Call job session (command.Delete id)) reply.Ok built last = refl
+none_told hands (event.Call job session command.List) reply.Ok built last = refl
+none_told hands (event.Call job session command.Usage) reply.Ok built last = refl
+none_told hands (event.Call job session command.Leave) reply.Ok built last = refl
+none_told hands (event.Call job session (command.EndTask task)) reply.Ok built last = absurd cc
+none_told hands (event.Call job session (command.Grant id target)) reply.Ok built last = absurd cc
+none_told hands (event.Call job session (command.Withdraw id target)) reply.Ok built last = absurd cc
+none_told hands (event.Call job session (command.Peek id offset n)) reply.Ok built last = refl
+none_told hands (event.Admit job quota key) reply.Ok built last = refl
+none_told hands (event.Requota job quota) reply.Ok built last = refl
+none_told hands (event.JobEnd job) reply.Ok built last = sym (ap (λ hs. takers_told (hands_ended (is_given_by job.0) hs)) last)
+none_told hands event.Take reply.Ok built last = refl
+none_told hands (event.Finish job number a) reply.Ok built last = refl
+none_told hands e _ built last = refl
+
+-- of notes of ends
+pub takers_noted : (notes : List Note) (ended : List Hand) → inputs_noted notes ≡ map end_noted ended → map (λ note. note.job) notes ≡ takers_told ended
+takers_noted notes ended is = jobs_noted notes ∙ ap (map (λ (x : JobJudged). record { 0 = x.job })) is ∙ jobs_ended ended
+  where
+    jobs_noted : (ns : List Note) → map (λ (note : Note). note.job) ns ≡ map (λ (x : JobJudged). record { 0 = x.job }) (inputs_noted ns)
+    jobs_noted [] = refl
+    jobs_noted (n ∷ ns) = ap (λ js. n.job ∷ js) (jobs_noted ns)
+
+    jobs_ended : (hs : List Hand) → map (λ (x : JobJudged). record { 0 = x.job }) (map end_noted hs) ≡ takers_told hs
+    jobs_ended [] = refl
+    jobs_ended (h ∷ hs) = ap (λ js. record { 0 = h.taker } ∷ js) (jobs_ended hs)

@@ -1,0 +1,75 @@
+//! What a job is told of its copies and of what others granted to it.
+ghost use Rattle.std.specs.Prelude.{◌≡◌, [], length, map, IfOk, OnErr, IsErrOf};
+ghost use Rattle.obj_id.specs.declared.commands.Command.TheVariants as command;
+ghost use Rattle.obj_id.specs.declared.refusals.Refusal.{Refusal};
+ghost use Rattle.obj_id.specs.declared.refusals.Refusal.TheVariants.{NoMemory};
+ghost use Rattle.private_store.specs.declared.schedules.Event.TheVariants as event;
+ghost use Rattle.node_table.specs.Outcomes.{given_of as row_given_of};
+ghost use Rattle.node_core.specs.Granted.{granted_item as granted_item_lem, granted_here};
+ghost use Rattle.node_core.specs.Hosted.{bytes_here};
+ghost use Rattle.node_core.specs.Late.{IsCallUnrefused};
+ghost use Rattle.node_core.specs.OneJob.{StepsOne};
+
+use crate::Node;
+use grants::Hand;
+use obj_id::{GrantedItem, Items, JobNo, ObjectId, Refusal, Reply};
+use std::alloc::AllocError;
+
+impl Node {
+    /// List: the job's own copies by rising id, and the objects that others granted to it. `NotAdmitted` where the job
+    /// isn't live. The error is out of memory. Changes nothing.
+    pub(crate) fn list(&self, job: JobNo, session: u32) -> Result<node_table::Outcome, Refusal>
+        ensures ok { IfOk result (λ o. StepsOne self.now (event.Call job session command.List) (row_given_of o) self.now) }
+        ensures silent { IfOk result (λ o. o.messages ≡ []) }
+        ensures late { OnErr result (IsCallUnrefused self.now job session command.List) }
+        ensures memory { (r : Refusal) → IsErrOf result r → r ≡ NoMemory }
+    {
+        let Some(row) = self.rows.get(&job) else {
+            let reply = Reply::Refused(Refusal::NotAdmitted);
+            return Ok(node_table::Outcome::only(self.alloc, reply));
+        };
+        let granted = self.granted(job)?;
+        let reply = row.list(self.alloc, granted)?;
+        Ok(node_table::Outcome::only(self.alloc, reply))
+    }
+
+    /// The objects that others granted to the job, by rising id, each with the depth of its oldest hand.
+    fn granted(&self, job: JobNo) -> Result<Items<GrantedItem>, AllocError>
+        ensures { IfOk result (λ items. items ≡ granted_here self.now job.0) }
+    {
+        let seen = self.hands.seen(job)?;
+        self.granted_items(seen.as_slice())
+    }
+
+    /// The objects of these hands.
+    fn granted_items(&self, hands: &[Hand]) -> Result<Items<GrantedItem>, AllocError>
+        ensures { IfOk result (λ items. items ≡ map (granted_item_lem self.now.rows) hands.now) }
+    {
+        let mut items = Vec::new(self.alloc);
+        for hand in hands {
+            items.push(self.granted_item(hand))?;
+        }
+        Ok(Items::from_vec(items))
+    }
+
+    /// The object of a hand.
+    fn granted_item(&self, hand: &Hand) -> GrantedItem
+        ensures { result ≡ granted_item_lem self.now.rows hand.now }
+    {
+        GrantedItem {
+            id: hand.id(),
+            length: self.granted_length(&hand.id()),
+            depth: hand.depth(),
+        }
+    }
+
+    /// The length of an object of which a hand stands, as the row of its own job has it.
+    fn granted_length(&self, id: &ObjectId) -> u32
+        ensures { result ≡ length (bytes_here self.now.rows id.now) }
+    {
+        match self.rows.get(&id.job()) {
+            Some(row) => row.granted_length(id),
+            None => 0,
+        }
+    }
+}

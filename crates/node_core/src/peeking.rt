@@ -1,0 +1,95 @@
+//! Peek: bytes of an object that another job granted.
+ghost use Rattle.std.specs.Prelude.{◌≡◌, [], length, IfOk, OnErr, IsErrOf};
+ghost use Rattle.std.specs.List.{list_any};
+ghost use Rattle.obj_id.specs.declared.commands.Command.TheVariants as command;
+ghost use Rattle.obj_id.specs.declared.refusals.Refusal.{Refusal};
+ghost use Rattle.obj_id.specs.declared.refusals.Refusal.TheVariants.{NoMemory};
+ghost use Rattle.private_store.specs.declared.schedules.Event.TheVariants as event;
+ghost use Rattle.grants.specs.Table.{shows};
+ghost use Rattle.node_table.specs.Granting.{peek_check as peek_check_lem};
+ghost use Rattle.node_table.specs.Outcomes.{given_of as row_given_of};
+ghost use Rattle.node_core.specs.Hosted.{bytes_here};
+ghost use Rattle.node_core.specs.Late.{IsCallUnrefused};
+ghost use Rattle.node_core.specs.OneJob.{StepsOne};
+
+use crate::Node;
+use bytes::Bytes;
+use node_table::part_of;
+use obj_id::limits::MOST_BYTES;
+use obj_id::{JobNo, ObjectId, Refusal, Reply};
+
+impl Node {
+    /// Peek: bytes of an object that another job granted, as they lie in the window of its own job. `NotAdmitted` where the
+    /// job isn't live, `NotGranted`, `BadSize` for more than 65,536 bytes, `OutOfBounds`. The error is out of memory.
+    /// Changes nothing.
+    pub(crate) fn peek(
+        &self,
+        job: JobNo,
+        session: u32,
+        id: &ObjectId,
+        offset: u32,
+        len: u32,
+    ) -> Result<node_table::Outcome, Refusal>
+        ensures ok { IfOk result (λ o. StepsOne self.now (event.Call job session (command.Peek id.now offset len)) (row_given_of o) self.now) }
+        ensures silent { IfOk result (λ o. o.messages ≡ []) }
+        ensures late { OnErr result (IsCallUnrefused self.now job session (command.Peek id.now offset len)) }
+        ensures memory { (r : Refusal) → IsErrOf result r → r ≡ NoMemory }
+    {
+        let Some(_row) = self.rows.get(&job) else {
+            let reply = Reply::Refused(Refusal::NotAdmitted);
+            return Ok(node_table::Outcome::only(self.alloc, reply));
+        };
+        let whole = self.granted_bytes(id);
+        if let Some(refusal) = self.peek_check(job, id, whole.len(), offset, len) {
+            return Ok(node_table::Outcome::only(self.alloc, Reply::Refused(refusal)));
+        }
+        let bytes = Bytes::copy_from_slice(self.alloc, part_of(whole, offset, len))?;
+        Ok(node_table::Outcome::only(self.alloc, Reply::Bytes(bytes)))
+    }
+
+    /// Why the job can't peek at so many bytes from the offset on of an object of this length.
+    fn peek_check(
+        &self,
+        job: JobNo,
+        id: &ObjectId,
+        whole: usize,
+        offset: u32,
+        len: u32,
+    ) -> Option<Refusal>
+        ensures { result ≡ peek_check_lem self.now.hands job.0 id.now whole offset len }
+    {
+        if id.job().0 == job.0 {
+            return Some(Refusal::NotGranted);
+        }
+        if !self.sees(job, id) {
+            return Some(Refusal::NotGranted);
+        }
+        if len as usize > MOST_BYTES {
+            return Some(Refusal::BadSize);
+        }
+        if offset as usize + len as usize > whole {
+            return Some(Refusal::OutOfBounds);
+        }
+        None
+    }
+
+    /// Whether a hand of the object to the job stands.
+    fn sees(&self, job: JobNo, id: &ObjectId) -> bool
+        ensures { result ≡ list_any (shows id.now job.0) self.now.hands }
+    {
+        self.hands.seen_by(job, *id).is_some()
+    }
+
+    /// The bytes of an object of which a hand stands, lent by the row of its own job.
+    fn granted_bytes(&self, id: &ObjectId) -> &[u8]
+        ensures { result.now ≡ bytes_here self.now.rows id.now }
+    {
+        let Some(row) = self.rows.get(&id.job()) else {
+            return &[];
+        };
+        match row.lend_granted(id) {
+            Some(bytes) => bytes,
+            None => &[],
+        }
+    }
+}
