@@ -1,4 +1,4 @@
--- A built event at a node at which no hand stands is an input of its own job alone.
+-- What an event is to its own job.
 use Rattle.std.proofs.Common.{◌≡◌, ℕ, Bool, true, false, cond, ◌==◌, List, [], ◌∷◌, map, Option, Some, None, option_to_list, refl, sym, ap, subst, ◌∙◌}
 use Rattle.std.specs.Prelude.{option_map}
 use Rattle.obj_id.specs.declared.commands.Reply.{Reply}
@@ -52,39 +52,3 @@ own_inputs own job (Some x) = by (own == job)
     by : (b : Bool) → map (λ (y : JobInput). y.input) (cond b (record { job = own; input = x } ∷ []) []) ≡ if_own b (Some x)
     by true = refl
     by false = refl
-
--- ---- nothing of another job
-
-abbrev is_own_kind : Option Input → Bool
-is_own_kind None = true
-is_own_kind (Some (input.Begin quota)) = true
-is_own_kind (Some (input.Requota quota)) = true
-is_own_kind (Some (input.Call session c)) = true
-is_own_kind (Some (input.Answer number a)) = true
-is_own_kind (Some input.End) = true
-is_own_kind _ = false
-
-own_kinds : (e : Event) (told : Reply (List ℕ)) → is_own_kind (input_of e told) ≡ true
-own_kinds (event.Admit job quota key) reply.Ok = refl
-own_kinds (event.Admit job quota key) _ = refl
-own_kinds (event.JobEnd job) reply.Ok = refl
-own_kinds (event.JobEnd job) _ = refl
-own_kinds (event.Call job session c) told = refl
-own_kinds (event.Requota job quota) reply.Ok = refl
-own_kinds (event.Requota job quota) _ = refl
-own_kinds event.Take told = refl
-own_kinds (event.Finish job number a) reply.Ok = refl
-own_kinds (event.Finish job number a) _ = refl
-
-brings : (node : ℕ) (view : View) (x : Input) → is_own_kind (Some x) ≡ true → brings_within view.shape (judge node view x) ≡ true
-brings node view (input.Begin quota) is = refl
-brings node view (input.Call session c) is = refl
-brings node view input.End is = refl
-brings node view (input.Requota quota) is = refl
-brings node view (input.Answer number a) is = refl
-brings node view (input.Arrive a) is = absurd cc
-brings node view (input.Received id bytes giver depth) is = absurd cc
-brings node view (input.Withdrawn id giver depth) is = absurd cc
-
-pub brings_none : (node : ℕ) (view : View) (e : Event) (told : Reply (List ℕ)) (x : Input) → input_of e told ≡ Some x → brings_within view.shape (judge node view x) ≡ true
-brings_none node view e told x is = brings node view x (ap is_own_kind (sym is) ∙ own_kinds e told)

@@ -3,3 +3,4 @@ mod Built
 mod Lists
 mod Telling
 mod Numbering
+mod Recording

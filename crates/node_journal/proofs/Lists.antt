@@ -1,9 +1,9 @@
--- A list of entries with one more.
+-- Lines of a job with more after them.
 use Rattle.std.proofs.Common.{◌≡◌, List, [], ◌∷◌, ◌++◌, map, append-nil, append_assoc, refl, sym, ap, ◌∙◌}
 use Rattle.std.specs.Prelude.{option_to_list}
 use Rattle.private_store.specs.declared.inputs.Judged.{Judged}
-use Rattle.private_store.specs.Replay.{Brief, Line, replayed, answers_due, brief_after, brief_step}
-use Rattle.node_journal.specs.declared.entries.Entry.{Entry}
+use Rattle.private_store.specs.Replay.{Brief, Line as Replayed, replayed, answers_due, brief_after, brief_step}
+use Rattle.node_journal.specs.declared.entries.Line.{Line}
 use Rattle.node_journal.specs.Replies.{unlisted}
 use Rattle.node_journal.specs.Journals.{line_of, lines_of, AreDue}
 
@@ -11,26 +11,26 @@ map-snoc : {A B : Type 0} (f : A → B) (xs : List A) (y : A) → map f (xs ++ y
 map-snoc f [] y = refl
 map-snoc f (x ∷ xs) y = ap (λ r. f x ∷ r) (map-snoc f xs y)
 
-pub lines_of-snoc : (entries : List Entry) (e : Entry) → lines_of (entries ++ e ∷ []) ≡ lines_of entries ++ option_to_list (line_of e)
-lines_of-snoc [] e = append-nil (option_to_list (line_of e))
-lines_of-snoc (x ∷ xs) e =
-    ap (λ r. option_to_list (line_of x) ++ r) (lines_of-snoc xs e)
-    ∙ sym (append_assoc (option_to_list (line_of x)) (lines_of xs) (option_to_list (line_of e)))
+pub lines_of-snoc : (ls : List Line) (l : Line) → lines_of (ls ++ l ∷ []) ≡ lines_of ls ++ option_to_list (line_of l)
+lines_of-snoc [] l = append-nil (option_to_list (line_of l))
+lines_of-snoc (x ∷ xs) l =
+    ap (λ r. option_to_list (line_of x) ++ r) (lines_of-snoc xs l)
+    ∙ sym (append_assoc (option_to_list (line_of x)) (lines_of xs) (option_to_list (line_of l)))
 
-pub replayed-snoc : (b : Brief) (lines : List Line) (l : Line) → replayed b (lines ++ l ∷ []) ≡ brief_after (replayed b lines) l.input
+pub replayed-snoc : (b : Brief) (lines : List Replayed) (l : Replayed) → replayed b (lines ++ l ∷ []) ≡ brief_after (replayed b lines) l.input
 replayed-snoc b [] l = refl
 replayed-snoc b (x ∷ xs) l = replayed-snoc (brief_after b x.input) xs l
 
-abbrev inputs : List Line → List Judged
-inputs lines = map (λ (line : Line). line.input) lines
+abbrev inputs : List Replayed → List Judged
+inputs lines = map (λ (line : Replayed). line.input) lines
 
-answers_due-snoc : (b : Brief) (lines : List Line) (l : Line) → answers_due b (inputs (lines ++ l ∷ [])) ≡ answers_due b (inputs lines) ++ (brief_step (replayed b lines) l.input).reply ∷ []
+answers_due-snoc : (b : Brief) (lines : List Replayed) (l : Replayed) → answers_due b (inputs (lines ++ l ∷ [])) ≡ answers_due b (inputs lines) ++ (brief_step (replayed b lines) l.input).reply ∷ []
 answers_due-snoc b [] l = refl
 answers_due-snoc b (x ∷ xs) l = ap (λ r. (brief_step b x.input).reply ∷ r) (answers_due-snoc (brief_after b x.input) xs l)
 
-pub due-snoc : (b : Brief) (lines : List Line) (l : Line) → AreDue b lines → l.reply ≡ unlisted (brief_step (replayed b lines) l.input).reply → AreDue b (lines ++ l ∷ [])
+pub due-snoc : (b : Brief) (lines : List Replayed) (l : Replayed) → AreDue b lines → l.reply ≡ unlisted (brief_step (replayed b lines) l.input).reply → AreDue b (lines ++ l ∷ [])
 due-snoc b lines l h e =
-    map-snoc (λ (line : Line). line.reply) lines l
+    map-snoc (λ (line : Replayed). line.reply) lines l
     ∙ ap (λ r. r ++ l.reply ∷ []) h
     ∙ ap (λ r. map unlisted (answers_due b (inputs lines)) ++ r ∷ []) e
     ∙ sym (map-snoc unlisted (answers_due b (inputs lines)) (brief_step (replayed b lines) l.input).reply)

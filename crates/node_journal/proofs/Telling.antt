@@ -1,9 +1,12 @@
--- A journal after one entry more tells of its node as before.
-use Rattle.std.proofs.Common.{◌≡◌, ℕ, Bool, true, false, cond, ◌==◌, List, [], ◌∷◌, ◌++◌, append-nil, Option, Some, None, refl, sym, ap, subst, ◌∙◌, arith}
-use Rattle.std.specs.Prelude.{if◌then◌else◌, option_map, option_to_list, ◌↔◌, Result, Ok, Err, OnOk, OnErr}
+-- A journal after one step more tells of its node as before.
+use Rattle.std.proofs.Common.{◌≡◌, ℕ, Bool, true, false, cond, ◌==◌, List, [], ◌∷◌, ◌++◌, map, append-nil, append_assoc, Option, Some, None, refl, sym, ap, subst, ◌∙◌, arith}
+use Rattle.std.specs.Prelude.{if◌then◌else◌, filter, option_map, option_to_list, ◌↔◌, Result, Ok, Err, OnOk, OnErr}
 use Rattle.std.proofs.lemmas.Bool.Decides.{nat_tests}
+use Rattle.std.proofs.lemmas.List.{map-append}
 use Rattle.std.proofs.Math.Logic.{∥∥₁_map, ∥∥₁_elim}
 use mathlib.Core.Bool.{Bool-set}
+use Rattle.obj_id.specs.declared.commands.Reply.{Reply}
+use Rattle.obj_id.specs.declared.commands.Reply.TheVariants as reply
 use Rattle.obj_id.specs.declared.refusals.Refusal.{Refusal}
 use Rattle.private_store.specs.declared.inputs.Input.{Input}
 use Rattle.private_store.specs.declared.inputs.Input.TheVariants as input
@@ -12,37 +15,121 @@ use Rattle.private_store.specs.declared.schedules.Event.{Event}
 use Rattle.private_store.specs.declared.schedules.Event.TheVariants as event
 use Rattle.private_store.specs.declared.schedules.NodeEvent.TheVariants.{Own}
 use Rattle.private_store.specs.Contents.{View, judge}
-use Rattle.private_store.specs.Listed.{AreSeenKept, IsBriefKept}
 use Rattle.private_store.specs.Answers.{wants_memory, is_small_reply}
-use Rattle.private_store.specs.NodeInputs.{Before, only_of, inputs_to, hands_after}
+use Rattle.private_store.specs.NodeInputs.{JobInput, Before, own_here, notes_here, only_of, inputs_to}
 use Rattle.private_store.specs.Private.{view_step, view_from, view_of, no_store}
-use Rattle.private_store.specs.Replay.{Line, unbegun_brief, replayed, brief_after, brief_step}
-use Rattle.private_store.proofs.AnswersAre.{view_never_wants, answers_whole, answers_small, unbegun_within, within_keeps}
+use Rattle.private_store.specs.Replay.{Line as Replayed, unbegun_brief, replayed, brief_after, brief_step, brief_of}
+use Rattle.private_store.proofs.AnswersAre.{view_never_wants, answers_whole}
 use Rattle.private_store.proofs.Tests.{none_some}
-use Rattle.private_store.proofs.BriefKept.{replay_keeps}
 use Rattle.private_store.proofs.StepsKept.{no_store_kept, view_keeps}
 use Rattle.job_admission.specs.Admissions.{Admissions}
 use Rattle.node_core.specs.Built.{is_built}
 use Rattle.node_core.specs.Hosted.{Hosted, Shows, ShowsAll}
-use Rattle.node_core.specs.Steps.{Given, Steps, StepsFrom, IsStepOf, IsGiven, before_of, job_of_event}
+use Rattle.node_core.specs.Steps.{Given, JobJudged, Steps, StepsFrom, IsStepOf, IsGiven, before_of, job_of_event, judged_notes}
 use Rattle.node_core.specs.OneJob.{input_of}
-use Rattle.node_core.specs.Judged.{IsJudged}
+use Rattle.node_core.specs.Judged.{IsJudged, IsSmall, IsSmallCall}
 use Rattle.node_journal.specs.declared.entries.Entry.{Entry}
+use Rattle.node_journal.specs.declared.entries.Line.{Line}
+use Rattle.node_journal.specs.declared.entries.Line.TheVariants as line
 use Rattle.node_journal.specs.Replies.{unlisted, kept_reply}
-use Rattle.node_journal.specs.Journals.{entry_for, lines_of, AreDue, IsTold, Tells, is_call}
-use Rattle.node_core.proofs.AllJobs.{own_of, IsFinishAnswer, finish_answer, own_due-built, notes_here-built, hands_after-built}
-use Rattle.node_journal.proofs.Built.{of_job, here_is, if_own, own_inputs, brings_none}
+use Rattle.node_journal.specs.Journals.{entry_for, notes_for, lines_made, line_of, lines_of, AreDue, IsTold, Tells, is_call}
+use Rattle.node_core.proofs.AllJobs.{own_of, IsFinishAnswer, finish_answer, own_due-built}
+use Rattle.node_core.proofs.Notes.{is_note, AreJobNotes, here_notes}
+use Rattle.node_journal.proofs.Built.{of_job, here_is, if_own, own_inputs}
 use Rattle.node_journal.proofs.Lists.{lines_of-snoc, replayed-snoc, due-snoc}
 
--- ---- one entry more
+-- ---- lines
 
-module _ (old new : Hosted) (e : Event) (given : Given) (number : ℕ) (built : is_built e ≡ true) (none : old.hands ≡ []) (steps : Steps old (Own e) given new) (was : Option Judged) (is_judged : IsJudged old e given.reply was) where
+-- the replay of a list with a line more that is an input
+module _ (node job : ℕ) (view : View) (x : Input) (ls : List Line) (l : Line) (told : Reply ℕ) (h : IsTold job view ls) where
+  abbrev next : Replayed
+  next = record { input = judge node view x; reply = told }
+
+  pub line_told : line_of l ≡ Some next → told ≡ unlisted (brief_step (brief_of view) next.input).reply → IsTold job (view_step node view x).view (ls ++ l ∷ [])
+  line_told is due =
+      let lines : lines_of (ls ++ l ∷ []) ≡ lines_of ls ++ next ∷ [] = lines_of-snoc ls l ∙ ap (λ o. lines_of ls ++ option_to_list o) is in
+      record {
+        kept = view_keeps node view x h.kept;
+        replays = ap (replayed (unbegun_brief job)) lines ∙ replayed-snoc (unbegun_brief job) (lines_of ls) next ∙ ap (λ b. brief_after b next.input) h.replays;
+        due = subst (AreDue (unbegun_brief job)) (sym lines) (due-snoc (unbegun_brief job) (lines_of ls) next h.due (due ∙ ap (λ b. unlisted (brief_step b next.input).reply) (sym h.replays)));
+      }
+
+-- ---- notes
+
+-- no view judges a note
+judged_alike : (node : ℕ) (v w : View) (x : Input) → is_note x ≡ true → judge node v x ≡ judge node w x
+judged_alike node v w (input.Received id bytes giver depth) q = refl
+judged_alike node v w (input.Withdrawn id giver depth) q = refl
+judged_alike node v w (input.Begin quota) q = absurd cc
+judged_alike node v w (input.Requota quota) q = absurd cc
+judged_alike node v w (input.Call session c) q = absurd cc
+judged_alike node v w (input.Answer number a) q = absurd cc
+judged_alike node v w (input.Arrive a) q = absurd cc
+judged_alike node v w input.End q = absurd cc
+
+-- and it is answered Ok
+note_due : (node : ℕ) (view : View) (x : Input) → is_note x ≡ true → reply.Ok ≡ unlisted (brief_step (brief_of view) (judge node view x)).reply
+note_due node view (input.Received id bytes giver depth) q = refl
+note_due node view (input.Withdrawn id giver depth) q = refl
+note_due node view (input.Begin quota) q = absurd cc
+note_due node view (input.Requota quota) q = absurd cc
+note_due node view (input.Call session c) q = absurd cc
+note_due node view (input.Answer number a) q = absurd cc
+note_due node view (input.Arrive a) q = absurd cc
+note_due node view input.End q = absurd cc
+
+notes_told : (node number job : ℕ) (v : ℕ → View) (xs : List JobInput) → AreJobNotes xs → (view : View) (ls : List Line) → IsTold job view ls
+    → IsTold job (view_from node view (only_of job xs)) (ls ++ notes_for number (judged_notes node v xs) job)
+notes_told node number job v [] q view ls h = subst (IsTold job view) (sym (append-nil ls)) h
+notes_told node number job v (x ∷ xs) q view ls h = by (x.job == job) (notes_told node number job v xs q.1)
+  where
+    note : Line
+    note = line.Note number (judge node (v x.job) x.input)
+
+    Then : View → List Line → List Input → List Line → Type 0
+    Then w before inputs more = IsTold job (view_from node w inputs) (before ++ more)
+
+    here : IsTold job (view_step node view x.input).view (ls ++ note ∷ [])
+    here = line_told node job view x.input ls note reply.Ok h
+        (ap (λ y. Some (record { input = y; reply = reply.Ok })) (judged_alike node (v x.job) view x.input q.0)) (note_due node view x.input q.0)
+
+    by : (t : Bool) → ((w : View) (before : List Line) → IsTold job w before → Then w before (only_of job xs) (notes_for number (judged_notes node v xs) job))
+        → Then view ls (map (λ (y : JobInput). y.input) (cond t (x ∷ filter (λ (y : JobInput). y.job == job) xs) (filter (λ (y : JobInput). y.job == job) xs)))
+        (map (λ (n : JobJudged). line.Note number n.input) (cond t (record { job = x.job; input = judge node (v x.job) x.input } ∷ filter (λ (n : JobJudged). n.job == job) (judged_notes node v xs)) (filter (λ (n : JobJudged). n.job == job) (judged_notes node v xs))))
+    by true rest =
+        subst (IsTold job (view_from node (view_step node view x.input).view (only_of job xs))) (append_assoc ls (note ∷ []) (notes_for number (judged_notes node v xs) job))
+        (rest (view_step node view x.input).view (ls ++ note ∷ []) here)
+    by false rest = rest view ls h
+
+-- ---- inputs of one job
+
+filter-append : {X : Type 0} (test : X → Bool) (xs ys : List X) → filter test (xs ++ ys) ≡ filter test xs ++ filter test ys
+filter-append test [] ys = refl
+filter-append test (x ∷ xs) ys = by (test x) (filter-append test xs ys)
+  where
+    by : (b : Bool) → filter test (xs ++ ys) ≡ filter test xs ++ filter test ys → cond b (x ∷ filter test (xs ++ ys)) (filter test (xs ++ ys)) ≡ cond b (x ∷ filter test xs) (filter test xs) ++ filter test ys
+    by true h = ap (λ r. x ∷ r) h
+    by false h = h
+
+only-append : (job : ℕ) (xs ys : List JobInput) → only_of job (xs ++ ys) ≡ only_of job xs ++ only_of job ys
+only-append job xs ys = ap (map (λ (x : JobInput). x.input)) (filter-append (λ (x : JobInput). x.job == job) xs ys) ∙ map-append (λ (x : JobInput). x.input) (filter (λ (x : JobInput). x.job == job) xs) (filter (λ (x : JobInput). x.job == job) ys)
+
+from-append : (node : ℕ) (view : View) (xs ys : List Input) → view_from node view (xs ++ ys) ≡ view_from node (view_from node view xs) ys
+from-append node view [] ys = refl
+from-append node view (x ∷ xs) ys = from-append node (view_step node view x).view xs ys
+
+-- ---- one entry more, and its notes
+
+module _ (old new : Hosted) (e : Event) (given : Given) (number : ℕ) (built : is_built e ≡ true) (steps : Steps old (Own e) given new) (was : Option Judged) (is_judged : IsJudged old e given.reply was) where
   abbrev entry : Entry
   entry = entry_for number was given.reply
 
   module _ (v : ℕ → View) (shows : ShowsAll old v) where
     abbrev before : Before
     before = before_of old v
+
+    abbrev noted : List JobInput
+    noted = notes_here before (Own e) given.reply
 
     from : StepsFrom old v (Own e) given new
     from = steps.each v shows
@@ -59,11 +146,11 @@ module _ (old new : Hosted) (e : Event) (given : Given) (number : ℕ) (built : 
     never : (x : Input) → input_of e given.reply ≡ Some x → wants_memory given.reply ≡ false
     never x is = ap wants_memory (told_is x is).reply ∙ view_never_wants old.number (v (job_of_event e)) x
 
-    inputs_are : (job : ℕ) → inputs_to before (Own e) given.reply job ≡ if_own (job_of_event e == job) (input_of e given.reply)
+    inputs_are : (job : ℕ) → inputs_to before (Own e) given.reply job ≡ if_own (job_of_event e == job) (input_of e given.reply) ++ only_of job noted
     inputs_are job =
-        ap (only_of job) ((λ i. option_to_list (here_is before e given.reply built answer never_here i) ++ notes_here-built before e given.reply built none i)
-        ∙ append-nil (option_to_list (own_of e given.reply)))
-        ∙ own_inputs (job_of_event e) job (input_of e given.reply)
+        only-append job (option_to_list (own_here before (Own e) given.reply)) noted
+        ∙ ap (λ o. only_of job (option_to_list o) ++ only_of job noted) (here_is before e given.reply built answer never_here)
+        ∙ ap (λ xs. xs ++ only_of job noted) (own_inputs (job_of_event e) job (input_of e given.reply))
       where
         never_here : (job : ℕ) (x : Input) → own_of e given.reply ≡ Some (record { job = job; input = x }) → wants_memory given.reply ≡ false
         never_here job x is = by (input_of e given.reply) refl is
@@ -75,79 +162,64 @@ module _ (old new : Hosted) (e : Event) (given : Given) (number : ℕ) (built : 
     judged_is : (o : Option Input) → input_of e given.reply ≡ o → was ≡ option_map (judge old.number (v (job_of_event e))) o
     judged_is o is = sym (is_judged.by_view (v (job_of_event e)) (shows (job_of_event e))) ∙ ap (option_map (judge old.number (v (job_of_event e)))) is
 
-    module _ (job : ℕ) (own : job_of_event e ≡ job) (entries : List Entry) (h : IsTold job (v job) entries) where
+    module _ (job : ℕ) (own : job_of_event e ≡ job) (ls : List Line) (h : IsTold job (v job) ls) where
       -- an event that is no input of its job
-      none_told : input_of e given.reply ≡ None → IsTold job (v job) (entries ++ entry ∷ [])
+      none_told : input_of e given.reply ≡ None → IsTold job (v job) (ls ++ line.Entry entry ∷ [])
       none_told is =
-          let lines : lines_of (entries ++ entry ∷ []) ≡ lines_of entries =
-          lines_of-snoc entries entry ∙ ap (λ o. lines_of entries ++ option_to_list (option_map (λ x. record { input = x; reply = entry.reply }) o)) (judged_is None is) ∙ append-nil (lines_of entries) in
+          let lines : lines_of (ls ++ line.Entry entry ∷ []) ≡ lines_of ls =
+          lines_of-snoc ls (line.Entry entry) ∙ ap (λ o. lines_of ls ++ option_to_list (option_map (λ x. record { input = x; reply = entry.reply }) o)) (judged_is None is) ∙ append-nil (lines_of ls) in
           record {
             kept = h.kept;
-            granted = h.granted;
             replays = ap (replayed (unbegun_brief job)) lines ∙ h.replays;
             due = subst (AreDue (unbegun_brief job)) (sym lines) h.due;
           }
 
       -- one that is
-      module _ (x : Input) (is : input_of e given.reply ≡ Some x) where
-        judged_here : was ≡ Some (judge old.number (v job) x)
-        judged_here = judged_is (Some x) is ∙ ap (λ k. Some (judge old.number (v k) x)) own
+      some_told : (x : Input) → input_of e given.reply ≡ Some x → IsTold job (view_step old.number (v job) x).view (ls ++ line.Entry entry ∷ [])
+      some_told x is =
+          line_told old.number job (v job) x ls (line.Entry entry) (kept_reply given.reply) h
+          (ap (option_map (λ y. record { input = y; reply = entry.reply })) (judged_is (Some x) is ∙ ap (λ k. Some (judge old.number (v k) x)) own))
+          (ap kept_reply ((told_is x is).reply ∙ ap (λ k. (view_step old.number (v k) x).reply) own) ∙ ap unlisted (answers_whole old.number (v job) x h.kept))
 
-        told_here : given.reply ≡ (view_step old.number (v job) x).reply
-        told_here = (told_is x is).reply ∙ ap (λ k. (view_step old.number (v k) x).reply) own
-
-        abbrev line : Line
-        line = record { input = judge old.number (v job) x; reply = kept_reply given.reply }
-
-        lines : lines_of (entries ++ entry ∷ []) ≡ lines_of entries ++ line ∷ []
-        lines = lines_of-snoc entries entry ∙ ap (λ o. lines_of entries ++ option_to_list (option_map (λ y. record { input = y; reply = entry.reply }) o)) judged_here
-
-        seen : AreSeenKept (v job).shape.received
-        seen = (subst IsBriefKept h.replays (replay_keeps job (lines_of entries))).lists.seen
-
-        reply_due : line.reply ≡ unlisted (brief_step (replayed (unbegun_brief job) (lines_of entries)) line.input).reply
-        reply_due =
-            ap kept_reply told_here
-            ∙ ap unlisted (answers_whole old.number (v job) x h.kept)
-            ∙ ap (λ b. unlisted (brief_step b line.input).reply) (sym h.replays)
-
-        some_told : IsTold job (view_step old.number (v job) x).view (entries ++ entry ∷ [])
-        some_told = record {
-          kept = view_keeps old.number (v job) x h.kept;
-          granted = within_keeps (v job).order (v job).shape line.input (brings_none old.number (v job) e given.reply x is) seen h.granted;
-          replays = ap (replayed (unbegun_brief job)) lines ∙ replayed-snoc (unbegun_brief job) (lines_of entries) line ∙ ap (λ b. brief_after b line.input) h.replays;
-          due = subst (AreDue (unbegun_brief job)) (sym lines) (due-snoc (unbegun_brief job) (lines_of entries) line h.due reply_due);
-        }
-
-    one_told : (job : ℕ) (entries : List Entry) → IsTold job (v job) entries
-        → IsTold job (view_from old.number (v job) (if_own (job_of_event e == job) (input_of e given.reply))) (if job_of_event e == job then entries ++ entry ∷ [] else entries)
-    one_told job entries h = by (job_of_event e == job) (input_of e given.reply) refl refl
+    own_told : (job : ℕ) (ls : List Line) → IsTold job (v job) ls
+        → IsTold job (view_from old.number (v job) (if_own (job_of_event e == job) (input_of e given.reply))) (ls ++ (if job_of_event e == job then line.Entry entry ∷ [] else []))
+    own_told job ls h = by (job_of_event e == job) (input_of e given.reply) refl refl
       where
         own_is : (job_of_event e == job) ≡ true → job_of_event e ≡ job
         own_is t = grind (arith, nat_tests)
 
         by : (b : Bool) (o : Option Input) → (job_of_event e == job) ≡ b → input_of e given.reply ≡ o
-            → IsTold job (view_from old.number (v job) (if_own b o)) (cond b (entries ++ entry ∷ []) entries)
-        by true None t is = none_told job (own_is t) entries h is
-        by true (Some x) t is = some_told job (own_is t) entries h x is
-        by false o t is = h
+            → IsTold job (view_from old.number (v job) (if_own b o)) (ls ++ cond b (line.Entry entry ∷ []) [])
+        by true None t is = none_told job (own_is t) ls h is
+        by true (Some x) t is = some_told job (own_is t) ls h x is
+        by false o t is = subst (IsTold job (v job)) (sym (append-nil ls)) h
+
+    one_told : (job : ℕ) (ls : List Line) → IsTold job (v job) ls
+        → IsTold job (view_from old.number (v job) (inputs_to before (Own e) given.reply job)) (ls ++ lines_made number e was given job)
+    one_told job ls h =
+        let own : List Line = if job_of_event e == job then line.Entry entry ∷ [] else [] in
+        let mine : List Input = if_own (job_of_event e == job) (input_of e given.reply) in
+        subst (λ xs. IsTold job (view_from old.number (v job) xs) (ls ++ lines_made number e was given job)) (sym (inputs_are job))
+        (subst (λ w. IsTold job w (ls ++ lines_made number e was given job)) (sym (from-append old.number (v job) mine (only_of job noted)))
+        (subst (λ notes. IsTold job (view_from old.number (view_from old.number (v job) mine) (only_of job noted)) (ls ++ (own ++ notes_for number notes job))) (sym from.notes)
+        (subst (IsTold job (view_from old.number (view_from old.number (v job) mine) (only_of job noted))) (append_assoc ls own (notes_for number (judged_notes old.number v noted) job))
+        (notes_told old.number number job v noted (here_notes before (Own e) given.reply) (view_from old.number (v job) mine) (ls ++ own) (own_told job ls h)))))
 
   -- the fact under the lock
-  told_next : (before after : ℕ → List Entry) → ((job : ℕ) → after job ≡ (if job_of_event e == job then before job ++ entry ∷ [] else before job)) → Tells old before → Tells new after
+  told_next : (before after : ℕ → List Line) → ((job : ℕ) → after job ≡ before job ++ lines_made number e was given job) → Tells old before → Tells new after
   told_next before after is h = record {
     views = λ job. view_from old.number (h.views job) (inputs_to (before_of old h.views) (Own e) given.reply job);
     shown = (steps.each h.views h.shown).views;
     told = λ job.
-        subst (λ xs. IsTold job (view_from old.number (h.views job) xs) (after job)) (sym (inputs_are h.views h.shown job))
-        (subst (IsTold job (view_from old.number (h.views job) (if_own (job_of_event e == job) (input_of e given.reply)))) (sym (is job))
-        (one_told h.views h.shown job (before job) (h.told job)));
+        subst (IsTold job (view_from old.number (h.views job) (inputs_to (before_of old h.views) (Own e) given.reply job))) (sym (is job))
+        (one_told h.views h.shown job (before job) (h.told job));
   }
 
-  pub all_told : (before after : ℕ → List Entry) → ((job : ℕ) → after job ≡ (if job_of_event e == job then before job ++ entry ∷ [] else before job)) → ∥ Tells old before ∥₁ → ∥ Tells new after ∥₁
+  pub all_told : (before after : ℕ → List Line) → ((job : ℕ) → after job ≡ before job ++ lines_made number e was given job) → ∥ Tells old before ∥₁ → ∥ Tells new after ∥₁
   all_told before after is h = ∥∥₁_map h (told_next before after is)
 
   -- what a session is answered
-  module _ (before : ℕ → List Entry) (call : is_call e ≡ true) where
+  module _ (before : ℕ → List Line) (call : is_call e ≡ true) where
     by_call : {A : Type 0} → ((x : Input) → input_of e given.reply ≡ Some x → A) → A
     by_call {A} f = by e call refl
       where
@@ -159,32 +231,40 @@ module _ (old new : Hosted) (e : Event) (given : Given) (number : ℕ) (built : 
         by event.Take call is = absurd cc
         by (event.Finish job number a) call is = absurd cc
 
-    small : Tells old before → is_small_reply given.reply ≡ true
-    small h = by_call (λ x is.
-        ap is_small_reply (told_is h.views h.shown x is).reply
-        ∙ answers_small old.number (h.views (job_of_event e)) x (h.told (job_of_event e)).kept (h.told (job_of_event e)).granted)
-
-    pub call_small : ∥ Tells old before ∥₁ → is_small_reply given.reply ≡ true
-    call_small h = ∥∥₁_elim h (Bool-set _ _) small
-
     pub call_never_wants : ∥ Tells old before ∥₁ → wants_memory given.reply ≡ false
     call_never_wants h = ∥∥₁_elim h (Bool-set _ _) (λ t. by_call (never t.views t.shown))
 
-  pub none_stands : new.hands ≡ []
-  none_stands = steps.hands ∙ ap (λ hands. hands_after hands (Own e) given.reply) none ∙ hands_after-built e given.reply built
+pub call_small : (old : Hosted) (e : Event) (told : Reply (List ℕ)) (before : ℕ → List Line) → IsSmall old e told → is_call e ≡ true → ∥ Tells old before ∥₁ → is_small_reply told ≡ true
+call_small old e told before small call h = ∥∥₁_elim h (Bool-set _ _) (λ t. by e call (small t.views t.shown))
+  where
+    by : (g : Event) → is_call g ≡ true → IsSmallCall g told → is_small_reply told ≡ true
+    by (event.Call job session c) call is = is
+    by (event.Admit job quota key) call is = absurd cc
+    by (event.Requota job quota) call is = absurd cc
+    by (event.JobEnd job) call is = absurd cc
+    by event.Take call is = absurd cc
+    by (event.Finish job number a) call is = absurd cc
+
+-- the same lines tell of the same
+pub told_alike : (old new : Hosted) (before after : ℕ → List Line) → new ≡ old → ((job : ℕ) → after job ≡ before job) → ∥ Tells old before ∥₁ → ∥ Tells new after ∥₁
+told_alike old new _ after same is h = subst (λ node. ∥ Tells node after ∥₁) (sym same) (∥∥₁_map h (λ t. record {
+  views = t.views;
+  shown = t.shown;
+  told = λ job. subst (IsTold job (t.views job)) (sym (is job)) (t.told job);
+}))
 
 -- ---- a node in which nothing has happened
 
-pub told_at_first : (node : Hosted) (entries : ℕ → List Entry) → ((job : ℕ) → Shows node job (view_of (no_store job))) → ((job : ℕ) → entries job ≡ []) → ∥ Tells node entries ∥₁
+pub told_at_first : (node : Hosted) (entries : ℕ → List Line) → ((job : ℕ) → Shows node job (view_of (no_store job))) → ((job : ℕ) → entries job ≡ []) → ∥ Tells node entries ∥₁
 told_at_first node entries shows none = ∣ record {
   views = λ job. view_of (no_store job);
   shown = shows;
-  told = λ job. subst (IsTold job (view_of (no_store job))) (sym (none job)) (record { kept = no_store_kept job; granted = unbegun_within job; replays = refl; due = refl });
+  told = λ job. subst (IsTold job (view_of (no_store job))) (sym (none job)) (record { kept = no_store_kept job; replays = refl; due = refl });
 } ∣₁
 
 -- ---- a session that enters
 
-pub told_entered : (old new : Hosted) (entries : ℕ → List Entry) → ((job : ℕ) (view : View) → Shows new job view ↔ Shows old job view) → ∥ Tells old entries ∥₁ → ∥ Tells new entries ∥₁
+pub told_entered : (old new : Hosted) (entries : ℕ → List Line) → ((job : ℕ) (view : View) → Shows new job view ↔ Shows old job view) → ∥ Tells old entries ∥₁ → ∥ Tells new entries ∥₁
 told_entered old new entries views h = ∥∥₁_map h (λ t. record { views = t.views; shown = λ job. (views job (t.views job)).1 (t.shown job); told = t.told })
 
 module _ (r : Result ℕ Refusal) (old new : Hosted) (a : Admissions) where
@@ -194,10 +274,3 @@ module _ (r : Result ℕ Refusal) (old new : Hosted) (a : Admissions) where
       by : (r : Result ℕ Refusal) → OnOk r (new ≡ record old { admissions = a }) → OnErr r (new ≡ old) → new.number ≡ old.number
       by (Ok n) ok err = ap (λ (h : Hosted). h.number) ok
       by (Err e) ok err = ap (λ (h : Hosted). h.number) err
-
-  pub entered_hands : OnOk r (new ≡ record old { admissions = a }) → OnErr r (new ≡ old) → new.hands ≡ old.hands
-  entered_hands ok err = by r ok err
-    where
-      by : (r : Result ℕ Refusal) → OnOk r (new ≡ record old { admissions = a }) → OnErr r (new ≡ old) → new.hands ≡ old.hands
-      by (Ok n) ok err = ap (λ (h : Hosted). h.hands) ok
-      by (Err e) ok err = ap (λ (h : Hosted). h.hands) err

@@ -14,7 +14,8 @@ pub(crate) fn copy_of(input: &Option<Judged>) -> Option<Judged>
     }
 }
 
-fn copy_of_judged(judged: &Judged) -> Judged
+/// The same, once more. Takes no memory.
+pub(crate) fn copy_of_judged(judged: &Judged) -> Judged
     ensures { result ≡ judged.now }
 {
     match judged {

@@ -22,6 +22,16 @@ pub struct Entry {
     pub reply: Reply<u64>,
 }
 
+/// A line of a job's journal.
+#[derive(Debug, Drop)]
+pub enum Line {
+    /// A step that was an event of the job.
+    Entry(Entry),
+    /// What the step with this entry's number was to the job as the taker of a hand, without contents. It is always answered
+    /// Ok, and a job's own step may be followed by notes of its own.
+    Note(u64, Judged),
+}
+
 /// The name of one entry in a journal of the ledger `L`: a step makes it, and it isn't copied.
 #[derive(Drop)]
 pub struct Receipt<L: Ledger> {

@@ -1,20 +1,21 @@
 //! A node with its journal, under one name.
-ghost use Rattle.std.specs.Prelude.{◌≡◌, ℕ, ◌+◌, ◌++◌, ◌∷◌, ◌==◌, ◌&&◌, ◌⊎◌, ◌≤◌, [], true, false, if◌then◌else◌, Some, None, IfOk, IfErr, OnOk, OnErr, IsErrOf, IsOk};
+ghost use Rattle.std.specs.Prelude.{◌≡◌, ℕ, ◌+◌, ◌++◌, ◌∷◌, ◌==◌, ◌&&◌, ◌⊎◌, ◌≤◌, [], true, false, if◌then◌else◌, Some, None, IfOk, IfErr, OnOk, OnErr, IsErrOf, IsOk, is_some};
 ghost use Rattle.std.specs.List.{list_any};
 ghost use Rattle.obj_id.specs.declared.refusals.Refusal.{Refusal};
 ghost use Rattle.obj_id.specs.declared.refusals.Refusal.TheVariants.{NoMemory, NotAdmitted, TooMany};
 ghost use Rattle.private_store.specs.declared.schedules.NodeEvent.TheVariants as node_event;
 ghost use Rattle.private_store.specs.Answers.{wants_memory, is_small_reply};
 ghost use Rattle.job_admission.specs.Admissions.{largest_memory, sessions_entered, enter_check, entered};
+ghost use Rattle.spill_work.specs.Line.{front_of};
 ghost use Rattle.node_core.specs.Built.{is_built};
 ghost use Rattle.node_core.specs.Steps.{job_of_event, Steps};
-ghost use Rattle.node_core.specs.Judged.{IsJudged};
+ghost use Rattle.node_core.specs.Judged.{IsJudged, IsSmall};
 ghost use Rattle.node_core.specs.Outcomes.{given_of};
-ghost use Rattle.node_journal.specs.Logs.{lists_of, list_of};
-ghost use Rattle.node_journal.specs.Journals.{entry_for, Tells, AreNumbered, is_call};
+ghost use Rattle.node_journal.specs.Logs.{list_of};
+ghost use Rattle.node_journal.specs.Journals.{entry_for, lines_made, is_entry, Tells, AreNumbered, is_call};
 
 use crate::copies::copy_of;
-use crate::entries::{Entry, Receipt, job_of, kept_reply_of};
+use crate::entries::{Entry, Line, Receipt, job_of, kept_reply_of};
 use crate::logs::Logs;
 use node_core::{Node, Outcome};
 use obj_id::{JobKey, JobNo, Refusal};
@@ -29,8 +30,8 @@ const LAST_ENTRY: u64 = (1 << 60) - 1;
 /// A node with its journal, which holds one part of the ledger that its name is: nothing else of that part's name can be
 /// stepped, since nobody else gets the part.
 ///
-/// Whenever it can be seen, the node shows of every job number a view of which the job's entries tell: their replay gives
-/// that view without its contents, and each entry has the answer that the replay gives there. The entries' numbers rise.
+/// Whenever it can be seen, the node shows of every job number a view of which the job's lines tell: their replay gives that
+/// view without its contents, and each entry has the answer that the replay gives there. The entries' numbers rise.
 #[derive(Drop)]
 pub struct Kept<L: Ledger> {
     alloc: Global,
@@ -43,9 +44,8 @@ pub struct Kept<L: Ledger> {
     pub ghost seated: { seat.parts ≡ 1 },
     pub ghost blank: { seat.amount ≡ 0 },
     pub ghost named: { node.number ≡ number },
-    pub ghost handless: { node.hands ≡ [] },
-    pub ghost numbered: { (job : ℕ) → AreNumbered count (list_of (lists_of logs) job) },
-    pub ghost told: { ∥ Tells node (list_of (lists_of logs)) ∥₁ },
+    pub ghost numbered: { (job : ℕ) → AreNumbered count (list_of logs job) },
+    pub ghost told: { ∥ Tells node (list_of logs) ∥₁ },
 }
 
 impl<L: Ledger> Kept<L> {
@@ -56,7 +56,7 @@ impl<L: Ledger> Kept<L> {
         ensures number { result.number ≡ number }
         ensures admissions { result.node.admissions ≡ record { memory = memory; greatest = 0; live = [] } }
         ensures count { result.count ≡ 0 }
-        ensures empty { lists_of result.logs ≡ [] }
+        ensures empty { result.logs ≡ [] }
     {
         Kept {
             alloc,
@@ -68,14 +68,15 @@ impl<L: Ledger> Kept<L> {
         }
     }
 
-    /// Steps the node by one event, and adds one entry, which the receipt names.
+    /// Steps the node by one event, and adds one entry, which the receipt names, and after it a note to each job that the
+    /// step told of a hand.
     ///
     /// `NoMemory` alone, if the event or its entry finds no memory, or if 1,152,921,504,606,846,975 entries were made:
     /// then nothing has changed.
     pub fn step(&mut self, event: &Event) -> Result<(Outcome, Receipt<L>), Refusal>
         requires { is_built event.now ≡ true }
         ensures node { IfOk result (λ r. Steps self.old.node (node_event.Own event.now) (given_of r.0) self.new.node) }
-        ensures journal { IfOk result (λ r. (job : ℕ) → list_of (lists_of self.new.logs) job ≡ (if job_of_event event.now == job then list_of (lists_of self.old.logs) job ++ entry_for (self.old.count + 1) r.0.judged r.0.reply ∷ [] else list_of (lists_of self.old.logs) job)) }
+        ensures journal { IfOk result (λ r. (job : ℕ) → list_of self.new.logs job ≡ list_of self.old.logs job ++ lines_made (self.old.count + 1) event.now r.0.judged (given_of r.0) job) }
         ensures receipt { IfOk result (λ r. (r.1.node ≡ self.old.number) × (r.1.job.0 ≡ job_of_event event.now) × (r.1.entry ≡ entry_for (self.old.count + 1) r.0.judged r.0.reply)) }
         ensures judged { IfOk result (λ r. IsJudged self.old.node event.now r.0.reply r.0.judged) }
         ensures count { OnOk result (self.new.count ≡ self.old.count + 1) }
@@ -84,7 +85,7 @@ impl<L: Ledger> Kept<L> {
         ensures number { self.new.number ≡ self.old.number }
         ensures memory { (r : Refusal) → IsErrOf result r → r ≡ NoMemory }
         ensures same { OnErr result ((self.new.node ≡ self.old.node) × (self.new.count ≡ self.old.count)) }
-        ensures unchanged { OnErr result (lists_of self.new.logs ≡ lists_of self.old.logs) }
+        ensures unchanged { OnErr result ((job : ℕ) → list_of self.new.logs job ≡ list_of self.old.logs job) }
     {
         if self.count >= LAST_ENTRY {
             return Err(Refusal::NoMemory);
@@ -121,7 +122,7 @@ impl<L: Ledger> Kept<L> {
         ensures refusals { IfErr result (λ r. (r ≡ NotAdmitted) ⊎ (r ≡ TooMany)) }
         ensures refused { (r : Refusal) → IsErrOf result r → enter_check self.old.node.admissions job key.now ≡ Some r }
         ensures err { OnErr result (self.new.node ≡ self.old.node) }
-        ensures journal { (lists_of self.new.logs ≡ lists_of self.old.logs) × (self.new.count ≡ self.old.count) × (self.new.number ≡ self.old.number) }
+        ensures journal { (self.new.logs ≡ self.old.logs) × (self.new.count ≡ self.old.count) × (self.new.number ≡ self.old.number) }
     {
         let Kept {
             alloc: _,
@@ -148,31 +149,48 @@ impl<L: Ledger> Kept<L> {
         self.count
     }
 
+    /// Whether a work waits that nobody has taken. It makes no entry.
+    pub fn has_work(&self) -> bool
+        ensures { result ≡ is_some (front_of self.now.node.works.works) }
+    {
+        self.node.has_work()
+    }
+
     /// Whether the journal has an entry of the receipt's job and number, if the receipt is this node's.
     ///
-    /// Looks at each of the job's entries, at most.
+    /// Looks at each of the job's lines, at most.
     pub fn stands(&self, receipt: &Receipt<L>) -> bool
-        ensures { result ≡ (receipt.now.node == self.now.number && list_any (λ entry. entry.number == receipt.now.entry.number) (list_of (lists_of self.now.logs) receipt.now.job.0)) }
+        ensures { result ≡ (receipt.now.node == self.now.number && list_any (is_entry receipt.now.entry.number) (list_of self.now.logs receipt.now.job.0)) }
     {
         receipt.node() == self.number && has_number(self.list(receipt.job()), receipt.number())
     }
 
-    /// The entries of a job number, oldest first.
-    pub fn list(&self, job: JobNo) -> &[Entry]
-        ensures { result.now ≡ list_of (lists_of self.now.logs) job.0 }
+    /// The lines of a job number, oldest first.
+    pub fn list(&self, job: JobNo) -> &[Line]
+        ensures { result.now ≡ list_of self.now.logs job.0 }
     {
         self.logs.list(job)
     }
 }
 
-/// Whether one of the entries has the number.
-fn has_number(entries: &[Entry], number: u64) -> bool
-    ensures { result ≡ list_any (λ entry. entry.number == number) entries.now }
+/// Whether one of the lines is the entry of this number.
+fn has_number(lines: &[Line], number: u64) -> bool
+    ensures { result ≡ list_any (is_entry number) lines.now }
 {
-    entries.iter().any(|entry| entry.number == number)
+    lines.iter().any(|line| is_entry_of(line, number))
 }
 
-/// Steps the node, and writes the entry of this number. An error changes neither.
+/// Whether the line is the entry of this number.
+fn is_entry_of(line: &Line, number: u64) -> bool
+    ensures { result ≡ is_entry number line.now }
+{
+    match line {
+        Line::Entry(entry) => entry.number == number,
+        Line::Note(_, _) => false,
+    }
+}
+
+/// Steps the node, and writes the entry of this number and what the step told the takers of hands. An error changes neither.
 fn record(
     alloc: Global,
     node: &mut Node,
@@ -183,13 +201,16 @@ fn record(
     requires { is_built event.now ≡ true }
     ensures node { IfOk result (λ o. Steps node.old (node_event.Own event.now) (given_of o) node.new) }
     ensures judged { IfOk result (λ o. IsJudged node.old event.now o.reply o.judged) }
-    ensures logs { IfOk result (λ o. (job : ℕ) → list_of (lists_of logs.new) job ≡ (if job_of_event event.now == job then list_of (lists_of logs.old) job ++ entry_for number o.judged o.reply ∷ [] else list_of (lists_of logs.old) job)) }
+    ensures small { IfOk result (λ o. IsSmall node.old event.now o.reply) }
+    ensures logs { IfOk result (λ o. (job : ℕ) → list_of logs.new job ≡ list_of logs.old job ++ lines_made number event.now o.judged (given_of o) job) }
     ensures memory { (r : Refusal) → IsErrOf result r → r ≡ NoMemory }
     ensures err { OnErr result (node.new ≡ node.old) }
-    ensures unchanged { OnErr result (lists_of logs.new ≡ lists_of logs.old) }
+    ensures unchanged { OnErr result ((job : ℕ) → list_of logs.new job ≡ list_of logs.old job) }
 {
     let job = job_of(event);
-    logs.reserve(job)?;
+    // all growth comes before the node's step
+    let takers = node.takers(event)?;
+    logs.reserve(job, takers.as_slice())?;
     let outcome = node.apply(event)?;
     let reply = kept_reply_of(alloc, &outcome.reply);
     let entry = Entry {
@@ -197,6 +218,7 @@ fn record(
         input: copy_of(&outcome.judged),
         reply,
     };
-    logs.add(job, entry);
+    logs.add(job, Line::Entry(entry));
+    logs.add_notes(number, outcome.notes.as_slice());
     Ok(outcome)
 }

@@ -7,5 +7,5 @@ mod entries;
 mod kept;
 mod logs;
 
-pub use entries::{Entry, Receipt};
+pub use entries::{Entry, Line, Receipt};
 pub use kept::Kept;

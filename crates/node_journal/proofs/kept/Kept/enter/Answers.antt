@@ -1,5 +1,5 @@
 use Rattle.std.proofs.Common.{◌∙◌}
-use Rattle.node_journal.proofs.Telling.{told_entered, entered_number, entered_hands}
+use Rattle.node_journal.proofs.Telling.{told_entered, entered_number}
 use Rattle.node_journal.proofs.kept.Kept.enter.Goals as goal
 
 pub invariant_of-self : goal.invariant_of-self
@@ -10,7 +10,6 @@ invariant_of-self g c =
       seated = old.seated;
       blank = old.blank;
       named = entered_number _ old.node _ _ done.ok done.err ∙ old.named;
-      handless = entered_hands _ old.node _ _ done.ok done.err ∙ old.handless;
       numbered = old.numbered;
       told = told_entered old.node _ _ done.views old.told;
     }

@@ -1,17 +1,16 @@
 use Rattle.std.proofs.Common.{◌≡◌, ℕ, [], ap}
-use Rattle.node_journal.specs.Logs.{lists_of, list_of}
+use Rattle.node_journal.specs.Logs.{list_of}
 use Rattle.node_journal.proofs.Telling.{told_at_first}
 use Rattle.node_journal.proofs.Numbering.{none_numbered}
 use Rattle.node_journal.proofs.kept.Kept.new.Goals as goal
 
 pub invariant_of-result : goal.invariant_of-result
 invariant_of-result g c =
-    let none : (job : ℕ) → list_of (lists_of c.new-2.result) job ≡ [] = λ job. ap (λ lists. list_of lists job) c.new-2.ensures in
+    let none : (job : ℕ) → list_of c.new-2.result job ≡ [] = λ job. ap (λ logs. list_of logs job) c.new-2.ensures in
     record {
       seated = c.requires.seat.0;
       blank = c.requires.seat.1;
       named = c.new.ensures.number;
-      handless = c.new.ensures.hands;
       numbered = λ job. none_numbered 0 _ (none job);
       told = told_at_first c.new.result _ c.new.ensures.shows none;
     }

@@ -1,8 +1,21 @@
-use Rattle.std.proofs.Common.{◌+◌, ◌==◌, refl, ◌∙◌}
+use Rattle.std.proofs.Common.{◌+◌, ◌==◌, refl, sym, ap, subst, ◌∙◌}
 use Rattle.node_core.specs.Steps.{job_of_event}
-use Rattle.node_journal.proofs.Telling.{all_told, none_stands, call_never_wants, call_small}
+use Rattle.node_journal.specs.Journals.{AreNumbered}
+use Rattle.node_journal.proofs.Telling.{all_told, told_alike, call_never_wants, call_small}
 use Rattle.node_journal.proofs.Numbering.{all_numbered}
 use Rattle.node_journal.proofs.kept.Kept.step.Goals as goal
+
+pub invariant_of-self : goal.invariant_of-self
+invariant_of-self g c =
+    let old = c.args.self.now in
+    let left = c.in_err-outcome.ensures in
+    record {
+      seated = old.seated;
+      blank = old.blank;
+      named = ap (λ n. n.number) left.err ∙ old.named;
+      numbered = λ job. subst (AreNumbered old.count) (sym (left.unchanged job)) (old.numbered job);
+      told = told_alike old.node _ _ _ left.err left.unchanged old.told;
+    }
 
 pub invariant_of-self-2 : goal.invariant_of-self-2
 invariant_of-self-2 g c =
@@ -13,17 +26,15 @@ invariant_of-self-2 g c =
       seated = old.seated;
       blank = old.blank;
       named = done.node.number ∙ old.named;
-      handless = none_stands old.node _ e _ (old.count + 1) c.requires old.handless done.node _ done.judged;
-      numbered = λ job. all_numbered old.count (job_of_event e == job) _ _ _ refl (done.logs job) (old.numbered job);
-      told = all_told old.node _ e _ (old.count + 1) c.requires old.handless done.node _ done.judged _ _ done.logs old.told;
+      numbered = λ job. all_numbered old.count job (job_of_event e == job) _ _ _ _ refl (done.logs job) (old.numbered job);
+      told = all_told old.node _ e _ (old.count + 1) c.requires done.node _ done.judged _ _ done.logs old.told;
     }
 
 pub returns-clause-answered : goal.returns-clause-answered
 returns-clause-answered g c = λ call.
+    let old = c.args.self.now in
     let done = c.in_ok-outcome.ensures in
-    call_never_wants c.args.self.now.node _ c.args.event.now _ (c.args.self.now.count + 1) c.requires c.args.self.now.handless done.node _ done.judged _ call c.args.self.now.told
+    call_never_wants old.node _ c.args.event.now _ (old.count + 1) c.requires done.node _ done.judged _ call old.told
 
 pub returns-clause-small : goal.returns-clause-small
-returns-clause-small g c = λ call.
-    let done = c.in_ok-outcome.ensures in
-    call_small c.args.self.now.node _ c.args.event.now _ (c.args.self.now.count + 1) c.requires c.args.self.now.handless done.node _ done.judged _ call c.args.self.now.told
+returns-clause-small g c = λ call. call_small c.args.self.now.node c.args.event.now _ _ c.in_ok-outcome.ensures.small call c.args.self.now.told
