@@ -1,9 +1,11 @@
--- A world after a step that changes no node: one for which there was no memory.
-use Rattle.std.proofs.Common.{◌≡◌, ℕ, Bool, true, false, cond, not, ◌==◌, ◌||◌, ◌&&◌, List, [], ◌∷◌, ◌++◌, append-nil, length, filter, Some, None, option_to_list, slice_get, refl, sym, ap, ◌∙◌}
+-- A world after a step that changes no node: one for which there was no memory, or a delivery that no node takes.
+use Rattle.std.proofs.Common.{◌≡◌, ℕ, Bool, true, false, cond, not, ◌==◌, ◌||◌, ◌&&◌, List, [], ◌∷◌, ◌++◌, append-nil, length, map, filter, Some, None, option_to_list, slice_get, refl, sym, ap, ◌∙◌}
 use Rattle.std.specs.Option.{option_map_or}
 use Rattle.std.specs.List.{list_any}
+use Rattle.obj_id.specs.declared.ids.JobNo.{JobNo}
 use Rattle.obj_id.specs.declared.refusals.Refusal.TheVariants.{NoMemory}
 use Rattle.obj_id.specs.declared.commands.Reply.TheVariants as reply
+use Rattle.obj_id.specs.declared.messages.Place.{Place}
 use Rattle.private_store.specs.declared.schedules.Event.TheVariants as event
 use Rattle.private_store.specs.declared.schedules.Step.{Step}
 use Rattle.private_store.specs.declared.schedules.Step.TheVariants.{At, Deliver}
@@ -11,8 +13,8 @@ use Rattle.private_store.specs.declared.schedules.StepAnswer.{StepAnswer}
 use Rattle.private_store.specs.declared.schedules.StepAnswer.TheVariants.{Told}
 use Rattle.private_store.specs.declared.schedules.Traced.{Traced}
 use Rattle.private_store.specs.Hands.{Hand}
-use Rattle.private_store.specs.Cluster.{Cluster, ClusterInput, cluster_from, told_from}
-use Rattle.private_store.specs.Trace.{hands_at, hands_step, out_after, is_out, own_input, notes, for_job, inputs_until, cluster_until, reply_of, is_answered}
+use Rattle.private_store.specs.Cluster.{Cluster, ClusterInput, deliver, cluster_step, cluster_from, told_from}
+use Rattle.private_store.specs.Trace.{Given, hands_at, hands_step, out_after, is_out, is_no_memory, own_input, notes, for_job, inputs_until, cluster_until, reply_of, is_answered}
 use Rattle.private_store.specs.Shared.{AskedWork, LiveJob, leaves, waiting, asked_by, works_asked_by, lives_step, is_admission, answer_due}
 use Rattle.private_store.specs.Shared as shared
 use Rattle.private_store.proofs.Runs.{inputs_now, cluster_until-step}
@@ -170,3 +172,35 @@ module _ (nodes memory : ℕ) (history : List Traced) where
       world_idle nodes memory history (record { step = step; answer = wanting }) (wants_idle step) old old h refl
       (λ job. job_idle nodes memory history (record { step = step; answer = wanting }) (wants_idle step) job old h (cluster_wants job step)
       (reply_wants_none job step ∙ sym (ap (told_from (cluster_until nodes job history)) (inputs_wants job step))))
+
+-- ---- a delivery
+
+module _ (nodes memory : ℕ) (history : List Traced) (job : JobNo) (from to : Place) (m : ℕ) (damage : Bool) (told : StepAnswer) (answered : is_no_memory told ≡ false) where
+  abbrev pub delivery : Traced
+  delivery = record { step = Deliver job from to m damage; answer = told }
+
+  pub own_delivery : own_input history (Deliver job from to m damage) told ≡ Some (record { job = job.0; input = deliver from to m damage })
+  own_delivery = ap (λ t. cond t None (Some (record { job = job.0; input = deliver from to m damage }))) answered
+
+  pub inputs_delivery : (other : ℕ) → inputs_now nodes other delivery history ≡ cond (job.0 == other) (deliver from to m damage ∷ []) []
+  inputs_delivery other = ap (λ o. for_job other (option_to_list o ++ [])) own_delivery ∙ by (job.0 == other)
+    where
+      by : (t : Bool) → map (λ (g : Given). g.input) (cond t (record { job = job.0; input = deliver from to m damage } ∷ []) []) ≡ cond t (deliver from to m damage ∷ []) []
+      by true = refl
+      by false = refl
+
+  pub cluster_delivery : (other : ℕ) → cluster_until nodes other (delivery ∷ history) ≡ cond (job.0 == other) (cluster_step (cluster_until nodes other history) (deliver from to m damage)).cluster (cluster_until nodes other history)
+  cluster_delivery other =
+      cluster_until-step nodes other delivery history ∙ ap (cluster_from (cluster_until nodes other history)) (inputs_delivery other) ∙ by (job.0 == other)
+    where
+      by : (t : Bool) → cluster_from (cluster_until nodes other history) (cond t (deliver from to m damage ∷ []) []) ≡ cond t (cluster_step (cluster_until nodes other history) (deliver from to m damage)).cluster (cluster_until nodes other history)
+      by true = refl
+      by false = refl
+
+  -- no reply to a command comes of it
+  pub told_delivery : (other : ℕ) → filter is_answered (option_to_list (reply_of other (Deliver job from to m damage) told)) ≡ told_from (cluster_until nodes other history) (inputs_now nodes other delivery history)
+  told_delivery other = by (job.0 == other) ∙ sym (ap (told_from (cluster_until nodes other history)) (inputs_delivery other))
+    where
+      by : (t : Bool) → [] ≡ told_from (cluster_until nodes other history) (cond t (deliver from to m damage ∷ []) [])
+      by true = refl
+      by false = refl

@@ -1,5 +1,6 @@
 mod Numbers
 mod Logging
+mod Numbering
 mod Places
 mod Stores
 mod Clusters
@@ -8,5 +9,7 @@ mod Happenings
 mod Entries
 mod Stepping
 mod Idling
+mod Deliveries
+mod HandedOver
 mod Turning
 mod Running

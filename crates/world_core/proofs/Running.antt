@@ -1,10 +1,11 @@
 -- A new world, and runs from it.
-use Rattle.std.proofs.Common.{◌≡◌, ℕ, false, ◌==◌, ◌+◌, inl, inr, List, [], ◌∷◌, ◌++◌, append_assoc, length, map, filter, reverse, refl, sym, ap, subst, ◌∙◌, true, arith, suc}
+use Rattle.std.proofs.Common.{◌≡◌, ℕ, false, ◌==◌, ◌&&◌, ◌+◌, inl, inr, List, [], ◌∷◌, ◌++◌, append_assoc, append-nil, length, map, filter, reverse, refl, sym, ap, subst, ◌∙◌, true, arith, suc}
 use Rattle.std.specs.Prelude.{nat_le}
 use Rattle.std.specs.List.{list_all}
 use Rattle.std.proofs.lemmas.Bool.Decides.{nat_tests}
 use Rattle.std.proofs.lemmas.Grind.{common_steps}
 use Rattle.std.proofs.lemmas.List.{map-append, reverse-append, reverse-reverse}
+use Rattle.std.proofs.lemmas.List.Folds.{list_all-append}
 use Rattle.obj_id.specs.declared.ids.JobNo.{JobNo}
 use Rattle.private_store.specs.declared.schedules.Step.{Step}
 use Rattle.private_store.specs.declared.schedules.StepAnswer.{StepAnswer}
@@ -13,13 +14,15 @@ use Rattle.private_store.specs.Private.{view_of}
 use Rattle.private_store.specs.Cluster.{Sent, private_run}
 use Rattle.private_store.specs.Trace.{replies_of, is_answered, Agree, IsPrivate}
 use Rattle.private_store.specs.Shared.{AreSharedAnswers}
-use Rattle.private_store.proofs.Tests.{both_right}
+use Rattle.private_store.proofs.Tests.{both, both_right}
 use Rattle.job_admission.specs.Admissions.{lives_of}
+use Rattle.owner_directory.specs.Locations.{Rows, locations_of}
 use Rattle.world_core.specs.Logs.{sent_of}
 use Rattle.node_core.specs.Hosted.{Hosted, Shows}
 use Rattle.node_core.specs.Steps.{is_taken}
 use Rattle.world_core.specs.Worlds.{Hosting, untaken, is_built_step, IsNodeAfter, IsAfter, IsNew, AreNew}
 use Rattle.world_core.specs.Moves.{Turns}
+use Rattle.world_core.specs.Runs.{is_replied, all_replied}
 use Rattle.world_core.proofs.Places.{slice_get-push}
 use Rattle.world_core.proofs.Stores.{no_cluster_at}
 use Rattle.world_core.proofs.Turning.{after_turn}
@@ -50,12 +53,12 @@ new_node nodes memory place node k = record {
   out = λ job number. ap (λ works. is_taken works job number) k.works;
 }
 
-pub new_world : (nodes memory : ℕ) (hosted : List Hosted) (messages : List (JobNo × List Sent)) → AreNew memory nodes hosted → messages ≡ []
-    → IsAfter nodes memory (record { nodes = hosted; tables = []; messages = messages }) []
-new_world nodes memory hosted messages h nothing = record {
+pub new_world : (nodes memory : ℕ) (hosted : List Hosted) (tables : Rows) (messages : List (JobNo × List Sent)) → AreNew memory nodes hosted → tables ≡ [] → messages ≡ []
+    → IsAfter nodes memory (record { nodes = hosted; tables = tables; messages = messages }) []
+new_world nodes memory hosted tables messages h empty nothing = record {
   count = h.count;
   each_node = λ place node f. new_node nodes memory place node (h.each place node f);
-  each_job = λ job. record { messages = ap (λ m. sent_of m job) nothing; locations = refl; replies = refl };
+  each_job = λ job. record { messages = ap (λ m. sent_of m job) nothing; locations = ap (λ t. locations_of t (record { 0 = job })) empty; replies = refl };
   due = refl;
 }
 
@@ -90,6 +93,12 @@ module _ (trace more : List Traced) (step : Step) (answer : StepAnswer) (is : mo
   after_more nodes memory world h =
       subst (IsAfter nodes memory world) (sym (ap reverse is ∙ reverse-append trace (record { step = step; answer = answer } ∷ []))) h
 
+  pub replied_more : all_replied trace ≡ true → is_replied step answer ≡ true → all_replied more ≡ true
+  replied_more before now =
+      ap all_replied is
+      ∙ list_all-append (λ (entry : Traced). is_replied entry.step entry.answer) trace (record { step = step; answer = answer } ∷ [])
+      ∙ both (all_replied trace) (is_replied step answer && true) before (both (is_replied step answer) true now refl)
+
   -- the step that comes next goes from what is left to what was taken
   pub steps_more : (left rest schedule : List Step) → map (λ (entry : Traced). entry.step) trace ++ left ≡ schedule → left ≡ step ∷ rest → map (λ (entry : Traced). entry.step) more ++ rest ≡ schedule
   steps_more left rest schedule so_far next =
@@ -98,6 +107,15 @@ module _ (trace more : List Traced) (step : Step) (answer : StepAnswer) (is : mo
       ∙ append_assoc (map (λ (entry : Traced). entry.step) trace) (step ∷ []) rest
       ∙ ap (λ l. map (λ (entry : Traced). entry.step) trace ++ l) (sym next)
       ∙ so_far
+
+-- where nothing is left, all was taken
+nothing_left : (left : List Step) (n : ℕ) → n ≡ length left → n ≡ 0 → left ≡ []
+nothing_left [] n many none = refl
+nothing_left (step ∷ left) n many none = let e : n ≡ suc (length left) = many in absurd (omega (arith, e, none))
+
+pub all_taken : (trace : List Traced) (left schedule : List Step) (n : ℕ) → n ≡ length left → n ≡ 0 → map (λ (entry : Traced). entry.step) trace ++ left ≡ schedule → map (λ (entry : Traced). entry.step) trace ≡ schedule
+all_taken trace left schedule n many none so_far =
+    sym (append-nil (map (λ (entry : Traced). entry.step) trace)) ∙ ap (λ l. map (λ (entry : Traced). entry.step) trace ++ l) (sym (nothing_left left n many none)) ∙ so_far
 
 pub inside_rest : (nodes : ℕ) (left rest : List Step) (step : Step) → list_all (is_built_step nodes) left ≡ true → left ≡ step ∷ rest → list_all (is_built_step nodes) rest ≡ true
 inside_rest nodes left rest step inside next = both_right (is_built_step nodes step) (list_all (is_built_step nodes) rest) (ap (list_all (is_built_step nodes)) (sym next) ∙ inside)

@@ -1,14 +1,17 @@
 -- A world after one step more, of any kind that is built.
-use Rattle.std.proofs.Common.{◌≡◌, ℕ, true, false, ◌<◌, List, ◌∷◌, length, sym, subst, ◌∙◌}
+use Rattle.std.proofs.Common.{◌≡◌, ℕ, true, false, ◌<◌, List, ◌∷◌, length, refl, sym, ap, subst, ◌∙◌}
 use Rattle.std.specs.Prelude.{nat_lt}
+use Rattle.obj_id.specs.declared.ids.JobNo.{JobNo}
+use Rattle.obj_id.specs.declared.messages.Message.{Message}
+use Rattle.obj_id.specs.declared.messages.Place.{Place}
 use Rattle.obj_id.specs.declared.refusals.Refusal.TheVariants.{NoMemory}
 use Rattle.obj_id.specs.declared.commands.Reply.{Reply}
 use Rattle.obj_id.specs.declared.commands.Reply.TheVariants as reply
 use Rattle.private_store.specs.declared.schedules.Event.{Event}
 use Rattle.private_store.specs.declared.schedules.Step.{Step}
-use Rattle.private_store.specs.declared.schedules.Step.TheVariants.{At}
+use Rattle.private_store.specs.declared.schedules.Step.TheVariants.{At, Deliver}
 use Rattle.private_store.specs.declared.schedules.StepAnswer.{StepAnswer}
-use Rattle.private_store.specs.declared.schedules.StepAnswer.TheVariants.{Told}
+use Rattle.private_store.specs.declared.schedules.StepAnswer.TheVariants.{Told, NoMessage}
 use Rattle.private_store.specs.declared.schedules.Traced.{Traced}
 use Rattle.private_store.specs.declared.schedules.NodeEvent.TheVariants.{Own}
 use Rattle.private_store.specs.NodeInputs.{before_at, own_due}
@@ -18,12 +21,15 @@ use Rattle.private_store.proofs.StepInputs.{want_same}
 use Rattle.private_store.proofs.Tests.{both_left, true_false}
 use Rattle.node_core.specs.Steps.{Given, IsGiven, StepsFrom}
 use Rattle.world_core.specs.Worlds.{Hosting, IsNodeAfter, IsAfter, is_built_step}
-use Rattle.world_core.specs.Moves.{Moves, Turns, at, wants, Happens}
+use Rattle.world_core.specs.Moves.{Moves, as_damaged, Hands, to_directory, past_directory, to_node, past_node, nothing, hands, Turns, at, delivers, wants, Happens}
 use Rattle.world_core.proofs.Numbers.{is_less}
+use Rattle.world_core.proofs.Places.{length-slice_set}
 use Rattle.world_core.proofs.Stepping.{here, view_at, shown, before_same, after_event}
 use Rattle.node_core.proofs.Never.{told_never}
 use Rattle.world_core.proofs.Happenings.{is_entry}
 use Rattle.world_core.proofs.Idling.{after_wanting}
+use Rattle.world_core.proofs.Deliveries.{no_step, no_answer, after_nothing}
+use Rattle.world_core.proofs.HandedOver.{after_handed, handed_wants_none}
 
 module _ (nodes memory place : ℕ) (e : Event) (given : Given) (old new : Hosting) (history : List Traced)
     (h : IsAfter nodes memory old history) (within : place < nodes) (m : Moves old place (Own e) given new) where
@@ -62,12 +68,32 @@ pub after_turn : (nodes memory : ℕ) (history : List Traced) (old new : Hosting
 after_turn nodes memory history old new step told h inside (at place e given moves) = after_at nodes memory place e given old new history h (is_less place nodes (both_left (nat_lt place nodes) _ inside)) moves
 after_turn nodes memory history old new step told h inside (wants s same) =
     subst (λ w. IsAfter nodes memory w (record { step = s; answer = Told (reply.Refused NoMemory) } ∷ history)) (sym same) (after_wanting nodes memory history s old h)
+after_turn nodes memory history old new step told h inside (delivers job from to m damage answer (nothing none same)) =
+    subst (λ w. IsAfter nodes memory w (record { step = Deliver job from to m damage; answer = NoMessage } ∷ history)) (sym same)
+    (after_nothing nodes memory history job from to m damage NoMessage refl old h (no_step nodes memory history old h job from to m damage none) (sym (no_answer nodes memory history old h job from to m damage none)))
+after_turn nodes memory history old new step told h inside (delivers job from to m damage answer (hands sent t some k)) =
+    after_handed nodes memory history old new job from to m damage sent t h inside some k
 
 -- an answer that is out of memory is a step that did nothing
 pub turn_wants : (nodes memory : ℕ) (history : List Traced) (old new : Hosting) (step : Step) (told : StepAnswer)
     → IsAfter nodes memory old history → is_built_step nodes step ≡ true → Turns old new step told → is_no_memory told ≡ true → new ≡ old
 turn_wants nodes memory history old new step told h inside (at place e given moves) n = true_false (sym (event_answered nodes memory place e given old new history h (is_less place nodes (both_left (nat_lt place nodes) _ inside)) moves) ∙ n)
 turn_wants nodes memory history old new step told h inside (wants s same) n = same
+turn_wants nodes memory history old new step told h inside (delivers job from to m damage answer (nothing none same)) n = same
+turn_wants nodes memory history old new step told h inside (delivers job from to m damage answer (hands sent t some k)) n = handed_wants_none nodes memory history old new job from to (as_damaged damage sent) t h inside k n
+
+-- no node comes or goes
+hands_count : (old new : Hosting) (job : JobNo) (from to : Place) (m : Message) (told : StepAnswer) → Hands old job from m new to told → length new.nodes ≡ length old.nodes
+hands_count old new job from to m told (to_directory d is moves) = ap length moves.nodes
+hands_count old new job from to m told (past_directory is same) = ap (λ w. length w.nodes) same
+hands_count old new job from to m told (to_node place given a is moves) = ap length moves.nodes ∙ length-slice_set old.nodes place moves.after
+hands_count old new job from to m told (past_node place node found is same) = ap (λ w. length w.nodes) same
+
+pub turn_count : (old new : Hosting) (step : Step) (told : StepAnswer) → Turns old new step told → length new.nodes ≡ length old.nodes
+turn_count old new step told (at place e given moves) = ap length moves.nodes ∙ length-slice_set old.nodes place moves.after
+turn_count old new step told (wants s same) = ap (λ w. length w.nodes) same
+turn_count old new step told (delivers job from to m damage answer (nothing none same)) = ap (λ w. length w.nodes) same
+turn_count old new step told (delivers job from to m damage answer (hands sent t some k)) = hands_count old new job from to (as_damaged damage sent) t k
 
 -- ---- the same of a step as it is given
 

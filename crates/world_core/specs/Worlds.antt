@@ -1,7 +1,9 @@
 -- A world of nodes and a directory, and what it shows after a history: a trace so far, newest first.
-use Rattle.std.specs.Prelude.{◌≡◌, ℕ, ◌==◌, nat_le, nat_lt, Bool, false, not, ◌&&◌, List, [], length, map, reverse, filter, slice_get, Some}
+use Rattle.std.specs.Prelude.{◌≡◌, ℕ, ◌==◌, nat_le, nat_lt, Bool, true, false, not, ◌&&◌, List, [], length, map, reverse, filter, slice_get, Some}
 use Rattle.std.specs.List.{list_any}
 use Rattle.obj_id.specs.declared.ids.JobNo.{JobNo}
+use Rattle.obj_id.specs.declared.messages.Place.{Place}
+use Rattle.obj_id.specs.declared.messages.Place.TheVariants.{Node, Directory}
 use Rattle.private_store.specs.declared.schedules.Step.{Step}
 use Rattle.private_store.specs.declared.schedules.Step.TheVariants.{At, Deliver}
 use Rattle.private_store.specs.declared.schedules.Traced.{Traced}
@@ -27,10 +29,15 @@ pub record Hosting : Type 0 where
   -- by job, all messages ever sent, oldest first
   pub messages : List (JobNo × List Sent)
 
--- the steps that are built: an event that is built, at one of the nodes
+-- one of the nodes, or the directory
+abbrev pub is_place : ℕ → Place → Bool
+is_place nodes (Node place) = nat_lt place nodes
+is_place nodes Directory = true
+
+-- the steps that are built: an event that is built, at one of the nodes, and each delivery to a place that is there
 abbrev pub is_built_step : ℕ → Step → Bool
 is_built_step nodes (At place e) = nat_lt place nodes && is_built e
-is_built_step nodes (Deliver job from to m damage) = false
+is_built_step nodes (Deliver job from to m damage) = is_place nodes to
 
 -- ---- a node's line of works, as the trace tells it
 

@@ -1,5 +1,5 @@
-//! A world of nodes, and the messages that were sent. A contract sees what each node shows of each job
-//! number, and what the job sent; after every history of steps that is the job's private cluster.
+//! A world of nodes with a directory, and the messages that were sent. A contract sees what each node shows of each job
+//! number, the job's locations, and what it sent; after every history of steps that is the job's private cluster.
 #![tactic(auto)]
 
 ghost use Rattle.std.specs.Prelude.{◌≡◌, ℕ, ◌<◌, List, [], ◌∷◌, true, length, IfOk, OnErr, IsErrOf};
@@ -11,9 +11,12 @@ ghost use Rattle.node_core.specs.Built.{is_built};
 ghost use Rattle.node_core.specs.Steps.{job_of_event};
 ghost use Rattle.world_core.specs.Worlds.{is_shape, is_built_step as is_built_step_lem, AreNew, IsAfter};
 ghost use Rattle.world_core.specs.Moves.{Happens};
+ghost use Rattle.world_core.specs.Runs.{is_replied};
 
 mod built;
+mod handing;
 mod messages;
+mod on_the_way;
 mod runs;
 
 pub use built::is_built_step;
@@ -21,6 +24,7 @@ use bytes::Bytes;
 use messages::Messages;
 use node_core::{Node, Outcome};
 use obj_id::{JobNo, Place, Refusal, Reply};
+use owner_directory::Directory;
 use private_store::{Event, Step, StepAnswer};
 pub use runs::{Trace, run, run_two};
 use std::alloc::{AllocError, Global};
@@ -33,21 +37,22 @@ pub struct Shape {
     pub memory: u64,
 }
 
-/// Nodes, and all messages that were sent.
+/// Nodes, the directory, and all messages that were sent.
 #[derive(Drop)]
 pub struct World {
+    alloc: Global,
     nodes: Vec<Node>,
+    directory: Directory,
     messages: Messages,
 }
 
 impl Model for World {
-    ghost use Rattle.std.specs.Prelude.{[]};
     ghost use Rattle.world_core.specs.Logs.{messages_of};
     ghost use Rattle.world_core.specs.Worlds.{Hosting};
 
     ghost Value = { Hosting };
 
-    ghost view = { λ w. record { nodes = w.nodes.items; tables = []; messages = messages_of w.messages.logs } };
+    ghost view = { λ w. record { nodes = w.nodes.items; tables = w.directory; messages = messages_of w.messages.logs } };
 }
 
 impl World {
@@ -59,7 +64,9 @@ impl World {
     {
         let nodes = new_nodes(alloc, shape)?;
         Ok(World {
+            alloc,
             nodes,
+            directory: Directory::new(alloc),
             messages: Messages::new(alloc),
         })
     }
@@ -71,6 +78,7 @@ impl World {
         ensures after { (nodes memory : ℕ) (history : List Traced) → IsAfter nodes memory self.old history
             → IsAfter nodes memory self.new (record { step = step.now; answer = result } ∷ history) }
         ensures memory { (nodes memory : ℕ) (history : List Traced) → IsAfter nodes memory self.old history → is_no_memory result ≡ true → self.new ≡ self.old }
+        ensures replied { is_replied step.now result ≡ true }
         ensures count { length self.new.nodes ≡ length self.old.nodes }
     {
         match step {
@@ -78,7 +86,16 @@ impl World {
                 Ok(reply) => StepAnswer::Told(reply),
                 Err(_) => StepAnswer::Told(Reply::Refused(Refusal::NoMemory)),
             },
-            Step::Deliver { .. } => unreachable!(),
+            Step::Deliver {
+                job,
+                from,
+                to,
+                number,
+                damaged,
+            } => match self.deliver(*job, *from, *to, *number, *damaged) {
+                Ok(answer) => answer,
+                Err(_) => StepAnswer::Told(Reply::Refused(Refusal::NoMemory)),
+            },
         }
     }
 

@@ -6,7 +6,7 @@ ghost use Rattle.obj_id.specs.declared.refusals.Refusal.TheVariants.{NoMemory};
 ghost use Rattle.private_store.specs.Trace.{replies_of, is_answered, Agree, IsPrivate};
 ghost use Rattle.private_store.specs.Shared.{AreSharedAnswers};
 ghost use Rattle.world_core.specs.Worlds.{is_shape, is_built_step};
-ghost use Rattle.world_core.specs.Runs.{IsRun};
+ghost use Rattle.world_core.specs.Runs.{IsRun, all_replied};
 
 use crate::{Shape, World};
 use obj_id::Refusal;
@@ -66,6 +66,7 @@ pub fn run(alloc: Global, shape: Shape, schedule: Vec<Step>) -> Result<Trace, Re
     requires shape { is_shape shape ≡ true }
     requires built { list_all (is_built_step shape.nodes) schedule.items ≡ true }
     ensures steps { IfOk result (λ trace. map (λ entry. entry.step) trace ≡ schedule.items) }
+    ensures replied { IfOk result (λ trace. all_replied trace ≡ true) }
     ensures shared { IfOk result (λ trace. AreSharedAnswers shape.nodes shape.memory trace) }
     ensures private { IfOk result (λ trace. (job : ℕ) → IsPrivate shape.nodes job trace) }
     ensures memory { (r : Refusal) → IsErrOf result r → r ≡ NoMemory }

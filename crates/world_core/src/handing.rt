@@ -1,0 +1,136 @@
+//! Messages that are handed over, to a node or to the directory.
+ghost use Rattle.std.specs.Prelude.{◌≡◌, ℕ, ◌<◌, true, length, slice_get, Some, is_some, IfOk, OnOk, OnErr};
+ghost use Rattle.obj_id.specs.declared.messages.Place.TheVariants as places;
+ghost use Rattle.private_store.specs.declared.schedules.Step.TheVariants as steps;
+ghost use Rattle.job_admission.specs.Admissions.{live_at};
+ghost use Rattle.node_core.specs.Hosted.{Hosted};
+ghost use Rattle.node_core.specs.Steps.{answered, stale_unless};
+ghost use Rattle.world_core.specs.Worlds.{is_place};
+ghost use Rattle.world_core.specs.Moves.{Arrives, MovesDirectory, Hands, Turns};
+
+use crate::World;
+use crate::on_the_way::{answers, arrival, as_it_arrives, for_directory, handed, message_of};
+use bytes::Bytes;
+use node_core::Outcome;
+use obj_id::{Arrival, DirectoryMessage, JobNo, Message, Place, Refusal, Reply};
+use owner_directory::DirectoryReply;
+use private_store::StepAnswer;
+
+impl World {
+    /// The job's message of this number, from 1, that was sent from the one place to the other is handed over, damaged or
+    /// not. `NoMemory` alone is an error, and then nothing has changed.
+    pub(crate) fn deliver(
+        &mut self,
+        job: JobNo,
+        from: Place,
+        to: Place,
+        number: u64,
+        damaged: bool,
+    ) -> Result<StepAnswer, Refusal>
+        requires { is_place (length self.old.nodes) to ≡ true }
+        ensures ok { IfOk result (λ told. Turns self.old self.new (steps.Deliver job from to number damaged) told) }
+        ensures err { OnErr result (self.new ≡ self.old) }
+    {
+        let Some(sent) = self.messages.find(job, from, to, number) else {
+            return Ok(StepAnswer::NoMessage);
+        };
+        let message = as_it_arrives(self.alloc, sent, damaged)?;
+        match to {
+            Place::Node(place) => self.hand_to_node(job, from, place, message),
+            Place::Directory => self.hand_to_directory(job, from, message),
+        }
+    }
+
+    /// The message is handed to the node of the place.
+    fn hand_to_node(
+        &mut self,
+        job: JobNo,
+        from: Place,
+        place: u32,
+        message: Message,
+    ) -> Result<StepAnswer, Refusal>
+        requires { place < length self.old.nodes }
+        ensures ok { IfOk result (λ told. Hands self.old job from message self.new (places.Node place) told) }
+        ensures err { OnErr result (self.new ≡ self.old) }
+    {
+        match arrival(from, message) {
+            Ok(arriving) => {
+                let reply = self.arrive(job, place, &arriving)?;
+                Ok(handed(message_of(arriving), reply))
+            }
+            // what isn't made for a node is nothing there
+            Err(message) => Ok(handed(message, self.reply_to_nothing(job, place))),
+        }
+    }
+
+    /// The job's message arrives at the node of the place.
+    fn arrive(&mut self, job: JobNo, place: u32, arrival: &Arrival) -> Result<Reply<Bytes>, Refusal>
+        requires { place < length self.old.nodes }
+        ensures ok { IfOk result (λ reply. Arrives self.old place job arrival.now reply self.new) }
+        ensures err { OnErr result (self.new ≡ self.old) }
+    {
+        // all growth comes before the node's step, and a step that sends nothing needs none
+        let most = self.nodes[place as usize]
+            .foresee_arrival(job, arrival)
+            .most_messages;
+        self.messages.reserve(job, most)?;
+        let outcome = self.nodes[place as usize].arrive(job, arrival)?;
+        let Outcome {
+            reply,
+            messages,
+            ..
+        } = outcome;
+        self.messages.add(job, Place::Node(place), messages);
+        Ok(reply)
+    }
+
+    /// What the node of the place answers if nothing is made of a message: Ok, or `Stale` where the job isn't live.
+    fn reply_to_nothing(&self, job: JobNo, place: u32) -> Reply<Bytes>
+        requires { place < length self.now.nodes }
+        ensures { (node : Hosted) → slice_get self.now.nodes place ≡ Some node → result ≡ answered (stale_unless (is_some (live_at node.admissions job))) }
+    {
+        match self.nodes[place as usize].usage(job) {
+            Ok(_) => Reply::Ok,
+            Err(_) => Reply::Refused(Refusal::Stale),
+        }
+    }
+
+    /// The message is handed to the directory.
+    fn hand_to_directory(
+        &mut self,
+        job: JobNo,
+        from: Place,
+        message: Message,
+    ) -> Result<StepAnswer, Refusal>
+        ensures ok { IfOk result (λ told. Hands self.old job from message self.new places.Directory told) }
+        ensures err { OnErr result (self.new ≡ self.old) }
+    {
+        let Some(told) = for_directory(&message) else {
+            // what isn't made for the directory is nothing there
+            return Ok(StepAnswer::HandedOver(message));
+        };
+        self.tell_directory(job, told)?;
+        Ok(StepAnswer::HandedOver(message))
+    }
+
+    /// The directory takes a message of the job, and what it answers is sent.
+    fn tell_directory(&mut self, job: JobNo, message: DirectoryMessage) -> Result<(), Refusal>
+        ensures ok { OnOk result (MovesDirectory self.old job message self.new) }
+        ensures err { OnErr result (self.new ≡ self.old) }
+    {
+        // all growth comes before the directory's step, which may want memory itself
+        self.messages.reserve(job, answers(&message))?;
+        if let DirectoryReply::Located {
+            to,
+            id,
+            number,
+            entries,
+        } = self.directory.apply(job, message)?
+        {
+            let located = Message::Located(id, number, entries);
+            self.messages
+                .send(job, Place::Directory, Place::Node(to), located);
+        }
+        Ok(())
+    }
+}
