@@ -1,0 +1,20 @@
+mod InOrder
+mod WhatEnds
+mod HandsStay
+mod EachInput
+mod Halves
+mod AfterEnds
+mod AfterGrants
+mod ClusterInputs
+mod OverStores
+mod StoresKept
+mod Moving
+mod EachStepMoves
+mod Histories
+mod Beginnings
+mod WhatIsSeen
+mod HeldOnTo
+mod TakenBytes
+mod ShownBytes
+mod Lengths
+pub mod Moments

@@ -1,0 +1,54 @@
+//! Laws of the hands of a trace. Each function does nothing; its contract is a theorem about every trace whose jobs are
+//! answered as by their private clusters, whatever order its steps have and whatever they are.
+#![tactic(auto)]
+
+ghost use Rattle.std.specs.Prelude.{◌≡◌, ℕ, Bool, List, [], ◌∷◌, ◌++◌, reverse, Some};
+ghost use Rattle.private_store.specs.declared.schedules.Event.{Event};
+ghost use Rattle.private_store.specs.declared.schedules.Traced.{Traced};
+ghost use Rattle.private_store.specs.Hands.{Hand};
+ghost use Rattle.private_store.specs.Trace.{ends};
+ghost use Rattle.hand_laws.specs.Held.{HoldsOn, ShowsWhatIs, BytesStay};
+ghost use Rattle.hand_laws.specs.Ending.{EndsThere};
+ghost use Rattle.hand_laws.specs.Moments.{AtEachMoment};
+ghost use Rattle.hand_laws.specs.Standing.{ArePrivate, HaveHands, SeesWhatIsLed};
+
+/// A trace that is answered privately was so at each moment before, so the other laws hold at every moment.
+pub fn beginnings_are_private()
+    ensures { (nodes : ℕ) (first rest : List Traced) → ArePrivate nodes (first ++ rest) → ArePrivate nodes first }
+{}
+
+/// The hands that stand at a node are a table, as the crate of grants has it: no two with the same object, giver and taker;
+/// each from the object's own job at depth 1, or one deeper than an older one on which it hangs, at depth 3 at most; none
+/// to the object's own job; 64 of one giver at most. The store of each job at the node has the hands that the job gave and
+/// those that it was given, oldest first, each object with the length that it has in the store of its own job; and it knows
+/// no other object of others.
+pub fn hands_of_a_trace_are_a_table()
+    ensures { (nodes node : ℕ) (trace : List Traced) → ArePrivate nodes trace → HaveHands nodes node trace }
+{}
+
+/// A job sees an object exactly if a chain of at most three standing hands leads from the object's own job to it. A Peek of
+/// a live job, of whatever bytes, is answered `NotGranted` exactly if the job doesn't see the object; it never sees its own.
+pub fn what_is_seen_in_a_trace_is_led_to()
+    ensures { (nodes node : ℕ) (trace : List Traced) → ArePrivate nodes trace → SeesWhatIsLed nodes node trace }
+{}
+
+/// An accepted withdrawal, end of a task or end of a job takes out of the node's table, in that one step, the hands that
+/// its giver ends and each hand that hangs on one that goes, and no others. The takers of these are told of them, in order
+/// of depth, object, giver and taker, and nobody is told of anything else. Other nodes keep their hands.
+pub fn a_withdrawal_ends_what_hangs_on_it()
+    ensures { (nodes node : ℕ) (trace : List Traced) (e : Event) (test : Hand → Bool)
+        → ArePrivate nodes trace → ends e ≡ Some test → EndsThere nodes node (reverse trace) e test }
+{}
+
+/// While a hand stands, at whatever depth, its object is a sealed primary in the window of its own job at that node, the
+/// taker's store has that copy's bytes, and each step that leaves the hand leaves the bytes.
+pub fn a_hand_holds_on_to_its_object()
+    ensures held { (nodes node : ℕ) (trace : List Traced) → ArePrivate nodes trace → HoldsOn nodes node trace }
+    ensures shown { (nodes node : ℕ) (trace : List Traced) → ArePrivate nodes trace → ShowsWhatIs nodes node trace }
+    ensures stay { (nodes node : ℕ) (trace : List Traced) (entry : Traced) → ArePrivate nodes (trace ++ entry ∷ []) → BytesStay nodes node trace entry }
+{}
+
+/// All these laws between each two steps of a trace and over each step.
+pub fn laws_hold_at_every_moment()
+    ensures { (nodes : ℕ) (trace : List Traced) → ArePrivate nodes trace → AtEachMoment nodes trace }
+{}

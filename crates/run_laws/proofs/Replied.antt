@@ -1,0 +1,34 @@
+-- A run is a trace that is answered privately.
+use Rattle.std.proofs.Common.{◌≡◌, ℕ, true, List, [], ◌∷◌, refl}
+use Rattle.std.specs.List.{list_all}
+use Rattle.private_store.specs.declared.schedules.Event.TheVariants.{Call}
+use Rattle.private_store.specs.declared.schedules.Step.{Step}
+use Rattle.private_store.specs.declared.schedules.Step.TheVariants.{At, Deliver}
+use Rattle.private_store.specs.declared.schedules.StepAnswer.{StepAnswer}
+use Rattle.private_store.specs.declared.schedules.StepAnswer.TheVariants.{Told}
+use Rattle.private_store.specs.declared.schedules.Traced.{Traced}
+use Rattle.private_store.proofs.Tests.{both, both_left, both_right}
+use Rattle.hand_laws.specs.Standing.{is_told, ArePrivate}
+use Rattle.hand_laws.specs.Moments.{AtEachMoment}
+use Rattle.hand_laws.proofs.Moments.{each_moment}
+use Rattle.world_core.specs.Runs.{is_replied, all_replied, IsRun}
+
+-- a command is an event at a node
+one_told : (step : Step) (answer : StepAnswer) → is_replied step answer ≡ true → is_told step answer ≡ true
+one_told (At node (Call job session c)) (Told reply) e = refl
+one_told (At node (Call job session c)) answer e = e
+one_told (At node event) answer e = refl
+one_told (Deliver job from to m damage) answer e = refl
+
+all_told : (trace : List Traced) → all_replied trace ≡ true → list_all (λ entry. is_told entry.step entry.answer) trace ≡ true
+all_told [] e = refl
+all_told (entry ∷ trace) e =
+    both (is_told entry.step entry.answer) (list_all (λ entry. is_told entry.step entry.answer) trace)
+    (one_told entry.step entry.answer (both_left (is_replied entry.step entry.answer) (all_replied trace) e))
+    (all_told trace (both_right (is_replied entry.step entry.answer) (all_replied trace) e))
+
+pub hands_of_run : (nodes memory : ℕ) (schedule : List Step) (trace : List Traced) → IsRun nodes memory schedule trace → AtEachMoment nodes trace
+hands_of_run nodes memory schedule trace run = each_moment nodes trace private_run
+  where
+    private_run : ArePrivate nodes trace
+    private_run = record { told = all_told trace run.replied; replies = run.private }
