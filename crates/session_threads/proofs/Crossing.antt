@@ -37,6 +37,8 @@ use Rattle.node_journal.proofs.logs.Logs.TheSendSync.{the_send as logs_send}
 use Rattle.std.specs.declared.sync.ledger.Ledger.{Ghosts}
 use Rattle.std.proofs.sync.ledger.Share.TheSendSync.{the_send as share_send}
 use Rattle.std.proofs.sync.Condvar.TheSendSync.{the_send as condvar_send, the_sync as condvar_sync}
+use Rattle.obj_id.proofs.works.DeviceKey.TheSendSync.{the_send as key_send}
+use Rattle.session_threads.proofs.device_calls.Place.TheSendSync.{the_send as place_send}
 use Rattle.session_threads.specs.contracts.shared.SharedNode as Shared
 
 layer_sends : (i : block.the_members) → Sends knot.ring i
@@ -76,17 +78,85 @@ module _ (L : RattleType) (g : Ghosts L.Denot) where
 
   pub shared_send : IsSend (Shared.the_row L g)
   shared_send =
-      declared_send (Shared.the_type L g)
-      (search (kept_send, sendable, crosses) depth 20, (condvar_send, (search (sendable, crosses) depth 20, (search (sendable, crosses) depth 20, (search (sendable, crosses) depth 20, (condvar_send, tt))))))
+      declared_send (Shared.the_type L g) (
+        search (kept_send, sendable, crosses) depth 20,
+        (
+          condvar_send,
+          (
+            condvar_send,
+            (
+              search (sendable, crosses) depth 20,
+              (
+                search (sendable, crosses) depth 20,
+                (
+                  search (key_send, sendable, crosses) depth 20,
+                  (
+                    search (place_send, sendable, crosses) depth 20,
+                    (
+                      search (sendable, crosses) depth 20,
+                      (
+                        search (sendable, crosses) depth 20,
+                        (
+                          search (sendable, crosses) depth 20,
+                          (condvar_send, tt),
+                        ),
+                      ),
+                    ),
+                  ),
+                ),
+              ),
+            ),
+          ),
+        ),
+      )
 
   pub shared_sync : IsSync (Shared.the_row L g)
   shared_sync =
-      declared_sync (Shared.the_type L g)
-      (search (kept_send, sendable, crosses) depth 20, (condvar_sync, (search (sendable, crosses) depth 20, (search (sendable, crosses) depth 20, (search (sendable, crosses) depth 20, (condvar_sync, tt))))))
+      declared_sync (Shared.the_type L g) (
+        search (kept_send, sendable, crosses) depth 20,
+        (
+          condvar_sync,
+          (
+            condvar_sync,
+            (
+              search (sendable, crosses) depth 20,
+              (
+                search (sendable, crosses) depth 20,
+                (
+                  search (key_send, sendable, crosses) depth 20,
+                  (
+                    search (place_send, sendable, crosses) depth 20,
+                    (
+                      search (sendable, crosses) depth 20,
+                      (
+                        search (sendable, crosses) depth 20,
+                        (
+                          search (sendable, crosses) depth 20,
+                          (condvar_sync, tt),
+                        ),
+                      ),
+                    ),
+                  ),
+                ),
+              ),
+            ),
+          ),
+        ),
+      )
+
+  node_arc_send : IsSend (Arc.the_row (Shared.the_row L g) Heap.the_row ghosts)
+  node_arc_send = Arc-send (Shared.the_row L g) shared_send shared_sync
 
   -- what a thread's job captures: the runtime, the allocator, a shared node and a socket
   pub captures_send : (name : Sym) (R S : RattleType) → IsSend (copied 1 R) → IsSend S → IsSend (TupleAt name (copied 1 R ∷ Heap.the_row ∷ Arc.the_row (Shared.the_row L g) Heap.the_row ghosts ∷ S ∷ []))
   captures_send name R S r s =
       let node = Arc.the_row (Shared.the_row L g) Heap.the_row ghosts in
       declared_send (type_at name (copied 1 R ∷ Heap.the_row ∷ node ∷ S ∷ []))
-      (as_row_send (row_field (copied 1 R)) r, (as_row_send (row_field Heap.the_row) send, (as_row_send (row_field node) (Arc-send (Shared.the_row L g) shared_send shared_sync), (as_row_send (row_field S) s, tt))))
+      (as_row_send (row_field (copied 1 R)) r, (as_row_send (row_field Heap.the_row) send, (as_row_send (row_field node) node_arc_send, (as_row_send (row_field S) s, tt))))
+
+  -- the same of a worker, which allocates nothing
+  pub worker_send : (name : Sym) (R S : RattleType) → IsSend (copied 1 R) → IsSend S → IsSend (TupleAt name (copied 1 R ∷ Arc.the_row (Shared.the_row L g) Heap.the_row ghosts ∷ S ∷ []))
+  worker_send name R S r s =
+      let node = Arc.the_row (Shared.the_row L g) Heap.the_row ghosts in
+      declared_send (type_at name (copied 1 R ∷ node ∷ S ∷ []))
+      (as_row_send (row_field (copied 1 R)) r, (as_row_send (row_field node) node_arc_send, (as_row_send (row_field S) s, tt)))

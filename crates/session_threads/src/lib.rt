@@ -1,14 +1,17 @@
-//! Nodes that many threads step: each behind a lock with its journal, sessions that call it, and listeners that serve each
-//! stream in a thread of its own.
+//! Nodes that many threads step: each behind a lock with its journal, sessions that call it, listeners that serve each stream
+//! in a thread of its own, and workers that carry out its device works.
 #![tactic(auto)]
 
 mod cluster;
+mod device_calls;
 mod frames;
 mod listening;
 mod session;
 mod shared;
+mod working;
 
 pub use cluster::{Cluster, Report};
 pub use listening::{Listening, listen};
 pub use session::Session;
 pub use shared::SharedNode;
+pub use working::{WorkDone, Working, work};

@@ -4,20 +4,23 @@ ghost use Rattle.obj_id.specs.declared.commands.Reply.TheVariants as reply;
 ghost use Rattle.obj_id.specs.declared.refusals.Refusal.TheVariants.{NoMemory};
 ghost use Rattle.private_store.specs.Answers.{wants_memory, is_small_reply};
 ghost use Rattle.job_admission.specs.Admissions.{largest_memory};
-ghost use Rattle.node_core.specs.Built.{is_built_command};
+ghost use Rattle.node_core.specs.Built.{is_built, is_built_command};
+ghost use Rattle.node_core.specs.Steps.{job_of_event};
 ghost use Rattle.node_journal.specs.Replies.{kept_reply};
 ghost use Rattle.session_engine.specs.Calls.{IsEntryRefusal};
 ghost use Rattle.session_threads.specs.Witnesses.{IsCalled, tried};
 
+use crate::device_calls::Place;
 use bytes::Bytes;
 use node_core::{Erase, Outcome};
 use node_journal::{Kept, Receipt};
-use obj_id::{Command, JobKey, JobNo, Quota, Refusal, Reply};
+use obj_id::{Command, DeviceKey, JobKey, JobNo, Quota, Refusal, Reply};
 use private_store::{Awaited, Event};
 use std::alloc::Global;
 use std::sync::atomic::{AtomicBool, Ordering};
 use std::sync::ledger::{Ledger, Share};
 use std::sync::{Condvar, Mutex, Wait};
+use std::{mem, slice};
 
 /// What was counted at a node. Each number stays at its type's last value.
 #[derive(Clone, Copy, Debug, PartialEq, Eq)]
@@ -28,17 +31,28 @@ pub(crate) struct Tally {
     pub disagreeing: u64,
     /// Messages that nobody was given.
     pub lost: u64,
-    /// Device keys that nobody erased.
+    /// Device keys whose erase failed, or for which there was no memory to wait in.
     pub unerased: u64,
 }
 
 /// A node with its journal, which many threads step.
+//
+// The lock of the node is taken first, and under it at most one of the others, which are let go at once. No device is called
+// under any.
 #[derive(Drop)]
 pub struct SharedNode<L: Ledger> {
-    kept: Mutex<Kept<L>>,
+    pub(crate) kept: Mutex<Kept<L>>,
     // an answer may have become another one, or the node is shut
     changed: Condvar,
+    // a work waits, or a key, or the worker is to end
+    pub(crate) asked: Condvar,
     shut: AtomicBool,
+    // the worker is to end
+    stopped: AtomicBool,
+    // they wait to be erased
+    pub(crate) keys: Mutex<Vec<DeviceKey>>,
+    pub(crate) place: Mutex<Place>,
+    alloc: Global,
     tally: Mutex<Tally>,
     // sessions that haven't ended
     open: Mutex<u64>,
@@ -47,11 +61,11 @@ pub struct SharedNode<L: Ledger> {
 
 /// The answer of a step with its receipt, and what the step leaves to be done.
 #[derive(Drop)]
-struct Stepped<L: Ledger> {
-    reply: Reply<Bytes>,
-    receipt: Option<Receipt<L>>,
+pub(crate) struct Stepped<L: Ledger> {
+    pub reply: Reply<Bytes>,
+    pub receipt: Option<Receipt<L>>,
     lost: u64,
-    unerased: u64,
+    erase: Erase,
 }
 
 impl<L: Ledger> SharedNode<L> {
@@ -63,7 +77,12 @@ impl<L: Ledger> SharedNode<L> {
         SharedNode {
             kept: Mutex::new(Kept::new(alloc, number, memory, seat)),
             changed: Condvar::new(),
+            asked: Condvar::new(),
             shut: AtomicBool::new(false),
+            stopped: AtomicBool::new(false),
+            keys: Mutex::new(Vec::new(alloc)),
+            place: Mutex::new(Place::Free),
+            alloc,
             tally: Mutex::new(Tally {
                 receipts: 0,
                 disagreeing: 0,
@@ -89,8 +108,8 @@ impl<L: Ledger> SharedNode<L> {
     {
         let mut kept = self.kept.lock(rt);
         let stepped = step_call(&mut *kept, job, session, command);
+        self.settle(rt, &*kept, &stepped);
         drop(kept);
-        self.count(rt, &stepped);
         let Stepped { reply, receipt, .. } = stepped;
         (reply, receipt)
     }
@@ -110,7 +129,7 @@ impl<L: Ledger> SharedNode<L> {
         let mut kept = self.kept.lock(rt);
         for _ in rt.forever() {
             let stepped = step_call(&mut *kept, job, session, command_of(&awaited));
-            self.count(rt, &stepped);
+            self.settle(rt, &*kept, &stepped);
             let is_pending = matches!(&stepped.reply, Reply::Refused(Refusal::Pending));
             if !is_pending || self.is_shut() {
                 let Stepped { reply, receipt, .. } = stepped;
@@ -131,22 +150,37 @@ impl<L: Ledger> SharedNode<L> {
     ) -> (Reply<Bytes>, Option<Receipt<L>>)
         ensures { MatchOption result.1 (result.0 ≡ reply.Refused NoMemory) (λ r. (r.job ≡ job) × (r.entry.reply ≡ kept_reply result.0)) }
     {
-        let mut kept = self.kept.lock(rt);
-        let stepped = step_admit(&mut *kept, job, quota, key);
-        drop(kept);
-        self.count(rt, &stepped);
-        let Stepped { reply, receipt, .. } = stepped;
-        (reply, receipt)
+        self.operate(rt, &Event::Admit(job, quota, key))
+    }
+
+    /// The operator changes a job's quotas, with the receipt of the entry. There is none exactly if the reply is `NoMemory`.
+    pub fn requota<R: Wait>(
+        &self,
+        rt: &R,
+        job: JobNo,
+        quota: Quota,
+    ) -> (Reply<Bytes>, Option<Receipt<L>>)
+        ensures { MatchOption result.1 (result.0 ≡ reply.Refused NoMemory) (λ r. (r.job ≡ job) × (r.entry.reply ≡ kept_reply result.0)) }
+    {
+        self.operate(rt, &Event::Requota(job, quota))
     }
 
     /// The operator ends a job, with the receipt of the entry. There is none exactly if the reply is `NoMemory`.
     pub fn end_job<R: Wait>(&self, rt: &R, job: JobNo) -> (Reply<Bytes>, Option<Receipt<L>>)
         ensures { MatchOption result.1 (result.0 ≡ reply.Refused NoMemory) (λ r. (r.job ≡ job) × (r.entry.reply ≡ kept_reply result.0)) }
     {
+        self.operate(rt, &Event::JobEnd(job))
+    }
+
+    /// An event of the operator's, with the receipt of its entry.
+    fn operate<R: Wait>(&self, rt: &R, event: &Event) -> (Reply<Bytes>, Option<Receipt<L>>)
+        requires { is_built event.now ≡ true }
+        ensures { MatchOption result.1 (result.0 ≡ reply.Refused NoMemory) (λ r. (r.job.0 ≡ job_of_event event.now) × (r.entry.reply ≡ kept_reply result.0)) }
+    {
         let mut kept = self.kept.lock(rt);
-        let stepped = step_end(&mut *kept, job);
+        let stepped = step_event(&mut *kept, event);
+        self.settle(rt, &*kept, &stepped);
         drop(kept);
-        self.count(rt, &stepped);
         let Stepped { reply, receipt, .. } = stepped;
         (reply, receipt)
     }
@@ -158,19 +192,52 @@ impl<L: Ledger> SharedNode<L> {
         self.kept.lock(rt).enter(job, key)
     }
 
-    /// Counts what a step gave, and wakes who waits for another answer if this one says that something was done.
-    fn count<R: Wait>(&self, rt: &R, stepped: &Stepped<L>) {
+    /// Counts what a step gave, lets its keys wait, and wakes the worker, if it has something to do, and who waits for another
+    /// answer, if this one says that something was done. The node is locked, so that nobody is between a look and a wait.
+    pub(crate) fn settle<R: Wait>(&self, rt: &R, kept: &Kept<L>, stepped: &Stepped<L>) {
+        let (waiting, unerased) = self.keep_keys(rt, &stepped.erase);
         let mut tally = self.tally.lock(rt);
         let counts = &mut *tally;
         if stepped.receipt.is_some() {
             counts.receipts = counts.receipts.saturating_add(1);
         }
         counts.lost = counts.lost.saturating_add(stepped.lost);
-        counts.unerased = counts.unerased.saturating_add(stepped.unerased);
+        counts.unerased = counts.unerased.saturating_add(unerased);
         drop(tally);
-        if !matches!(&stepped.reply, Reply::Refused(_)) {
+        if waiting || kept.has_work() {
+            self.asked.notify_all();
+        }
+        // that a work was taken changes no answer
+        if !matches!(&stepped.reply, Reply::Refused(_) | Reply::Work(_)) {
             self.changed.notify_all();
         }
+    }
+
+    /// Lets keys wait to be erased: whether any wait now, and how many found no memory.
+    fn keep_keys<R: Wait>(&self, rt: &R, erase: &Erase) -> (bool, u64) {
+        let given = match erase {
+            Erase::NoKey => return (false, 0),
+            Erase::One(key) => slice::from_ref(key),
+            Erase::Many(keys) => keys.as_slice(),
+        };
+        let mut keys = self.keys.lock(rt);
+        let unerased = match keys.extend_from_slice(given) {
+            Ok(()) => 0,
+            Err(_) => given.len() as u64,
+        };
+        (!keys.is_empty(), unerased)
+    }
+
+    /// Keys that waited were not erased: so many.
+    pub(crate) fn count_unerased<R: Wait>(&self, rt: &R, failed: u64) {
+        let mut tally = self.tally.lock(rt);
+        let counts = &mut *tally;
+        counts.unerased = counts.unerased.saturating_add(failed);
+    }
+
+    /// The keys that wait to be erased, which wait no longer.
+    pub(crate) fn take_keys<R: Wait>(&self, rt: &R) -> Vec<DeviceKey> {
+        mem::replace(&mut *self.keys.lock(rt), Vec::new(self.alloc))
     }
 
     /// Looks for the entry of a receipt that was given by this node, and counts it if the journal doesn't have it.
@@ -211,14 +278,37 @@ impl<L: Ledger> SharedNode<L> {
         self.changed.notify_all();
     }
 
-    /// Waits for the open sessions to end, and gives the number of entries and what was counted.
-    pub(crate) fn counted<R: Wait>(&self, rt: &R) -> (u64, Tally) {
+    /// Whether the worker is to end.
+    pub(crate) fn is_stopped(&self) -> bool {
+        self.stopped.load(Ordering::SeqCst)
+    }
+
+    /// Waits for the open sessions to end, and tells the worker to end.
+    pub(crate) fn stop<R: Wait>(&self, rt: &R) {
+        self.wait_for_sessions(rt);
+        let kept = self.kept.lock(rt);
+        // under the lock, so that the worker isn't between its last look and its wait
+        self.stopped.store(true, Ordering::SeqCst);
+        drop(kept);
+        self.asked.notify_all();
+    }
+
+    /// Waits for the open sessions to end.
+    fn wait_for_sessions<R: Wait>(&self, rt: &R) {
         let open = self
             .ended
             .wait_while(rt, self.open.lock(rt), |open| *open > 0);
         drop(open);
+    }
+
+    /// Waits for the open sessions to end, and gives the number of entries and what was counted. Keys that still wait weren't
+    /// erased.
+    pub(crate) fn counted<R: Wait>(&self, rt: &R) -> (u64, Tally) {
+        self.wait_for_sessions(rt);
         let entries = self.kept.lock(rt).entries();
-        let tally = *self.tally.lock(rt);
+        let left = self.keys.lock(rt).len() as u64;
+        let mut tally = *self.tally.lock(rt);
+        tally.unerased = tally.unerased.saturating_add(left);
         (entries, tally)
     }
 }
@@ -252,29 +342,18 @@ fn step_call<L: Ledger>(
     }
 }
 
-/// An admission at a journaled node.
-fn step_admit<L: Ledger>(kept: &mut Kept<L>, job: JobNo, quota: Quota, key: JobKey) -> Stepped<L>
-    ensures { MatchOption result.receipt (result.reply ≡ reply.Refused NoMemory) (λ r. (r.job ≡ job) × (r.entry.reply ≡ kept_reply result.reply)) }
+/// An event of the operator's or of a worker at a journaled node.
+pub(crate) fn step_event<L: Ledger>(kept: &mut Kept<L>, event: &Event) -> Stepped<L>
+    requires { is_built event.now ≡ true }
+    ensures { MatchOption result.receipt (result.reply ≡ reply.Refused NoMemory) (λ r. (r.job.0 ≡ job_of_event event.now) × (r.entry.reply ≡ kept_reply result.reply)) }
 {
-    let event = Event::Admit(job, quota, key);
-    match kept.step(&event) {
+    match kept.step(event) {
         Ok((outcome, receipt)) => made(outcome, receipt),
         Err(_) => refused(),
     }
 }
 
-/// The end of a job at a journaled node.
-fn step_end<L: Ledger>(kept: &mut Kept<L>, job: JobNo) -> Stepped<L>
-    ensures { MatchOption result.receipt (result.reply ≡ reply.Refused NoMemory) (λ r. (r.job ≡ job) × (r.entry.reply ≡ kept_reply result.reply)) }
-{
-    let event = Event::JobEnd(job);
-    match kept.step(&event) {
-        Ok((outcome, receipt)) => made(outcome, receipt),
-        Err(_) => refused(),
-    }
-}
-
-/// A step that was made. Nobody is given its messages yet, and nobody erases its keys.
+/// A step that was made. Nobody is given its messages yet.
 fn made<L: Ledger>(outcome: Outcome, receipt: Receipt<L>) -> Stepped<L>
     ensures reply { result.reply ≡ outcome.reply }
     ensures receipt { result.receipt ≡ Some receipt }
@@ -290,11 +369,7 @@ fn made<L: Ledger>(outcome: Outcome, receipt: Receipt<L>) -> Stepped<L>
         reply,
         receipt: Some(receipt),
         lost: messages.as_slice().len() as u64,
-        unerased: match erase {
-            Erase::NoKey => 0,
-            Erase::One(_) => 1,
-            Erase::Many(keys) => keys.as_slice().len() as u64,
-        },
+        erase,
     }
 }
 
@@ -307,6 +382,6 @@ fn refused<L: Ledger>() -> Stepped<L>
         reply: Reply::Refused(Refusal::NoMemory),
         receipt: None,
         lost: 0,
-        unerased: 0,
+        erase: Erase::NoKey,
     }
 }

@@ -22,6 +22,7 @@ pub record IsAdmission (nodes : ℕ) (text : List ℕ) (node : ℕ) (job : JobNo
 
 abbrev pub IsChange : ℕ → List ℕ → ℕ → Change → Type 0
 IsChange nodes text node (change.Admit job quota key) = IsAdmission nodes text node job quota key
+IsChange nodes text node (change.Requota job quota) = IsLine nodes text (line.Step («step».At node (event.Requota job quota)))
 IsChange nodes text node (change.End job) = IsLine nodes text (line.Step («step».At node (event.JobEnd job)))
 
 abbrev pub IsOrder : ℕ → List ℕ → Order → Type 0

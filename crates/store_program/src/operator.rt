@@ -13,6 +13,8 @@ use std::alloc::{AllocError, Global};
 pub enum Change {
     /// It is admitted.
     Admit(JobNo, Quota, JobKey),
+    /// Its quotas are changed.
+    Requota(JobNo, Quota),
     /// It is ended.
     End(JobNo),
 }
@@ -27,7 +29,7 @@ pub enum Order {
 }
 
 /// What the text of a line, without its line feed, asks of a cluster with this number of nodes: `admit NODE JOB WINDOW DEVICE
-/// KEY`, `end NODE JOB` or `close`. `None` if it is no such line.
+/// KEY`, `quota NODE JOB WINDOW DEVICE`, `end NODE JOB` or `close`. `None` if it is no such line.
 pub fn read_order(alloc: Global, text: &str, nodes: u32) -> Result<Option<Order>, AllocError>
     ensures { IfOk result (λ found. IfSome found (IsOrder nodes text.now)) }
 {
@@ -35,6 +37,9 @@ pub fn read_order(alloc: Global, text: &str, nodes: u32) -> Result<Option<Order>
         return Ok(Some(Order::Close));
     }
     match read_line(alloc, text, nodes)? {
+        Some(Line::Step(Step::At(node, Event::Requota(job, quota)))) => {
+            Ok(Some(Order::Change(node, Change::Requota(job, quota))))
+        }
         Some(Line::Step(Step::At(node, Event::JobEnd(job)))) => {
             Ok(Some(Order::Change(node, Change::End(job))))
         }

@@ -110,6 +110,7 @@ fn answer_change<L: Ledger, R: Wait, O: Write>(
 {
     let (reply, receipt) = match change {
         Change::Admit(job, quota, key) => shared.admit(rt, job, quota, key),
+        Change::Requota(job, quota) => shared.requota(rt, job, quota),
         Change::End(job) => shared.end_job(rt, job),
     };
     if let Some(receipt) = &receipt {

@@ -24,7 +24,7 @@ fn main(rt: HostRuntime) -> io::Result<ExitCode> {
     };
     let outcome = match task {
         Task::Run(shape) => run(&rt, shape),
-        Task::Serve(serving) => serve(rt, rt.alloc(), serving, rt.reader(), io::writer(&rt)),
+        Task::Serve(serving) => serve(rt, rt, serving, rt.reader(), io::writer(&rt)),
     };
     if let Err(fault) = outcome {
         rt.eprintln(fault)?;

@@ -2,7 +2,8 @@
 ghost use Rattle.std.specs.Prelude.{◌≡◌, true};
 ghost use Rattle.world_core.specs.Worlds.{is_shape};
 
-use session_threads::{Cluster, Listening, listen};
+use session_threads::{Cluster, Listening, SharedNode, Working, listen, work};
+use spill_device::{FileDevice, FolderFault};
 use std::alloc::Global;
 use std::fs::Files;
 use std::io::{BufRead, BufReader, Read, Write};
@@ -23,6 +24,13 @@ struct Door {
     listening: Listening,
 }
 
+/// What serves the nodes.
+#[derive(Drop)]
+struct Served<L: Ledger> {
+    workers: Vec<Working<L>>,
+    doors: Vec<Door>,
+}
+
 /// Serves the sockets of all nodes, carries out the operator's lines that the reader gives, and writes their answers, and a
 /// report at the end.
 ///
@@ -31,15 +39,16 @@ pub fn serve<
     R: Threads + Wait + Clock + Files + Net + Copy + Send + 'static,
     I: Read + Drop,
     O: Write + Drop,
->(rt: R, alloc: Global, serving: Serving<'_>, reader: I, writer: O) -> Result<(), Fault>
+>(rt: R, host: HostRuntime, serving: Serving<'_>, reader: I, writer: O) -> Result<(), Fault>
     requires { is_shape serving.shape ≡ true }
 {
+    let alloc = host.alloc();
     let Ok(mut reader) = BufReader::new(alloc, reader) else {
         return Err(Fault::NoMemory)
     };
     let mut writer = writer;
     let blank = Blank::new(u64::from(serving.shape.nodes));
-    serve_named::<Brand, R, BufReader<I>, O>(rt, alloc, serving, blank, &mut reader, &mut writer)
+    serve_named::<Brand, R, BufReader<I>, O>(rt, host, serving, blank, &mut reader, &mut writer)
 }
 
 /// The same, under a name.
@@ -50,7 +59,7 @@ fn serve_named<
     O: Write,
 >(
     rt: R,
-    alloc: Global,
+    host: HostRuntime,
     serving: Serving<'_>,
     blank: Blank,
     reader: &mut I,
@@ -61,72 +70,111 @@ fn serve_named<
     requires parts { blank.parts ≡ L.parts }
     requires nodes { blank.parts ≡ serving.shape.nodes }
 {
+    let alloc = host.alloc();
     let nodes = serving.shape.nodes;
     let (_book, seats) = blank.open::<L>();
     let Ok(cluster) = Cluster::start(alloc, nodes, serving.shape.memory, seats) else {
         return Err(Fault::NoMemory)
     };
-    let mut doors = Vec::new(alloc);
-    let outcome = match open_doors(rt, alloc, &cluster, serving, &mut doors) {
+    let mut served = Served {
+        workers: Vec::new(alloc),
+        doors: Vec::new(alloc),
+    };
+    let outcome = match open_nodes(rt, host, &cluster, serving, &mut served) {
         Ok(()) => serve_text(&rt, alloc, &cluster, nodes, reader, writer),
         Err(fault) => Err(fault),
     };
     cluster.shut(&rt);
-    close_doors(&rt, doors);
+    close_nodes(&rt, served);
     let report = cluster.report(&rt);
     outcome?;
     write_report(alloc, &report, writer)
 }
 
-/// Makes the folders and opens the sockets of all nodes.
-fn open_doors<
+/// Starts the workers and opens the sockets of all nodes.
+fn open_nodes<
     L: Ledger + Send + Sync + 'static,
     R: Threads + Wait + Clock + Files + Net + Copy + Send + 'static,
 >(
     rt: R,
-    alloc: Global,
+    host: HostRuntime,
     cluster: &Cluster<L>,
     serving: Serving<'_>,
-    doors: &mut Vec<Door>,
+    served: &mut Served<L>,
 ) -> Result<(), Fault> {
     for number in 0..serving.shape.nodes {
         let Some(node) = cluster.node(number) else {
             return Err(Fault::Socket)
         };
-        make_folder(&rt, alloc, serving.spill, number)?;
-        if doors.reserve(1).is_err() {
-            return Err(Fault::NoMemory);
-        }
-        let Ok(node) = Arc::try_clone(node) else {
+        let Ok(()) = served.workers.reserve(1) else {
             return Err(Fault::NoMemory)
         };
-        let Ok(path) = format!(in alloc; "{}.{number}", serving.socket) else {
+        let worker = start_worker(rt, host, node, serving.spill, number)?;
+        let _ = served.workers.push(worker);
+        let Ok(()) = served.doors.reserve(1) else {
             return Err(Fault::NoMemory)
         };
-        let Ok(listener) = bind(&rt, path.as_str()) else {
-            return Err(Fault::Socket)
-        };
-        match listen(rt, alloc, node, listener) {
-            Ok(listening) => {
-                let _ = doors.push(Door { path, listening });
-            }
-            Err(_) => {
-                let _ = fs::remove_file(&rt, path.as_str());
-                return Err(Fault::Socket);
-            }
-        }
+        let door = open_door(rt, host.alloc(), node, serving.socket, number)?;
+        let _ = served.doors.push(door);
     }
     Ok(())
 }
 
-/// Makes the folder into which a node spills.
-fn make_folder<R: Files>(rt: &R, alloc: Global, spill: &str, number: u32) -> Result<(), Fault> {
-    let Ok(path) = format!(in alloc; "{spill}/{number}") else {
+/// Starts the node's worker, which spills into the folder of the node's number. Its device goes into the worker's thread: so it
+/// is over the host's own files, which every thread has.
+fn start_worker<
+    L: Ledger + Send + Sync + 'static,
+    R: Threads + Wait + Clock + Copy + Send + 'static,
+>(
+    rt: R,
+    host: HostRuntime,
+    node: &Arc<SharedNode<L>>,
+    spill: &str,
+    number: u32,
+) -> Result<Working<L>, Fault> {
+    let Ok(node) = Arc::try_clone(node) else {
         return Err(Fault::NoMemory)
     };
-    match fs::create_dir_all(rt, path.as_str()) {
-        Ok(()) => Ok(()),
-        Err(_) => Err(Fault::Output),
+    let Ok(folder) = format!(in host.alloc(); "{spill}/{number}") else {
+        return Err(Fault::NoMemory)
+    };
+    let device = match FileDevice::new(host, folder.as_str()) {
+        Ok(device) => device,
+        Err(FolderFault::NotMade { .. }) => return Err(Fault::Output),
+        Err(FolderFault::NoMemory(_)) => return Err(Fault::NoMemory),
+    };
+    match work(rt, node, device) {
+        Ok(working) => Ok(working),
+        Err(_) => Err(Fault::NoMemory),
+    }
+}
+
+/// Opens the node's socket.
+fn open_door<
+    L: Ledger + Send + Sync + 'static,
+    R: Threads + Wait + Clock + Files + Net + Copy + Send + 'static,
+>(
+    rt: R,
+    alloc: Global,
+    node: &Arc<SharedNode<L>>,
+    socket: &str,
+    number: u32,
+) -> Result<Door, Fault> {
+    let Ok(node) = Arc::try_clone(node) else {
+        return Err(Fault::NoMemory)
+    };
+    let Ok(path) = format!(in alloc; "{socket}.{number}") else {
+        return Err(Fault::NoMemory)
+    };
+    let Ok(listener) = bind(&rt, path.as_str()) else {
+        return Err(Fault::Socket)
+    };
+    match listen(rt, alloc, node, listener) {
+        Ok(listening) => Ok(Door { path, listening }),
+        Err(_) => {
+            let _ = fs::remove_file(&rt, path.as_str());
+            Err(Fault::Socket)
+        }
     }
 }
 
@@ -141,11 +189,15 @@ fn bind<R: Files + Net>(rt: &R, path: &str) -> io::Result<UnixListener> {
     UnixListener::bind(rt, path)
 }
 
-/// Accepts no stream any more, and removes the sockets' files.
-fn close_doors<R: Threads + Wait + Files>(rt: &R, doors: Vec<Door>) {
+/// Accepts no stream any more, removes the sockets' files, waits for the open sessions, and ends the workers.
+fn close_nodes<L: Ledger, R: Threads + Wait + Files>(rt: &R, served: Served<L>) {
+    let Served { workers, doors } = served;
     for door in doors {
         let Door { path, listening } = door;
         let _ = listening.end(rt);
         let _ = fs::remove_file(rt, path.as_str());
+    }
+    for worker in workers {
+        worker.end(rt);
     }
 }

@@ -1,0 +1,58 @@
+//! What a worker asks of its device, and what it then hands in.
+ghost use Rattle.std.specs.Prelude.{◌≡◌, true};
+ghost use Rattle.node_core.specs.Built.{is_built};
+ghost use Rattle.session_threads.specs.DeviceCalls.{IsAsked, IsCarriedOut, written_key};
+
+use bytes::Bytes;
+use obj_id::{DeviceAnswer, DeviceKey, Work, WorkKind};
+use private_store::Event;
+use spill_device::SpillDevice;
+
+/// The Finish of a work that a device was called for, and the key of what it wrote.
+#[derive(Drop)]
+pub(crate) struct Finishing {
+    pub event: Event,
+    pub written: Option<DeviceKey>,
+    pub ghost built: { is_built event ≡ true },
+}
+
+/// The place of a node for a Finish that found no memory. It is there before a work is taken.
+#[derive(Drop)]
+pub(crate) enum Place {
+    Free,
+    /// A round has it.
+    Taken,
+    /// The next round begins with it.
+    Holds(Finishing),
+}
+
+/// Asks the device for what the work says, and gives what is to be handed in for it. Without memory for the call the work has
+/// failed.
+pub(crate) fn call_device<D: SpillDevice>(device: &mut D, work: &Work<Bytes>) -> Finishing
+    ensures event { IsCarriedOut D.write_gives D.read_gives device.old work.now result.event device.new }
+    ensures written { result.written ≡ written_key work.now.kind work.now.key }
+{
+    Finishing {
+        event: Event::Finish(work.job, work.number, answer_of(device, work)),
+        written: match work.kind {
+            WorkKind::Write => Some(work.key),
+            WorkKind::Read => None,
+        },
+    }
+}
+
+/// What the device answers to the work: a write's bytes are kept under its key, and a read's are those that are.
+fn answer_of<D: SpillDevice>(device: &mut D, work: &Work<Bytes>) -> DeviceAnswer
+    ensures { IsAsked D.write_gives D.read_gives device.old work.now.key work.now.length work.now.payload result device.new }
+{
+    match &work.payload {
+        Some(bytes) => match device.write(work.key, bytes) {
+            Ok(()) => DeviceAnswer::Done,
+            Err(_) => DeviceAnswer::Failed,
+        },
+        None => match device.read(work.key, work.length) {
+            Ok(bytes) => DeviceAnswer::Bytes(bytes),
+            Err(_) => DeviceAnswer::Failed,
+        },
+    }
+}
