@@ -1,7 +1,4 @@
 //! Messages that arrive at a node, from the question for an object to its bytes.
-ghost use Rattle.std.specs.Prelude.{◌≡◌, true, IfOk};
-ghost use Rattle.node_core.specs.Built.{is_built_arrival};
-
 use crate::calls::taken;
 use assertions::{holds, same};
 use bytes::Bytes;
@@ -22,9 +19,7 @@ const HELLO: Digest = Digest([
 ]);
 
 /// What the message gives, which arrives once more if memory ran out: then nothing has changed.
-fn arrive(node: &mut Node, job: u32, arrival: &Arrival) -> Result<Outcome, Refusal>
-    requires { is_built_arrival arrival.now ≡ true }
-{
+pub(crate) fn arrive(node: &mut Node, job: u32, arrival: &Arrival) -> Result<Outcome, Refusal> {
     match node.arrive(JobNo(job), arrival) {
         Ok(outcome) => Ok(outcome),
         Err(_) => node.arrive(JobNo(job), arrival),
@@ -32,9 +27,7 @@ fn arrive(node: &mut Node, job: u32, arrival: &Arrival) -> Result<Outcome, Refus
 }
 
 /// How many messages an accepted message makes the node of job 1 send.
-fn sent(rt: &impl Abort, node: &mut Node, arrival: &Arrival) -> Result<usize, Refusal>
-    requires { is_built_arrival arrival.now ≡ true }
-{
+fn sent(rt: &impl Abort, node: &mut Node, arrival: &Arrival) -> Result<usize, Refusal> {
     let outcome = arrive(node, 1, arrival)?;
     assert!(rt; matches!(outcome.reply, Reply::Ok));
     Ok(outcome.messages.as_slice().len())
@@ -71,14 +64,13 @@ fn asked(rt: &impl Abort, alloc: Global, id: ObjectId) -> Result<Node, Refusal> 
     Ok(node)
 }
 
-fn object() -> Result<ObjectId, Refusal> {
+/// The first object of the first task of job 1.
+pub(crate) fn object() -> Result<ObjectId, Refusal> {
     ObjectId::new(TaskNo::numbered(1), JobNo(1), 1)
 }
 
 /// The first chunk of the first fetch, from node 1.
-fn chunk(alloc: Global, bytes: &[u8]) -> Result<Arrival, Refusal>
-    ensures { IfOk result (λ arrival. is_built_arrival arrival ≡ true) }
-{
+fn chunk(alloc: Global, bytes: &[u8]) -> Result<Arrival, Refusal> {
     let bytes = Bytes::copy_from_slice(alloc, bytes)?;
     Ok(Arrival::FromPeer(1, PeerMessage::Chunk(object()?, 1, 0, bytes)))
 }
@@ -94,28 +86,5 @@ fn the_last_chunk_seals_the_copy(rt: HostRuntime) -> Result<(), Fail> {
     same!(rt; sent(&rt, &mut node, &whole), Ok(1));
     holds!(rt; matches!(get(&rt, &mut node, id)?, Reply::Got(5)));
     same!(rt; sent(&rt, &mut node, &whole), Ok(0));
-    Ok(())
-}
-
-#[test]
-fn bytes_of_another_digest_damage_the_fetch(rt: HostRuntime) -> Result<(), Fail> {
-    let id = object()?;
-    let mut node = asked(&rt, rt.alloc(), id)?;
-    let other = chunk(rt.alloc(), b"jello")?;
-    same!(rt; sent(&rt, &mut node, &other), Ok(0));
-    holds!(rt; matches!(get(&rt, &mut node, id)?, Reply::Refused(Refusal::Damaged)));
-    Ok(())
-}
-
-#[test]
-fn a_source_without_a_copy_is_forgotten(rt: HostRuntime) -> Result<(), Fail> {
-    let id = object()?;
-    let mut node = asked(&rt, rt.alloc(), id)?;
-    let elsewhere = Arrival::FromPeer(2, PeerMessage::NotHere(id, 1));
-    same!(rt; sent(&rt, &mut node, &elsewhere), Ok(0));
-    let here = Arrival::FromPeer(1, PeerMessage::NotHere(id, 1));
-    same!(rt; sent(&rt, &mut node, &here), Ok(1));
-    holds!(rt; matches!(get(&rt, &mut node, id)?, Reply::Refused(Refusal::Absent)));
-    holds!(rt; matches!(arrive(&mut node, 2, &here)?.reply, Reply::Refused(Refusal::Stale)));
     Ok(())
 }

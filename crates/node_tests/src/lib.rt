@@ -1,4 +1,4 @@
-//! Tests of nodes and of worlds of them: a node's calls that are no events, what it foresees of one, worlds step by step,
+//! Tests of nodes and of worlds of them: a node's calls that are no events, messages that arrive, what it foresees of both, worlds step by step,
 //! and two worlds beside each other. Whole schedules are files, and `schedules` runs them.
 #![tactic(auto)]
 
@@ -8,5 +8,7 @@ mod arrivals;
 mod calls;
 #[cfg(test)]
 mod foreseen;
+#[cfg(test)]
+mod pulls;
 #[cfg(test)]
 mod steps;

@@ -121,6 +121,19 @@ fn an_eviction_that_wanted_memory_can_be_taken_again(rt: HostRuntime) -> Result<
 }
 
 #[test]
+fn a_delivery_that_wanted_memory_can_be_made_again(rt: HostRuntime) -> Result<(), Fail> {
+    let lines = [
+        ("admit 0 1 64 0", "n0 op ok\n"),
+        ("cmd 0 1 1 get t1.1", "n0 j1 s1 refused 10 Pending\n"),
+        ("deliver 1 0 d 1", "net ok\n"),
+        ("deliver 1 d 0 1", "net ok\n"),
+        ("deliver 1 d 0 2", "net none\n"),
+        ("cmd 0 1 1 get t1.1", "n0 j1 s1 refused 4 Absent\n"),
+    ];
+    check(&rt, rt.alloc(), &lines)
+}
+
+#[test]
 fn asked_writes_that_wanted_memory_can_be_asked_for_again(rt: HostRuntime) -> Result<(), Fail> {
     let lines = [
         ("admit 0 1 32 32", "n0 op ok\n"),
