@@ -19,7 +19,7 @@ const HELLO: Digest = Digest([
 ]);
 
 /// What the message gives, which arrives once more if memory ran out: then nothing has changed.
-pub(crate) fn arrive(node: &mut Node, job: u32, arrival: &Arrival) -> Result<Outcome, Refusal> {
+fn arrive(node: &mut Node, job: u32, arrival: &Arrival) -> Result<Outcome, Refusal> {
     match node.arrive(JobNo(job), arrival) {
         Ok(outcome) => Ok(outcome),
         Err(_) => node.arrive(JobNo(job), arrival),
@@ -65,7 +65,7 @@ fn asked(rt: &impl Abort, alloc: Global, id: ObjectId) -> Result<Node, Refusal> 
 }
 
 /// The first object of the first task of job 1.
-pub(crate) fn object() -> Result<ObjectId, Refusal> {
+fn object() -> Result<ObjectId, Refusal> {
     ObjectId::new(TaskNo::numbered(1), JobNo(1), 1)
 }
 

@@ -167,12 +167,7 @@ fn what_no_task_keeps_is_told(rt: HostRuntime) -> Result<(), Fail> {
 }
 
 /// Applies the events that the lines spell, none of which is refused.
-pub(crate) fn carry_out(
-    rt: &impl Abort,
-    alloc: Global,
-    node: &mut Node,
-    lines: &[&str],
-) -> Result<(), Fail> {
+fn carry_out(rt: &impl Abort, alloc: Global, node: &mut Node, lines: &[&str]) -> Result<(), Fail> {
     for line in lines {
         let event = event_of(rt, alloc, line)?;
         let outcome = taken(rt, node, &event)?;
@@ -212,7 +207,7 @@ fn check_finish(
 }
 
 /// A node at which the work 1 of job 1 waits: a write that makes room for a copy.
-pub(crate) fn spilling(rt: &impl Abort, alloc: Global) -> Result<Node, Fail> {
+fn spilling(rt: &impl Abort, alloc: Global) -> Result<Node, Fail> {
     let lines = [
         "admit 0 1 16 64",
         "cmd 0 1 1 create t1.1 16",
