@@ -128,37 +128,39 @@ fn has<D: SpillDevice>(rt: &impl Abort, device: &mut D, key: DeviceKey, bytes: &
     }
 }
 
+/// Whether a read under the key fails.
+fn is_unread<D: SpillDevice>(rt: &impl Abort, device: &mut D, key: DeviceKey, len: u32) -> bool {
+    matches!(read(rt, device, key, len), Err(DeviceFault::Failed))
+}
+
 /// What is asked of any device that keeps its bytes.
 fn keeps_its_bytes<D: SpillDevice>(rt: &impl Abort, device: &mut D) {
-    same!(rt; device.failures(), 0);
-    same!(rt; erase(rt, device, KEY), Ok(()));
-    same!(rt; write(rt, device, KEY, &[1, 2, 3]), Ok(()));
-    same!(rt; write(rt, device, OTHER, &[9]), Ok(()));
+    let done = [
+        erase(rt, device, KEY),
+        write(rt, device, KEY, &[1, 2, 3]),
+        write(rt, device, OTHER, &[9]),
+    ];
+    same!(rt; done, [Ok(()); 3]);
     holds!(rt; has(rt, device, KEY, &[1, 2, 3]));
     same!(rt; write(rt, device, KEY, &[4, 5]), Ok(()));
-    holds!(rt; has(rt, device, KEY, &[4, 5]));
-    holds!(rt; has(rt, device, OTHER, &[9]));
+    same!(rt; [has(rt, device, KEY, &[4, 5]), has(rt, device, OTHER, &[9])], [true; 2]);
     same!(rt; device.failures(), 0);
-    assert!(rt; matches!(read(rt, device, KEY, 3), Err(DeviceFault::Failed)));
-    same!(rt; device.failures(), 1);
-    same!(rt; erase(rt, device, KEY), Ok(()));
-    same!(rt; erase(rt, device, KEY), Ok(()));
-    assert!(rt; matches!(read(rt, device, KEY, 2), Err(DeviceFault::Failed)));
-    same!(rt; device.failures(), 2);
+    same!(rt; (is_unread(rt, device, KEY, 3), device.failures()), (true, 1));
+    same!(rt; [erase(rt, device, KEY), erase(rt, device, KEY)], [Ok(()); 2]);
+    same!(rt; (is_unread(rt, device, KEY, 2), device.failures()), (true, 2));
     holds!(rt; has(rt, device, OTHER, &[9]));
 }
 
 /// What is asked of it where two jobs have works of one number.
 fn keeps_jobs_apart<D: SpillDevice>(rt: &impl Abort, device: &mut D) {
     same!(rt; write(rt, device, OTHER, &[9]), Ok(()));
-    assert!(rt; matches!(read(rt, device, NEIGHBOUR, 1), Err(DeviceFault::Failed)));
+    holds!(rt; is_unread(rt, device, NEIGHBOUR, 1));
     same!(rt; write(rt, device, NEIGHBOUR, &[7, 8]), Ok(()));
-    holds!(rt; has(rt, device, OTHER, &[9]));
-    holds!(rt; has(rt, device, NEIGHBOUR, &[7, 8]));
+    same!(rt; [has(rt, device, OTHER, &[9]), has(rt, device, NEIGHBOUR, &[7, 8])], [true; 2]);
     same!(rt; erase(rt, device, OTHER), Ok(()));
     holds!(rt; has(rt, device, NEIGHBOUR, &[7, 8]));
     same!(rt; erase(rt, device, NEIGHBOUR), Ok(()));
-    assert!(rt; matches!(read(rt, device, NEIGHBOUR, 2), Err(DeviceFault::Failed)));
+    holds!(rt; is_unread(rt, device, NEIGHBOUR, 2));
 }
 
 /// As many bytes, each another than the one before it.
@@ -218,16 +220,45 @@ fn files_keep_what_was_last_written(rt: HostRuntime) -> Result<(), Fail> {
     Ok(())
 }
 
+// A test of files owns their folder's name, and calls a function over the device.
+
+/// Writes the key's file and erases it.
+fn name_a_file<R: Files + Abort, D: SpillDevice>(
+    rt: &R,
+    device: &mut D,
+    file: &str,
+) -> Result<(), Fail> {
+    same!(rt; write(rt, device, KEY, &[1, 2, 3]), Ok(()));
+    same!(rt; fs::metadata(rt, file)?.len(), 3);
+    same!(rt; erase(rt, device, KEY), Ok(()));
+    holds!(rt; !fs::exists(rt, file)?);
+    Ok(())
+}
+
 #[test]
 fn a_file_is_named_by_job_and_number(rt: HostRuntime) -> Result<(), Fail> {
     let folder = own_folder(&rt, process::id(rt.process()), "named")?;
     let file = joined(rt.alloc(), folder.as_str(), FILE)?;
     let mut device = over_files(&rt, folder.as_str())?;
-    same!(rt; write(&rt, &mut device, KEY, &[1, 2, 3]), Ok(()));
-    same!(rt; fs::metadata(&rt, file.as_str())?.len(), 3);
-    same!(rt; erase(&rt, &mut device, KEY), Ok(()));
-    holds!(rt; !fs::exists(&rt, file.as_str())?);
+    name_a_file(&rt, &mut device, file.as_str())?;
     fs::remove_dir(&rt, folder.as_str())?;
+    Ok(())
+}
+
+/// Reads a file that became shorter, became longer, and went.
+fn change_a_file<R: Files + Abort, D: SpillDevice>(
+    rt: &R,
+    device: &mut D,
+    file: &str,
+) -> Result<(), Fail> {
+    same!(rt; write(rt, device, KEY, &[1, 2, 3]), Ok(()));
+    for text in ["12", "1234"] {
+        fs::write(rt, file, text)?;
+        holds!(rt; is_unread(rt, device, KEY, 3));
+    }
+    fs::remove_file(rt, file)?;
+    holds!(rt; is_unread(rt, device, KEY, 3));
+    same!(rt; device.failures(), 3);
     Ok(())
 }
 
@@ -236,39 +267,39 @@ fn a_short_or_longer_file_fails(rt: HostRuntime) -> Result<(), Fail> {
     let folder = own_folder(&rt, process::id(rt.process()), "lengths")?;
     let file = joined(rt.alloc(), folder.as_str(), FILE)?;
     let mut device = over_files(&rt, folder.as_str())?;
-    same!(rt; write(&rt, &mut device, KEY, &[1, 2, 3]), Ok(()));
-    fs::write(&rt, file.as_str(), "12")?;
-    assert!(rt; matches!(read(&rt, &mut device, KEY, 3), Err(DeviceFault::Failed)));
-    fs::write(&rt, file.as_str(), "1234")?;
-    assert!(rt; matches!(read(&rt, &mut device, KEY, 3), Err(DeviceFault::Failed)));
-    fs::remove_file(&rt, file.as_str())?;
-    assert!(rt; matches!(read(&rt, &mut device, KEY, 3), Err(DeviceFault::Failed)));
-    same!(rt; device.failures(), 3);
+    change_a_file(&rt, &mut device, file.as_str())?;
     fs::remove_dir(&rt, folder.as_str())?;
+    Ok(())
+}
+
+/// Writes where the temporary file can't be made, and where the folder itself is lost.
+fn fail_to_write<R: Files + Abort, D: SpillDevice>(
+    rt: &R,
+    device: &mut D,
+    folder: &str,
+    part: &str,
+) -> Result<(), Fail> {
+    let failed = Err(DeviceFault::Failed);
+    same!(rt; write(rt, device, OTHER, &[1, 2, 3]), Ok(()));
+    // a folder stands where the temporary file would go
+    fs::create_dir(rt, part)?;
+    same!(rt; write(rt, device, OTHER, &[4]), failed);
+    holds!(rt; has(rt, device, OTHER, &[1, 2, 3]));
+    fs::remove_dir(rt, part)?;
+    same!(rt; erase(rt, device, OTHER), Ok(()));
+    fs::remove_dir(rt, folder)?;
+    same!(rt; write(rt, device, OTHER, &[4]), failed);
+    same!(rt; erase(rt, device, OTHER), Ok(()));
+    same!(rt; device.failures(), 2);
     Ok(())
 }
 
 #[test]
 fn a_write_that_fails_leaves_what_was_there(rt: HostRuntime) -> Result<(), Fail> {
     let folder = own_folder(&rt, process::id(rt.process()), "whole")?;
-    let mut device = over_files(&rt, folder.as_str())?;
-    same!(rt; write(&rt, &mut device, OTHER, &[1, 2, 3]), Ok(()));
-    // a folder stands where the temporary file would go
     let part = joined(rt.alloc(), folder.as_str(), "7.1.part")?;
-    fs::create_dir(&rt, part.as_str())?;
-    same!(rt; write(&rt, &mut device, OTHER, &[4]),
-        Err(DeviceFault::Failed));
-    same!(rt; device.failures(), 1);
-    holds!(rt; has(&rt, &mut device, OTHER, &[1, 2, 3]));
-    // the folder itself is lost
-    fs::remove_dir(&rt, part.as_str())?;
-    same!(rt; erase(&rt, &mut device, OTHER), Ok(()));
-    fs::remove_dir(&rt, folder.as_str())?;
-    same!(rt; write(&rt, &mut device, OTHER, &[4]),
-        Err(DeviceFault::Failed));
-    same!(rt; device.failures(), 2);
-    same!(rt; erase(&rt, &mut device, OTHER), Ok(()));
-    Ok(())
+    let mut device = over_files(&rt, folder.as_str())?;
+    fail_to_write(&rt, &mut device, folder.as_str(), part.as_str())
 }
 
 /// What is printed of the fault, asked for once more if memory ran out.
@@ -299,32 +330,36 @@ fn a_folder_that_cant_be_made_is_told(rt: HostRuntime) -> Result<(), Fail> {
     Ok(())
 }
 
+/// Makes calls of a device whose second one fails: it doesn't reach the device beneath.
+fn fail_the_second(rt: &impl Abort, device: &mut FaultyDevice<MemoryDevice>) {
+    same!(rt; [device.erase(OTHER), device.write(KEY, &[1])], [Ok(()), Err(DeviceFault::Failed)]);
+    same!(rt; (device.failures(), device.inner.failures()), (1, 0));
+    holds!(rt; has(rt, device, KEY, &[]));
+    same!(rt; erase(rt, device, KEY), Ok(()));
+    holds!(rt; matches!(device.read(KEY, 0), Err(DeviceFault::Failed)));
+    same!(rt; (device.failures(), device.inner.failures()), (2, 1));
+}
+
 #[test]
 fn the_kth_call_fails_and_no_other(rt: HostRuntime) {
     let mut memory = MemoryDevice::new(rt.alloc());
     same!(rt; write(&rt, &mut memory, KEY, &[]), Ok(()));
     let mut device = FaultyDevice::new(memory, 2);
-    same!(rt; device.erase(OTHER), Ok(()));
-    same!(rt; device.write(KEY, &[1]), Err(DeviceFault::Failed));
-    same!(rt; device.failures(), 1);
-    same!(rt; device.inner.failures(), 0);
-    // the call that failed didn't reach the device beneath
-    holds!(rt; has(&rt, &mut device, KEY, &[]));
-    same!(rt; erase(&rt, &mut device, KEY), Ok(()));
-    assert!(rt; matches!(device.read(KEY, 0), Err(DeviceFault::Failed)));
-    same!(rt; device.failures(), 2);
-    same!(rt; device.inner.failures(), 1);
+    fail_the_second(&rt, &mut device);
+}
+
+/// What two erases are answered by a device whose call of this number fails.
+fn erased_twice(alloc: Global, failing: u64) -> [Result<(), DeviceFault>; 2] {
+    let mut device = FaultyDevice::new(MemoryDevice::new(alloc), failing);
+    [device.erase(KEY), device.erase(KEY)]
 }
 
 #[test]
 fn reads_and_erases_are_counted_as_calls(rt: HostRuntime) {
     let mut reads = FaultyDevice::new(MemoryDevice::new(rt.alloc()), 1);
-    assert!(rt; matches!(reads.read(KEY, 1), Err(DeviceFault::Failed)));
+    holds!(rt; matches!(reads.read(KEY, 1), Err(DeviceFault::Failed)));
     same!(rt; reads.inner.failures(), 0);
-    let mut erases = FaultyDevice::new(MemoryDevice::new(rt.alloc()), 1);
-    same!(rt; erases.erase(KEY), Err(DeviceFault::Failed));
-    same!(rt; erases.erase(KEY), Ok(()));
-    let mut none = FaultyDevice::new(MemoryDevice::new(rt.alloc()), 0);
-    same!(rt; none.erase(KEY), Ok(()));
-    same!(rt; none.failures(), 0);
+    let failed = Err(DeviceFault::Failed);
+    same!(rt; erased_twice(rt.alloc(), 1), [failed, Ok(())]);
+    same!(rt; erased_twice(rt.alloc(), 0), [Ok(()); 2]);
 }

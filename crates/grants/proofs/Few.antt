@@ -1,6 +1,6 @@
 -- How much a live job may be given by the other live jobs.
-use Rattle.std.proofs.Common.{◌≡◌, ℕ, suc, ◌+◌, ◌*◌, ◌≤◌, ◌==◌, Bool, true, false, not, cond, ◌&&◌, ◌||◌, List, [], ◌∷◌, ◌++◌, length, map, filter, fold, Option, Some, None, is_some, refl, sym, ap, subst, ◌∙◌, arith, T}
-use Rattle.std.specs.Prelude.{IsTrue, nat_le}
+use Rattle.std.proofs.Common.{◌≡◌, ℕ, suc, ◌+◌, ◌*◌, ◌≤◌, ◌==◌, Bool, true, false, not, cond, ◌&&◌, ◌||◌, List, [], ◌∷◌, ◌++◌, length, map, filter, fold, Option, Some, None, is_some, refl, sym, ap, ◌∙◌, arith, T}
+use Rattle.std.specs.Prelude.{nat_le}
 use Rattle.std.specs.List.{list_any, list_all}
 use Rattle.std.specs.FinMap.{is_sorted}
 use Rattle.std.specs.FinMap.Entries.{is_sorted-put, length-put}
@@ -10,10 +10,10 @@ use Rattle.obj_id.specs.Ids.{id_cmp}
 use Rattle.obj_id.proofs.SameIds.{id_cmp-IsTotalOrder}
 use Rattle.private_store.specs.Answers.{AreGrantedWithin}
 use Rattle.private_store.specs.Hands.{Hand, same_hand, hangs_on, is_given_by}
-use Rattle.private_store.specs.Limits.{most_hands, most_live_jobs, most_granted, greatest_depth}
+use Rattle.private_store.specs.Limits.{most_hands, most_live_jobs, greatest_depth}
 use Rattle.private_store.specs.Shape.{HandTaken, Seen}
 use Rattle.private_store.specs.Tables.{ById, at}
-use Rattle.private_store.proofs.Tests.{both, both_left, both_right, T_true, some_value}
+use Rattle.private_store.proofs.Tests.{both, both_left, both_right, some_value}
 use Rattle.grants.specs.Table.{AreHands, all_stand, may_stand, hangs_right, is_hung, is_no_taker, shows, given_by, given_to}
 use Rattle.grants.specs.Private.{as_taken, seen_by, with_taken, taken_by}
 use Rattle.grants.proofs.Private.{seen_hands}

@@ -7,7 +7,7 @@ use Rattle.obj_id.specs.declared.refusals.Refusal.TheVariants.{BadId, NotGranted
 use Rattle.std.specs.Ordering.{is_lt}
 use Rattle.obj_id.specs.Ids.{id_cmp, same_id}
 use Rattle.private_store.specs.Limits.{most_hands, greatest_depth}
-use Rattle.private_store.specs.Hands.{Hand, same_hand, ground, hangs_on, is_withdrawn, is_of_task, is_given_by}
+use Rattle.private_store.specs.Hands.{Hand, same_hand, ground, hangs_on, ended_from, is_withdrawn, is_of_task, is_given_by}
 use Rattle.grants.specs.declared.endings.Ending.{Ending}
 use Rattle.grants.specs.declared.endings.Ending.TheVariants.{Withdrawn, OfObject, OfTask, GivenBy}
 
@@ -75,6 +75,15 @@ ends (Withdrawn giver id taker) = is_withdrawn giver.0 id taker.0
 ends (OfObject id) = λ hand. same_id id hand.id
 ends (OfTask job task) = is_of_task job.0 task
 ends (GivenBy job) = is_given_by job.0
+
+-- the hands that end where those that pass the test end, oldest first
+abbrev pub ends_found : (Hand → Bool) → List Hand → List Hand
+ends_found test hands = ended_from test [] hands
+
+-- they are those that were found in these hands
+pub record AreFoundIn (hands ends : List Hand) : Type 0 where
+  pub test : Hand → Bool
+  pub found : ends ≡ ends_found test hands
 
 -- why a withdrawal is refused: there is no such hand
 abbrev pub withdraw_check : List Hand → ℕ → ObjectId → ℕ → Option Refusal

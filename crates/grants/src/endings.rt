@@ -7,7 +7,7 @@ ghost use Rattle.grants.specs.Links.{are_apart};
 
 use crate::hands::{Hand, Link, same_id, same_task};
 use indexmap::IndexSet;
-use obj_id::{JobNo, ObjectId, TaskNo};
+use obj_id::{Items, JobNo, ObjectId, TaskNo};
 use std::alloc::{AllocError, Global};
 use std::collections::BTreeMap;
 use std::marker::Model;
@@ -108,10 +108,75 @@ impl Gone {
     }
 
     /// The hands.
-    pub(crate) fn hands(&self) -> &Vec<Hand>
+    fn hands(&self) -> &Vec<Hand>
         ensures { result.now.items ≡ self.now }
     {
         &self.hands
+    }
+}
+
+/// Hands that end by themselves and all that hang on them, found before anything changes. A contract sees them oldest
+/// first.
+#[derive(Drop)]
+pub struct EndingHands {
+    gone: Gone,
+    // the same, in the order in which they are told
+    told: Items<Hand>,
+}
+
+impl Model for EndingHands {
+    ghost use Rattle.std.specs.Prelude.{◌≡◌, List};
+    ghost use Rattle.private_store.specs.Hands.{Hand as StandingHand, hands_sorted};
+
+    ghost Value = { List StandingHand };
+
+    ghost view = { λ e. e.gone };
+
+    ghost invariant = { λ e. e.told ≡ hands_sorted e.gone };
+}
+
+impl EndingHands {
+    /// None.
+    pub(crate) fn none(alloc: Global) -> EndingHands
+        ensures { result ≡ [] }
+    {
+        EndingHands {
+            gone: Gone::new(alloc),
+            told: Items::new(alloc),
+        }
+    }
+
+    /// These, no two of which are the same.
+    pub(crate) fn of(alloc: Global, gone: Gone) -> Result<EndingHands, AllocError>
+        requires { are_apart gone ≡ true }
+        ensures { IfOk result (λ ends. ends ≡ gone) }
+    {
+        let told = sorted(alloc, gone.hands())?;
+        Ok(EndingHands {
+            gone,
+            told: Items::from_vec(told),
+        })
+    }
+
+    /// The hands, in the order in which their ends are told: by depth, object, giver and taker.
+    pub fn hands(&self) -> &[Hand]
+        ensures { result.now ≡ hands_sorted self.now }
+    {
+        self.told.as_slice()
+    }
+
+    /// The same, owned.
+    pub(crate) fn into_hands(self) -> Items<Hand>
+        ensures { result ≡ hands_sorted self }
+    {
+        self.told
+    }
+
+    /// To look them up by.
+    pub(crate) fn gone(&self) -> &Gone
+        ensures { result.now ≡ self.now }
+    {
+        &self.gone
     }
 }
 
@@ -130,7 +195,7 @@ pub(crate) fn ended(alloc: Global, hands: &Vec<Hand>, ending: &Ending) -> Result
 }
 
 /// The hands, no two of which are the same, in the order in which their ends are told.
-pub(crate) fn sorted(alloc: Global, hands: &Vec<Hand>) -> Result<Vec<Hand>, AllocError>
+fn sorted(alloc: Global, hands: &Vec<Hand>) -> Result<Vec<Hand>, AllocError>
     requires { are_apart hands.now.items ≡ true }
     ensures { IfOk result (λ told. told.items ≡ hands_sorted hands.now.items) }
 {

@@ -14,7 +14,7 @@ ghost use Rattle.obj_id.specs.declared.refusals.Refusal.{Refusal};
 ghost use Rattle.obj_id.specs.declared.refusals.Refusal.TheVariants.{NoMemory};
 ghost use Rattle.private_store.specs.Limits.{greatest_depth, most_hands, most_live_jobs};
 ghost use Rattle.private_store.specs.Hands.{Hand as StandingHand, new_hand, with_hand, hands_ended, hands_left, ground, is_withdrawn, is_of_task, is_given_by};
-ghost use Rattle.grants.specs.Table.{AreHands, is_first, given_by, given_to, seen_list, limits_check, grant_check as grant_check_lem, withdraw_check, ends};
+ghost use Rattle.grants.specs.Table.{AreHands, is_first, given_by, given_to, seen_list, limits_check, grant_check as grant_check_lem, withdraw_check, ends, ends_found, AreFoundIn};
 ghost use Rattle.private_store.specs.Shape.{Shape};
 ghost use Rattle.grants.specs.Private.{as_given, taken_by, HasHands, RefusesAlike, GrantsAlike, RestAlike, EndsAlike};
 ghost use Rattle.grants.specs.Chains.{sees, is_led_to};
@@ -25,6 +25,7 @@ mod endings;
 mod hands;
 
 use endings::Ending;
+pub use endings::EndingHands;
 pub use hands::Hand;
 use obj_id::limits::{GREATEST_DEPTH, MOST_HANDS};
 use obj_id::{Items, JobNo, ObjectId, Refusal, TaskNo};
@@ -79,11 +80,12 @@ impl Grants {
         self.next_hand(giver, id, target).err()
     }
 
-    /// Grants an object: a hand from the giver to the target stands, the youngest. Another job's object
-    /// is handed on: the hand hangs on the giver's oldest hand of it.
+    /// Grants an object: a hand from the giver to the target stands, the youngest, and is given back. Another job's
+    /// object is handed on: the hand hangs on the giver's oldest hand of it.
     ///
     /// Refused as `grant_check` says, with `NoMemory` last. A refusal changes nothing.
-    pub fn grant(&mut self, giver: JobNo, id: ObjectId, target: JobNo) -> Result<(), Refusal>
+    pub fn grant(&mut self, giver: JobNo, id: ObjectId, target: JobNo) -> Result<Hand, Refusal>
+        ensures hand { IfOk result (λ hand. hand ≡ new_hand self.old id giver.0 target.0) }
         ensures ok { OnOk result (self.new ≡ with_hand self.old id giver.0 target.0) }
         ensures passed { IsOk result → grant_check_lem self.old giver.0 id target.0 ≡ None }
         ensures refused { (r : Refusal) → r ≢ NoMemory → IsErrOf result r → grant_check_lem self.old giver.0 id target.0 ≡ Some r }
@@ -93,7 +95,7 @@ impl Grants {
         let hand = self.next_hand(giver, id, target)?;
         match self.hands.push(hand) {
             Err(_) => Err(Refusal::NoMemory),
-            Ok(()) => Ok(()),
+            Ok(()) => Ok(hand),
         }
     }
 
@@ -137,35 +139,45 @@ impl Grants {
         self.end(Ending::OfObject(id))
     }
 
-    /// Ends what the job gave of its own objects that the task made, and what hangs on it. A failure
-    /// changes nothing, and there is none if the job gave none of them.
-    pub fn drop_task(&mut self, job: JobNo, task: TaskNo) -> Result<Items<Hand>, AllocError>
-        ensures told { IfOk result (λ told. told ≡ hands_ended (is_of_task job.0 task) self.old) }
-        ensures ok { OnOk result (self.new ≡ hands_left (is_of_task job.0 task) self.old) }
-        ensures gone { OnOk result (filter (is_of_task job.0 task) self.new ≡ []) }
-        ensures succeeds { filter (is_of_task job.0 task) self.old ≡ [] → IsOk result }
-        ensures err { OnErr result (self.new ≡ self.old) }
+    /// The hand of the object from the giver to the target, and what hangs on it: none if it doesn't stand, and then
+    /// there is no failure. Nothing changes.
+    pub fn ends_with_hand(
+        &self,
+        giver: JobNo,
+        id: ObjectId,
+        target: JobNo,
+    ) -> Result<EndingHands, AllocError>
+        ensures found { IfOk result (λ ends. ends ≡ ends_found (is_withdrawn giver.0 id target.0) self.now) }
+        ensures succeeds { filter (is_withdrawn giver.0 id target.0) self.now ≡ [] → IsOk result }
     {
-        self.end(Ending::OfTask(job, task))
+        self.found(Ending::Withdrawn(giver, id, target))
     }
 
-    /// Ends all that the job gave, of own objects and others', and what hangs on it. What was given to
-    /// the job stays. A failure changes nothing, and there is none if the job gave nothing.
-    pub fn drop_job(&mut self, job: JobNo) -> Result<Items<Hand>, AllocError>
-        ensures told { IfOk result (λ told. told ≡ hands_ended (is_given_by job.0) self.old) }
-        ensures ok { OnOk result (self.new ≡ hands_left (is_given_by job.0) self.old) }
-        ensures gone { OnOk result (given_by job.0 self.new ≡ []) }
-        ensures succeeds { given_by job.0 self.old ≡ [] → IsOk result }
-        ensures err { OnErr result (self.new ≡ self.old) }
+    /// What the job gave of its own objects that the task made, and what hangs on it. There is no failure if the job
+    /// gave none of them. Nothing changes.
+    pub fn ends_with_task(&self, job: JobNo, task: TaskNo) -> Result<EndingHands, AllocError>
+        ensures found { IfOk result (λ ends. ends ≡ ends_found (is_of_task job.0 task) self.now) }
+        ensures succeeds { filter (is_of_task job.0 task) self.now ≡ [] → IsOk result }
     {
-        self.end(Ending::GivenBy(job))
+        self.found(Ending::OfTask(job, task))
     }
 
-    /// The hands that would end if the job did, in the order in which their ends would be told. Nothing changes.
-    pub fn ends_with_job(&self, job: JobNo) -> Result<Items<Hand>, AllocError>
-        ensures { IfOk result (λ told. told ≡ hands_ended (is_given_by job.0) self.now) }
+    /// All that the job gave, of own objects and others', and what hangs on it. What was given to the job is not among
+    /// it. There is no failure if the job gave nothing. Nothing changes.
+    pub fn ends_with_job(&self, job: JobNo) -> Result<EndingHands, AllocError>
+        ensures found { IfOk result (λ ends. ends ≡ ends_found (is_given_by job.0) self.now) }
+        ensures succeeds { given_by job.0 self.now ≡ [] → IsOk result }
     {
-        self.would_end(&Ending::GivenBy(job))
+        self.found(Ending::GivenBy(job))
+    }
+
+    /// Takes out the hands that end, which were found in this very table. The others keep their order. Takes no memory.
+    pub fn take_out(&mut self, ends: &EndingHands)
+        requires { AreFoundIn self.old ends.now }
+        ensures left { (test : StandingHand → Bool) → ends.now ≡ ends_found test self.old → self.new ≡ hands_left test self.old }
+        ensures gone { (test : StandingHand → Bool) → ends.now ≡ ends_found test self.old → filter test self.new ≡ [] }
+    {
+        endings::take_out(&mut self.hands, ends.gone());
     }
 
     /// The oldest hand of the object to the job, if the job sees the object.
@@ -250,13 +262,16 @@ impl Grants {
         Ok(())
     }
 
-    /// The hands that would end, with all that hang on them.
-    fn would_end(&self, ending: &Ending) -> Result<Items<Hand>, AllocError>
-        ensures { IfOk result (λ told. told ≡ hands_ended (ends ending.now) self.now) }
+    /// The hands that end, with all that hang on them. If none ends by itself, no memory is taken.
+    fn found(&self, ending: Ending) -> Result<EndingHands, AllocError>
+        ensures found { IfOk result (λ found. found ≡ ends_found (ends ending) self.now) }
+        ensures succeeds { filter (ends ending) self.now ≡ [] → IsOk result }
     {
-        let gone = endings::ended(self.alloc, &self.hands, ending)?;
-        let told = endings::sorted(self.alloc, gone.hands())?;
-        Ok(Items::from_vec(told))
+        if !endings::any_ends(&self.hands, &ending) {
+            return Ok(EndingHands::none(self.alloc));
+        }
+        let gone = endings::ended(self.alloc, &self.hands, &ending)?;
+        EndingHands::of(self.alloc, gone)
     }
 
     /// Ends hands, with all that hang on them. All growth comes first, and if none ends there is none.
@@ -267,13 +282,9 @@ impl Grants {
         ensures succeeds { filter (ends ending) self.old ≡ [] → IsOk result }
         ensures err { OnErr result (self.new ≡ self.old) }
     {
-        if !endings::any_ends(&self.hands, &ending) {
-            return Ok(Items::new(self.alloc));
-        }
-        let gone = endings::ended(self.alloc, &self.hands, &ending)?;
-        let told = endings::sorted(self.alloc, gone.hands())?;
-        endings::take_out(&mut self.hands, &gone);
-        Ok(Items::from_vec(told))
+        let ends = self.found(ending)?;
+        self.take_out(&ends);
+        Ok(ends.into_hands())
     }
 }
 
