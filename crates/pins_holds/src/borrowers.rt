@@ -1,11 +1,11 @@
 //! The tasks that borrow one copy.
-ghost use Rattle.std.specs.Prelude.{◌≡◌, ◌+◌, ◌++◌, ◌∷◌, [], not, false, filter, length, OnOk, OnErr};
+ghost use Rattle.std.specs.Prelude.{◌≡◌, ◌+◌, ◌++◌, ◌∷◌, [], not, false, filter, length, IfOk, OnOk, OnErr};
 ghost use Rattle.std.specs.List.{list_any};
 ghost use Rattle.obj_id.specs.Ids.{same_task};
 ghost use Rattle.pins_holds.specs.Pinned.{are_borrowing};
 
 use indexmap::IndexSet;
-use obj_id::TaskNo;
+use obj_id::{Items, TaskNo};
 use std::alloc::{AllocError, Global};
 use std::marker::Model;
 
@@ -65,6 +65,17 @@ impl Borrowers {
             }
         }
         false
+    }
+
+    /// The tasks, in the order in which they came. Takes a walk over them, and memory for each.
+    pub fn tasks(&self, alloc: Global) -> Result<Items<TaskNo>, AllocError>
+        ensures { IfOk result (λ tasks. tasks ≡ self.now) }
+    {
+        let mut tasks = Vec::new(alloc);
+        for task in &self.tasks {
+            tasks.push(*task)?;
+        }
+        Ok(Items::from_vec(tasks))
     }
 
     /// The task comes last. A failure changes nothing.

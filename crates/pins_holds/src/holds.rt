@@ -1,11 +1,12 @@
 //! The holds on one copy.
-ghost use Rattle.std.specs.Prelude.{◌≡◌, ◌+◌, ◌-◌, ◌<◌, ◌≤◌, [], not, OnOk, OnErr, IsOk, IsTrue};
+ghost use Rattle.std.specs.Prelude.{◌≡◌, ◌+◌, ◌-◌, ◌<◌, ◌≤◌, [], not, IfOk, OnOk, OnErr, IsOk, IsTrue};
 ghost use Rattle.std.specs.Ordering.{nat_cmp};
 ghost use Rattle.std.specs.FinMap.{put, is_sorted};
 ghost use Rattle.private_store.specs.Kept.{are_held};
 ghost use Rattle.private_store.specs.Commands.{without_session};
 ghost use Rattle.pins_holds.specs.Sessions.{AreHolds, count_of, with_count, total};
 
+use obj_id::Items;
 use std::alloc::{AllocError, Global};
 use std::collections::BTreeMap;
 use std::marker::Model;
@@ -56,6 +57,17 @@ impl Holds {
         ensures kept { AreHolds self.now }
     {
         self.all
+    }
+
+    /// How many each session has, by rising session. Takes a walk over them, and memory for each.
+    pub fn by_session(&self, alloc: Global) -> Result<Items<(u32, u32)>, AllocError>
+        ensures { IfOk result (λ held. held ≡ self.now) }
+    {
+        let mut held = Vec::new(alloc);
+        for (session, count) in &self.by_session {
+            held.push((*session, *count))?;
+        }
+        Ok(Items::from_vec(held))
     }
 
     /// Whether there are none.

@@ -2,7 +2,7 @@
 //! it. A contract sees it as a record with the parts that a copy of the private store has.
 #![tactic(auto)]
 
-ghost use Rattle.std.specs.Prelude.{◌≡◌, ◌≢◌, ◌+◌, ◌-◌, ◌<◌, true, false, Some, None, OnOk, OnErr, IsOk, IsErrOf};
+ghost use Rattle.std.specs.Prelude.{◌≡◌, ◌≢◌, ◌+◌, ◌-◌, ◌<◌, true, false, Some, None, IfOk, OnOk, OnErr, IsOk, IsErrOf};
 ghost use Rattle.obj_id.specs.declared.refusals.Refusal.{Refusal};
 ghost use Rattle.obj_id.specs.declared.refusals.Refusal.TheVariants.{NoMemory};
 ghost use Rattle.obj_id.specs.Kinds.{is_primary as is_primary_lem};
@@ -15,8 +15,8 @@ mod holds;
 use borrowers::Borrowers;
 use holds::Holds;
 use obj_id::limits::{MOST_BORROWERS, MOST_HOLDS};
-use obj_id::{Kind, Refusal, TaskNo};
-use std::alloc::Global;
+use obj_id::{Items, Kind, Refusal, TaskNo};
+use std::alloc::{AllocError, Global};
 use std::marker::Model;
 
 /// Pin, borrowers and holds of one copy.
@@ -94,6 +94,20 @@ impl Pins {
     {
         let _all = self.holds.all();
         !self.holds.is_empty()
+    }
+
+    /// The tasks that borrow it, in the order in which they came. Takes a walk over them, and memory for each.
+    pub fn borrowers(&self, alloc: Global) -> Result<Items<TaskNo>, AllocError>
+        ensures { IfOk result (λ tasks. tasks ≡ self.now.borrowers) }
+    {
+        self.borrowers.tasks(alloc)
+    }
+
+    /// How many holds each session has, by rising session. Takes a walk over them, and memory for each.
+    pub fn holds(&self, alloc: Global) -> Result<Items<(u32, u32)>, AllocError>
+        ensures { IfOk result (λ held. held ≡ self.now.holds) }
+    {
+        self.holds.by_session(alloc)
     }
 
     /// How many holds the session has.

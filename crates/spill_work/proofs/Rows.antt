@@ -190,6 +190,14 @@ module _ (job : JobNo) (number : ℕ) where
     part_is : filter (is_of job) (works_in rows) ≡ works (row_of rows job)
     part_is = filter_map (λ (t : Timed). t.work) (is_of job) (in_turn rows) ∙ ap works (sym (h.in_order job))
 
+    -- what they ask
+    pub asked_is : map (λ (t : Timed). t.work.asked) (row_of rows job) ≡ map (λ (w : Queued). w.asked) (filter (is_of job) (works_in rows))
+    asked_is = each (row_of rows job) ∙ sym (ap (map (λ (w : Queued). w.asked)) part_is)
+      where
+        each : (ts : List Timed) → map (λ (t : Timed). t.work.asked) ts ≡ map (λ (w : Queued). w.asked) (works ts)
+        each [] = refl
+        each (t ∷ ts) = ap (λ r. t.work.asked ∷ r) (each ts)
+
     pub count_is : length (row_of rows job) ≡ length (filter (is_of job) (works_in rows))
     count_is = sym (length_map (λ (t : Timed). t.work) (row_of rows job)) ∙ sym (ap length part_is)
 

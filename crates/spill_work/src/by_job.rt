@@ -1,12 +1,12 @@
 //! The works of all jobs, found by their job.
-ghost use Rattle.std.specs.Prelude.{◌≡◌, ◌+◌, ◌<◌, ◌^◌, ◌++◌, [], None, not, find, filter, map, length, OnOk, OnErr};
+ghost use Rattle.std.specs.Prelude.{◌≡◌, ◌+◌, ◌<◌, ◌^◌, ◌++◌, [], None, not, find, filter, map, length, IfOk, OnOk, OnErr};
 ghost use Rattle.spill_work.specs.Line.{is_of, is_at, front_of, numbered};
 ghost use Rattle.spill_work.specs.Turns.{marked_at, with_row, all_of, front_from};
 
 use crate::queue::{Asked, Queued};
 use crate::row::{Row, Timed};
 use indexmap::IndexMap;
-use obj_id::{JobNo, ObjectId, WorkKind};
+use obj_id::{Items, JobNo, ObjectId, WorkKind};
 use std::alloc::{AllocError, Global};
 use std::marker::Model;
 
@@ -51,6 +51,16 @@ impl ByJob {
         match self.rows.get(&job) {
             Some(row) => row.len(),
             None => 0,
+        }
+    }
+
+    /// What the job's works ask, in their order. Takes a walk over them, and memory for each.
+    pub(crate) fn asked_of(&self, job: JobNo) -> Result<Items<Asked>, AllocError>
+        ensures { IfOk result (λ asked. asked ≡ map (λ work. work.asked) (filter (is_of job) self.now)) }
+    {
+        match self.rows.get(&job) {
+            Some(row) => Ok(row.asked(self.alloc)?),
+            None => Ok(Items::new(self.alloc)),
         }
     }
 

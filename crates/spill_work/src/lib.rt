@@ -3,12 +3,12 @@
 //! each job; what one job sees of it is told beside, and what the others see stays.
 #![tactic(auto)]
 
-ghost use Rattle.std.specs.Prelude.{◌≡◌, ◌≢◌, ◌+◌, ◌≤◌, ◌==◌, if◌then◌else◌, [], Some, None, IsSome, IfOk, OnOk, OnErr, IsOk, IsErrOf, true, length};
+ghost use Rattle.std.specs.Prelude.{◌≡◌, ◌≢◌, ◌+◌, ◌≤◌, ◌==◌, if◌then◌else◌, [], map, Some, None, IsSome, IfOk, OnOk, OnErr, IsOk, IsErrOf, true, length};
 ghost use Rattle.std.specs.Map.{lookup, set_value, remove_entry};
 ghost use Rattle.indexmap.specs.IndexMap.{insert_entry, Updates};
 ghost use Rattle.obj_id.specs.declared.refusals.Refusal.{Refusal};
 ghost use Rattle.obj_id.specs.declared.refusals.Refusal.TheVariants.{NoMemory};
-ghost use Rattle.spill_work.specs.Line.{WorkLine, same_job, used_by, in_flight as in_flight_lem, room_for as room_for_lem, ask_check as ask_check_lem, Asks, TakesBack, AsksAll, front_of, Takes, MarksTaken, finish_check as finish_check_lem, Finishes, Drops};
+ghost use Rattle.spill_work.specs.Line.{WorkLine, same_job, shown, works_of, used_by, in_flight as in_flight_lem, room_for as room_for_lem, ask_check as ask_check_lem, Asks, TakesBack, AsksAll, front_of, Takes, MarksTaken, finish_check as finish_check_lem, Finishes, Drops};
 ghost use Rattle.spill_work.specs.Numbers.{entry_of};
 
 mod by_job;
@@ -18,7 +18,7 @@ mod row;
 use by_job::ByJob;
 use indexmap::IndexMap;
 use obj_id::limits::MOST_WORKS;
-use obj_id::{JobNo, ObjectId, Refusal, WorkKind};
+use obj_id::{Items, JobNo, ObjectId, Refusal, WorkKind};
 pub use queue::{Asked, Queued};
 use std::alloc::{AllocError, Global};
 use std::marker::Model;
@@ -58,6 +58,13 @@ impl Works {
         ensures { result ≡ in_flight_lem self.now job }
     {
         self.line.count_of(job)
+    }
+
+    /// The job's works in flight, in the order asked. Takes a walk over them, and memory for each.
+    pub fn asked_of(&self, job: JobNo) -> Result<Items<Asked>, AllocError>
+        ensures { IfOk result (λ asked. map shown asked ≡ works_of self.now job) }
+    {
+        Ok(self.line.asked_of(job)?)
     }
 
     /// The last number that a work of the job had, or 0 if none was asked for.

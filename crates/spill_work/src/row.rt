@@ -1,10 +1,10 @@
 //! The works of one job.
-ghost use Rattle.std.specs.Prelude.{◌≡◌, ◌+◌, ◌<◌, ◌==◌, ◌^◌, ◌++◌, ◌≤◌, [], Some, not, find, filter, map, length, vec_len, vec_capacity, OnOk, OnErr};
+ghost use Rattle.std.specs.Prelude.{◌≡◌, ◌+◌, ◌<◌, ◌==◌, ◌^◌, ◌++◌, ◌≤◌, [], Some, not, find, filter, map, length, vec_len, vec_capacity, IfOk, OnOk, OnErr};
 ghost use Rattle.std.specs.Option.{option_map};
 ghost use Rattle.spill_work.specs.Turns.{has_number, with_mark, timed, earlier as earlier_lem, front_from};
 
 use crate::queue::{Asked, Queued};
-use obj_id::{JobNo, ObjectId, WorkKind};
+use obj_id::{Items, JobNo, ObjectId, WorkKind};
 use std::alloc::{AllocError, Global};
 use std::marker::Model;
 
@@ -45,6 +45,17 @@ impl Row {
         ensures { result ≡ length self.now }
     {
         self.works.len()
+    }
+
+    /// What each asks, in their order. Takes a walk over them, and memory for each.
+    pub(crate) fn asked(&self, alloc: Global) -> Result<Items<Asked>, AllocError>
+        ensures { IfOk result (λ asked. asked ≡ map (λ t. t.work.asked) self.now) }
+    {
+        let mut asked = Vec::new(alloc);
+        for timed in &self.works {
+            asked.push(timed.work.asked)?;
+        }
+        Ok(Items::from_vec(asked))
     }
 
     /// The work under the number.

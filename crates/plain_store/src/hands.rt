@@ -1,0 +1,68 @@
+//! The hands that a job gave and was given.
+ghost use Rattle.std.specs.Prelude.{◌≡◌, ◌++◌, ◌∷◌, [], OnOk};
+
+use obj_id::{Items, JobNo, ObjectId};
+use std::alloc::AllocError;
+use std::marker::Model;
+
+/// A hand that the job gave. A contract sees the private store's.
+#[derive(Debug, Drop)]
+pub struct GivenHand {
+    pub id: ObjectId,
+    pub target: JobNo,
+    /// Of another job's object the giver of the hand that it hangs on.
+    pub hangs_on: Option<JobNo>,
+}
+
+impl Model for GivenHand {
+    ghost use Rattle.std.specs.Prelude.{option_map};
+    ghost use Rattle.private_store.specs.Shape.{HandGiven};
+
+    ghost Value = { HandGiven };
+
+    ghost view = { λ h. record { id = h.id; target = h.target.0; hangs_on = option_map (λ giver. giver.0) h.hangs_on } };
+}
+
+/// A hand that was given to the job. A contract sees the private store's.
+#[derive(Debug, Drop)]
+pub struct TakenHand {
+    pub giver: JobNo,
+    /// From 1 on: how often the object was handed on up to here.
+    pub depth: u32,
+}
+
+impl Model for TakenHand {
+    ghost use Rattle.private_store.specs.Shape.{HandTaken};
+
+    ghost Value = { HandTaken };
+
+    ghost view = { λ h. record { giver = h.giver.0; depth = h.depth } };
+}
+
+/// An object of another job that the job may peek at. A contract sees the private store's.
+#[derive(Debug, Drop)]
+pub struct SeenObject {
+    /// In bytes.
+    pub length: u32,
+    /// The standing hands, oldest first.
+    pub hands: Items<TakenHand>,
+}
+
+impl Model for SeenObject {
+    ghost use Rattle.private_store.specs.Shape.{Seen};
+
+    ghost Value = { Seen };
+
+    ghost view = { λ s. record { length = s.length; hands = s.hands } };
+}
+
+impl SeenObject {
+    /// Another hand of the object, the youngest, and the object's length in bytes.
+    pub fn add(&mut self, hand: TakenHand, length: u32) -> Result<(), AllocError>
+        ensures { OnOk result (self.new ≡ record { length = length; hands = self.old.hands ++ hand ∷ [] }) }
+    {
+        self.hands.push(hand)?;
+        self.length = length;
+        Ok(())
+    }
+}

@@ -1,0 +1,87 @@
+//! A job's store without contents.
+ghost use Rattle.std.specs.Prelude.{◌≡◌};
+ghost use Rattle.private_store.specs.Replay.{unbegun_brief};
+ghost use Rattle.plain_store.specs.Parts.{has_begun as has_begun_lem};
+
+use crate::copies::{PlainCopy, PlainWork};
+use crate::hands::{GivenHand, SeenObject};
+use obj_id::{Items, JobNo, ObjectId, Quota, TaskNo};
+use std::alloc::Global;
+use std::marker::Model;
+
+/// How far a job is at a node.
+#[derive(Clone, Copy, Debug, PartialEq, Eq, Drop)]
+pub enum Life {
+    /// It was never admitted.
+    NotBegun,
+    Live,
+    Ended,
+}
+
+/// A job's store at a node without contents, with the order of use. A contract sees it as the private store's.
+#[derive(Debug, Drop)]
+pub struct PlainStore {
+    pub job: JobNo,
+    pub life: Life,
+    pub quota: Quota,
+    /// By rising id.
+    pub copies: Items<(ObjectId, PlainCopy)>,
+    /// The copies that bytes were asked of, least recently used first.
+    pub order: Items<ObjectId>,
+    /// In the order asked.
+    pub works: Items<PlainWork>,
+    /// The last number that a work had.
+    pub works_asked: u64,
+    /// The last number that a fetch had.
+    pub fetches_begun: u64,
+    /// Whether a spill failed since room was last refused for it.
+    pub spill_failed: bool,
+    /// In the order in which they ended.
+    pub ended_tasks: Items<TaskNo>,
+    /// In the order given.
+    pub given: Items<GivenHand>,
+    /// What others granted, by rising id.
+    pub received: Items<(ObjectId, SeenObject)>,
+}
+
+impl Model for PlainStore {
+    ghost use Rattle.private_store.specs.Replay.{Brief};
+
+    ghost Value = { Brief };
+
+    ghost use Rattle.plain_store.specs.Parts.{life_of};
+
+    ghost view = { λ s. record { shape = record { job = s.job.0; life = life_of s.life; quota = s.quota; copies = s.copies; works = s.works; works_asked = s.works_asked; fetches_begun = s.fetches_begun; spill_failed = s.spill_failed; ended_tasks = s.ended_tasks; given = s.given; received = s.received }; order = s.order } };
+}
+
+impl PlainStore {
+    /// The store of a job that was never admitted, with nothing granted to it. Takes no memory.
+    pub fn new(alloc: Global, job: JobNo) -> PlainStore
+        ensures { result ≡ unbegun_brief job.0 }
+    {
+        PlainStore {
+            job,
+            life: Life::NotBegun,
+            quota: Quota {
+                window: 0,
+                device: 0,
+            },
+            copies: Items::new(alloc),
+            order: Items::new(alloc),
+            works: Items::new(alloc),
+            works_asked: 0,
+            fetches_begun: 0,
+            spill_failed: false,
+            ended_tasks: Items::new(alloc),
+            given: Items::new(alloc),
+            received: Items::new(alloc),
+        }
+    }
+
+    /// Whether the job was ever admitted.
+    pub fn has_begun(&self) -> bool
+        ensures { result ≡ has_begun_lem self.now.shape.life }
+    {
+        !matches!(self.life, Life::NotBegun)
+    }
+}
