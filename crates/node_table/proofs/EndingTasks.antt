@@ -524,6 +524,18 @@ module _ (node : ℕ) (row : Row) (beside : Beside) (contents : Contents) (sessi
   end_task-is : (check : Option Refusal) → end_task_check row task ≡ check → change node row beside contents h x ≡ erasing s (unless_refused s check walks)
   end_task-is check e = called row beside session (command.EndTask task) ∙ ap (erasing s) (end_task-by ∙ ap (λ o. unless_refused s o walks) e)
 
+  -- both walks leave the answer
+  answered_ok : (is : List ObjectId) → (at_each (give_up_one task) is (at_each doom (of_task task is) (done (task_ended s task)))).reply ≡ reply.Ok
+  answered_ok is =
+      let doomed_shape = shape_each doom (λ id. same_task task id.task) (task_ended s task) is in
+      let said = sent_each doom (λ id. same_task task id.task) (task_ended s task) is in
+      ap (λ c. (at_each (give_up_one task) is c).reply) (at_each-is doom (λ id. same_task task id.task) doom-plain is (task_ended s task) [])
+      ∙ ap (λ qs. (at_each (give_up_one task) qs (record (done doomed_shape) { sent = said })).reply) (sym (filter-all is))
+      ∙ ap (λ (c : Change). c.reply) (at_each-is (give_up_one task) (λ id. true) (give_up-plain task) is doomed_shape said)
+
+  pub end_task_ok : end_task_check row task ≡ None → (change node row beside contents h x).reply ≡ reply.Ok
+  end_task_ok passed = ap (λ (c : Change). c.reply) (end_task-is None passed) ∙ answered_ok (ids_of s.copies)
+
   refused_so : (r : Refusal) → end_task_check row task ≡ Some r → TakesStep node row beside contents x (only (reply.Refused r)) row beside
   refused_so r e = stays node row beside contents h x (reply.Refused r) (end_task-is (Some r) e) refl refl refl
 

@@ -33,11 +33,12 @@ use Rattle.private_store.proofs.Checks.{checked-true, checked-false, checked-nil
 use Rattle.private_store.proofs.Tests.{none_some, not_true, both_right}
 use Rattle.node_table.specs.Kept.{Kept}
 use Rattle.node_table.specs.Row.{Row, Beside, shape_of}
-use Rattle.node_table.specs.Checks.{create_check, seal_check, unpin_check, row_borrow_check, give_up_check, delete_check, read_check, fetch_check, hold_check_of, get_check_of, copy_check, get_check, phase_check, get_check_by}
+use Rattle.node_table.specs.Checks.{create_check, seal_check, unpin_check, row_borrow_check, give_up_check, delete_check, end_task_check, read_check, fetch_check, hold_check_of, get_check_of, copy_check, get_check, phase_check, get_check_by}
 use Rattle.node_table.specs.Late.{is_planned, may_grow}
 use Rattle.node_table.specs.Shown.{seen, IsShown}
 use Rattle.node_table.proofs.Stepping.{change}
 use Rattle.node_table.proofs.Scoping.{unpin_ok, borrow_ok, give_up_ok, delete_ok}
+use Rattle.node_table.proofs.EndingTasks.{end_task_ok}
 use Rattle.obj_id.specs.declared.ids.TaskNo.{TaskNo}
 use Rattle.node_table.proofs.ByChecks.{unless_refused, called, own, read-by, seal-by, seal_done, sending-is}
 use Rattle.node_table.proofs.CopyTables.{at-copies_found}
@@ -146,6 +147,9 @@ module _ (node : ℕ) (row : Row) (beside : Beside) (contents : Contents) (sessi
 
   pub delete_late : (id : ObjectId) → (id.job.0 == row.job) ≡ true → delete_check row.copies id ≡ None → is_late (command.Delete id)
   delete_late id mine passed = ok_late (command.Delete id) (delete_ok node row beside contents session id mine h passed)
+
+  pub end_task_late : (task : TaskNo) → end_task_check row task ≡ None → is_late (command.EndTask task)
+  end_task_late task passed = ok_late (command.EndTask task) (end_task_ok node row beside contents session task h passed)
 
   pub seal_late : (id : ObjectId) → (id.job.0 == row.job) ≡ true → seal_check row.copies id ≡ None → is_late (command.Seal id)
   seal_late id mine passed =

@@ -21,6 +21,7 @@ pub mod LeavingEach
 pub mod Telling
 pub mod Totals
 pub mod Described
+pub mod Gathered
 pub mod Planning
 pub mod Removing
 pub mod Evicting

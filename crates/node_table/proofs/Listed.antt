@@ -68,7 +68,7 @@ apart_from_below k (e ∷ es) h = (sym (same_id-id_eq k e.0) ∙ not_tied (id_cm
     not_tied Equal h = absurd h
     not_tied Greater h = refl
 
-distinct_from_sorted : (table : ById Kept) → T (is_sorted id_cmp table) → IsDistinct id_eq (keys_of table)
+pub distinct_from_sorted : (table : ById Kept) → T (is_sorted id_cmp table) → IsDistinct id_eq (keys_of table)
 unfolding IsDistinct
 distinct_from_sorted [] h = tt
 distinct_from_sorted (e ∷ es) h = (apart_from_below e.0 es (and_left _ _ h), distinct_from_sorted es (and_right _ _ h))

@@ -171,6 +171,7 @@ early_check row session (command.Unpin id task) = unpin_check row.copies id task
 early_check row session (command.Borrow id task) = row_borrow_check row id task
 early_check row session (command.GiveUp id task) = give_up_check row.copies id task
 early_check row session (command.Delete id) = delete_check row.copies id
+early_check row session (command.EndTask task) = end_task_check row task
 early_check row session _ = None
 
 -- the state of a copy that is asked for, if there is one

@@ -249,7 +249,7 @@ impl JobRow {
     }
 
     /// Why the task can't end: `Gone` if it has ended already, `TooMany` at 1,024 ended tasks, or nothing.
-    pub(crate) fn end_task_check(&self, task: TaskNo) -> Option<Refusal>
+    pub fn end_task_check(&self, task: TaskNo) -> Option<Refusal>
         ensures { result ≡ end_task_check_lem self.now task }
     {
         if self.has_ended(task) {

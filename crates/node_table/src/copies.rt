@@ -16,11 +16,13 @@ ghost use Rattle.node_table.specs.Holding.{IsHeldAt, IsUnreadyAt, IsHoldRefusedA
 ghost use Rattle.std.specs.Prelude.{◌≡◌, ◌≢◌, ◌<◌, ◌^◌, [], true, false, Some, None, OnOk, OnErr, IsOk, IsErrOf, IfOk, IfErr, IfSome, IfNone, map, length, is_some, ◌&&◌};
 ghost use Rattle.node_table.specs.Usages.{item_of, total, is_spilling, window_bytes as window_bytes_lem, device_bytes as device_bytes_lem, doomed_one};
 ghost use Rattle.private_store.specs.Kept.{is_fetching};
+ghost use Rattle.node_table.specs.Row.{copies_of};
 ghost use Rattle.node_table.specs.Arriving.{located, asks, fills, lacks_only, gap_closed, brought, unfetched};
 
 use crate::copy::{Awaited, RowCopy};
 use indexmap::IndexMap;
 use obj_id::{Digest, DirectoryMessage, Items, Location, ObjectId, OwnItem, Refusal, TaskNo};
+use plain_store::PlainCopy;
 use private_store::{Fault, FetchFault};
 use std::alloc::{AllocError, Global};
 use std::marker::Model;
@@ -77,6 +79,22 @@ impl Copies {
         }
         items.sort_unstable_by_key(|item| item.id);
         Ok(Items::from_vec(items))
+    }
+
+    /// The copies without their bytes, by rising id. Takes a walk over them, a sort, and memory for each.
+    pub fn plain(&self, alloc: Global) -> Result<Items<(ObjectId, PlainCopy)>, AllocError>
+        ensures { IfOk result (λ plain. plain ≡ copies_of self.now) }
+    {
+        // that the copies rise is what the proof needs
+        let _count = self.by_id.len();
+        let items = self.items(alloc)?;
+        let mut plain = Vec::new(alloc);
+        for item in items.as_slice() {
+            if let Some(copy) = self.get(&item.id) {
+                plain.push((item.id, copy.plain(alloc)?))?;
+            }
+        }
+        Ok(Items::from_vec(plain))
     }
 
     /// The bytes that they take in the window, or `u64::MAX` where they are more. Takes a walk over them.

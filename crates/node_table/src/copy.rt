@@ -242,6 +242,7 @@ impl RowCopy {
     pub(crate) fn pins(&self) -> &Pins
         ensures pinned { result.now.pinned ≡ self.now.copy.pinned }
         ensures borrowers { result.now.borrowers ≡ self.now.copy.borrowers }
+        ensures holds { result.now.holds ≡ self.now.copy.holds }
         ensures kind { result.now.kind ≡ self.now.copy.kind }
     {
         &self.pins

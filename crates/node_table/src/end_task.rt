@@ -1,6 +1,8 @@
 //! EndTask: a task of the job ends.
 ghost use Rattle.std.specs.Prelude.{◌≡◌, ◌==◌, ℕ, [], true, None, map, fold, length, IfOk, OnOk, OnErr, ◌++◌, ◌+◌, ◌*◌, ◌≤◌, ◌<◌, vec_len, vec_capacity, option_to_list, option_map};
+ghost use Rattle.std.specs.Option.{option_map_or};
 ghost use Rattle.obj_id.specs.declared.commands.Command.TheVariants as command;
+ghost use Rattle.obj_id.specs.declared.commands.Reply.TheVariants as reply;
 ghost use Rattle.private_store.specs.declared.inputs.Input.TheVariants as input;
 ghost use Rattle.private_store.specs.Contents.{Contents};
 ghost use Rattle.node_table.specs.Checks.{end_task_check as end_task_check_lem};
@@ -32,6 +34,7 @@ impl JobRow {
     ) -> Result<Outcome, AllocError>
         ensures ok { IfOk result (λ o. (beside : Beside) (contents : Contents) → IsShown self.old beside contents
             → TakesStep node self.old beside contents (input.Call session (command.EndTask task)) (given_of o) self.new (beside_after self.old task beside)) }
+        ensures reply { IfOk result (λ o. o.reply ≡ option_map_or reply.Refused (end_task_check_lem self.old task) reply.Ok) }
         ensures few { IfOk result (λ o. length o.messages ≤ 2 * length self.old.copies) }
         ensures late { OnErr result (end_task_check_lem self.old task ≡ None) }
         ensures err { OnErr result (self.new ≡ self.old) }

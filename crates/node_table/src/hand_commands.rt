@@ -85,6 +85,7 @@ impl JobRow {
             → IsShown self.old (beside_of line hands bytes self.old.job) contents
             → TakesStep node self.old (beside_of line hands bytes self.old.job) contents (input.Call session (command.Withdraw id.now target)) (given_of result) self.new
             (beside_rest line (is_withdrawn self.old.job id.now target.0) hands bytes self.old.job) }
+        ensures reply { result.reply ≡ reply.Ok }
         ensures silent { result.messages ≡ [] }
     {
         self.mark_granted(id, granted);

@@ -21,6 +21,7 @@ mod hold_commands;
 pub mod laws;
 mod listing;
 mod outcome;
+mod plain;
 mod requota;
 mod restore;
 mod room;

@@ -32,7 +32,9 @@ use crate::copy::{Awaited, RowCopy};
 use indexmap::IndexSet;
 use job_region::Window;
 use lru_evictor::{UseOrder, extents_by_offset};
-use obj_id::{DeviceKey, Digest, Extent, JobNo, Kind, Location, ObjectId, Quota, Refusal, TaskNo};
+use obj_id::{
+    DeviceKey, Digest, Extent, Items, JobNo, Kind, Location, ObjectId, Quota, Refusal, TaskNo,
+};
 use private_store::{Fault, FetchFault};
 use std::alloc::{AllocError, Global};
 use std::marker::Model;
@@ -249,6 +251,17 @@ impl JobRow {
         ensures { result ≡ is_remembered self.now.ended_tasks task }
     {
         self.ended_tasks.contains(&task)
+    }
+
+    /// The tasks that have ended here, in the order in which they ended. Takes a walk over them, and memory for each.
+    pub(crate) fn ended_tasks(&self, alloc: Global) -> Result<Items<TaskNo>, AllocError>
+        ensures { IfOk result (λ tasks. tasks ≡ self.now.ended_tasks) }
+    {
+        let mut tasks = Vec::new(alloc);
+        for task in &self.ended_tasks {
+            tasks.push(*task)?;
+        }
+        Ok(Items::from_vec(tasks))
     }
 
     /// How many tasks have ended here.
