@@ -286,5 +286,4 @@ module _ (number : ℕ) (a b : Admissions) (line : WorkLine) (hands : List Hand)
       lives = lives;
       line = λ v shows. refl;
       hands = refl;
-      lasting = refl;
     }

@@ -1,10 +1,11 @@
--- A built event is an input of its own job alone: so what is told of one job at a time is the step of all of them.
+-- What an event is to its own job, told of one job at a time, is the step of all of them, if it moves no hand.
 use Rattle.std.proofs.Common.{◌≡◌, ℕ, Bool, true, false, not, cond, ◌==◌, ◌≤◌, ◌&&◌, List, [], ◌∷◌, ◌++◌, map, filter, Option, Some, None, option_to_list, refl, sym, ap, subst, ◌∙◌, arith}
 use Rattle.std.specs.Prelude.{option_map, nat_lt, nat_le, count_by}
 use Rattle.std.specs.List.{list_all}
 use Rattle.std.proofs.lemmas.Bool.Decides.{nat_tests}
 use Rattle.std.proofs.lemmas.List.{append-nil}
 use Rattle.obj_id.specs.declared.ids.JobNo.{JobNo}
+use Rattle.obj_id.specs.declared.refusals.Refusal.{Refusal}
 use Rattle.obj_id.specs.declared.works.DeviceAnswer.{DeviceAnswer}
 use Rattle.obj_id.specs.declared.commands.Command.TheVariants as command
 use Rattle.obj_id.specs.declared.commands.Reply.{Reply}
@@ -14,9 +15,9 @@ use Rattle.private_store.specs.declared.inputs.Input.TheVariants as input
 use Rattle.private_store.specs.declared.schedules.Event.{Event}
 use Rattle.private_store.specs.declared.schedules.Event.TheVariants as event
 use Rattle.private_store.specs.declared.schedules.NodeEvent.TheVariants.{Own}
-use Rattle.private_store.specs.Hands.{Hand, hands_ended, hands_left, is_given_by}
+use Rattle.private_store.specs.Hands.{Hand}
 use Rattle.private_store.specs.Trace.{hands_by}
-use Rattle.private_store.specs.NodeInputs.{JobInput, Before, wants_memory, own_here, own_due, notes_of, notes_here, hands_after, only_of, inputs_to, withdrawn_here}
+use Rattle.private_store.specs.NodeInputs.{JobInput, Before, wants_memory, own_here, own_due, notes_of, notes_here, hands_after, only_of, inputs_to}
 use Rattle.private_store.specs.Contents.{View, judge}
 use Rattle.private_store.specs.Private.{view_step, view_from}
 use Rattle.spill_work.specs.declared.queue.Queued.{Queued}
@@ -25,17 +26,17 @@ use Rattle.node_table.specs.Asked.{HasAsked}
 use Rattle.node_table.specs.Row.{Row}
 use Rattle.node_table.specs.Shown.{Given as RowGiven}
 use Rattle.node_core.specs.Hosted.{Hosted, IsViewBy, Shows, ShowsAll, row_at, beside_at}
-use Rattle.node_core.specs.Built.{is_built}
-use Rattle.node_core.specs.OneJob.{input_of, view_by, view_after, IsGiven as IsRowGiven, IsOperatorAnswer as IsOneAnswer, IsAnswerByViews, IsLineAfter, IsLasting, StepsOne}
+use Rattle.node_core.specs.Calls.{is_frugal}
+use Rattle.node_core.specs.OneJob.{input_of, view_by, view_after, IsGiven as IsRowGiven, IsOperatorAnswer as IsOneAnswer, IsAnswerByViews, IsLineAfter, StepsOne}
 use Rattle.node_core.specs.Outcomes.{with_no_notes}
-use Rattle.node_core.specs.Judged.{is_finish, judged_as, IsCallJudged}
+use Rattle.node_core.specs.Judged.{is_finish, moves_hands, judged_as, IsCallJudged}
 use Rattle.node_core.specs.Steps.{before_of, job_of_event, IsGiven, answered, judged_notes, stale_unless, queued, taken_if, line_left, asked_now, line_after, IsEventAnswer, StepsFrom, Steps}
 use Rattle.private_store.proofs.Tests.{both, both_left, both_right}
 use Rattle.node_core.proofs.Never.{told_never}
 use Rattle.node_core.proofs.Lines.{above, above-used, asked_now_is}
 use Rattle.node_core.proofs.Taking.{marked-is}
 
--- ---- what a built event is
+-- ---- what an event is
 
 -- to its own job
 abbrev pub own_of : Event → Reply (List ℕ) → Option JobInput
@@ -50,95 +51,90 @@ finish_own : (job : JobNo) (number : ℕ) (a : DeviceAnswer) (out : Bool) → co
 finish_own job number a true = refl
 finish_own job number a false = refl
 
-pub own_due-built : (before : Before) (e : Event) (told : Reply (List ℕ)) → is_built e ≡ true → IsFinishAnswer before e told → own_due before (Own e) told ≡ own_of e told
-own_due-built before (event.Admit job quota key) reply.Ok built is = refl
-own_due-built before (event.Admit job quota key) _ built is = refl
-own_due-built before (event.JobEnd job) reply.Ok built is = refl
-own_due-built before (event.JobEnd job) _ built is = refl
-own_due-built before (event.Call job session c) told built is = refl
-own_due-built before (event.Requota job quota) reply.Ok built is = refl
-own_due-built before (event.Requota job quota) _ built is = refl
-own_due-built before event.Take told built is = refl
-own_due-built before (event.Finish job number a) told built is = finish_own job number a (before.out job.0 number) ∙ sym (ap (own_of (event.Finish job number a)) is)
+pub own_due_is : (before : Before) (e : Event) (told : Reply (List ℕ)) → IsFinishAnswer before e told → own_due before (Own e) told ≡ own_of e told
+own_due_is before (event.Admit job quota key) reply.Ok is = refl
+own_due_is before (event.Admit job quota key) _ is = refl
+own_due_is before (event.JobEnd job) reply.Ok is = refl
+own_due_is before (event.JobEnd job) _ is = refl
+own_due_is before (event.Call job session c) told is = refl
+own_due_is before (event.Requota job quota) reply.Ok is = refl
+own_due_is before (event.Requota job quota) _ is = refl
+own_due_is before event.Take told is = refl
+own_due_is before (event.Finish job number a) told is = finish_own job number a (before.out job.0 number) ∙ sym (ap (own_of (event.Finish job number a)) is)
 
-pub own_here-built : (before : Before) (e : Event) (told : Reply (List ℕ)) → is_built e ≡ true → IsFinishAnswer before e told → wants_memory told ≡ false → own_here before (Own e) told ≡ own_of e told
-own_here-built before (event.Admit job quota key) reply.Ok built is never = refl
-own_here-built before (event.Admit job quota key) _ built is never = refl
-own_here-built before (event.JobEnd job) reply.Ok built is never = refl
-own_here-built before (event.JobEnd job) _ built is never = refl
-own_here-built before (event.Call job session c) told built is never =
+pub own_here_is : (before : Before) (e : Event) (told : Reply (List ℕ)) → IsFinishAnswer before e told → wants_memory told ≡ false → own_here before (Own e) told ≡ own_of e told
+own_here_is before (event.Admit job quota key) reply.Ok is never = refl
+own_here_is before (event.Admit job quota key) _ is never = refl
+own_here_is before (event.JobEnd job) reply.Ok is never = refl
+own_here_is before (event.JobEnd job) _ is never = refl
+own_here_is before (event.Call job session c) told is never =
     ap (λ t. cond t None (Some (record { job = job.0; input = input.Call session c }))) never
-own_here-built before (event.Requota job quota) reply.Ok built is never = refl
-own_here-built before (event.Requota job quota) _ built is never = refl
-own_here-built before event.Take told built is never = refl
-own_here-built before (event.Finish job number a) told built is never =
+own_here_is before (event.Requota job quota) reply.Ok is never = refl
+own_here_is before (event.Requota job quota) _ is never = refl
+own_here_is before event.Take told is never = refl
+own_here_is before (event.Finish job number a) told is never =
     ap (λ t. cond t None (cond (before.out job.0 number) (Some (record { job = job.0; input = input.Answer number a })) None)) never
-    ∙ own_due-built before (event.Finish job number a) told built is
+    ∙ own_due_is before (event.Finish job number a) told is
 
-no_note : (before : Before) (e : Event) → is_built e ≡ true → IsLasting e before.hands → notes_of before e ≡ []
-no_note before (event.Admit job quota key) built lasting = refl
-no_note before (event.JobEnd job) built lasting = ap (λ hands. map withdrawn_here (hands_ended (is_given_by job.0) hands)) lasting
-no_note before (event.Call job session (command.Create id kind n)) built lasting = refl
-no_note before (event.Call job session (command.Write id offset bytes)) built lasting = refl
-no_note before (event.Call job session (command.Seal id)) built lasting = refl
-no_note before (event.Call job session (command.Get id)) built lasting = refl
-no_note before (event.Call job session (command.Read id offset n)) built lasting = refl
-no_note before (event.Call job session (command.Release id)) built lasting = refl
-no_note before (event.Call job session command.List) built lasting = refl
-no_note before (event.Call job session command.Usage) built lasting = refl
-no_note before (event.Call job session command.Leave) built lasting = refl
-no_note before (event.Call job session (command.Unpin id task)) built lasting = refl
-no_note before (event.Call job session (command.Borrow id task)) built lasting = refl
-no_note before (event.Call job session (command.GiveUp id task)) built lasting = refl
-no_note before (event.Call job session (command.Delete id)) built lasting = refl
-no_note before (event.Call job session (command.EndTask task)) built lasting = absurd cc
-no_note before (event.Call job session (command.Grant id target)) built lasting = absurd cc
-no_note before (event.Call job session (command.Withdraw id target)) built lasting = absurd cc
-no_note before (event.Call job session (command.Peek id offset n)) built lasting = refl
-no_note before (event.Requota job quota) built lasting = refl
-no_note before event.Take built lasting = refl
-no_note before (event.Finish job number a) built lasting = refl
+-- the event with this answer tells no taker of a hand, and the hands stand as they stood
+pub record IsStill (e : Event) (told : Reply (List ℕ)) : Type 0 where
+  pub notes : (before : Before) → notes_here before (Own e) told ≡ []
+  pub hands : (hands : List Hand) → hands_after hands (Own e) told ≡ hands
 
-pub notes_here-built : (before : Before) (e : Event) (told : Reply (List ℕ)) → is_built e ≡ true → IsLasting e before.hands → notes_here before (Own e) told ≡ []
-notes_here-built before e reply.Ok built lasting = no_note before e built lasting
-notes_here-built before e _ built lasting = refl
+no_note : (before : Before) (e : Event) → moves_hands e ≡ false → notes_of before e ≡ []
+no_note before (event.Admit job quota key) lasting = refl
+no_note before (event.JobEnd job) lasting = absurd cc
+no_note before (event.Call job session (command.Create id kind n)) lasting = refl
+no_note before (event.Call job session (command.Write id offset bytes)) lasting = refl
+no_note before (event.Call job session (command.Seal id)) lasting = refl
+no_note before (event.Call job session (command.Get id)) lasting = refl
+no_note before (event.Call job session (command.Read id offset n)) lasting = refl
+no_note before (event.Call job session (command.Release id)) lasting = refl
+no_note before (event.Call job session command.List) lasting = refl
+no_note before (event.Call job session command.Usage) lasting = refl
+no_note before (event.Call job session command.Leave) lasting = refl
+no_note before (event.Call job session (command.Unpin id task)) lasting = refl
+no_note before (event.Call job session (command.Borrow id task)) lasting = refl
+no_note before (event.Call job session (command.GiveUp id task)) lasting = refl
+no_note before (event.Call job session (command.Delete id)) lasting = refl
+no_note before (event.Call job session (command.EndTask task)) lasting = absurd cc
+no_note before (event.Call job session (command.Grant id target)) lasting = absurd cc
+no_note before (event.Call job session (command.Withdraw id target)) lasting = absurd cc
+no_note before (event.Call job session (command.Peek id offset n)) lasting = refl
+no_note before (event.Requota job quota) lasting = refl
+no_note before event.Take lasting = refl
+no_note before (event.Finish job number a) lasting = refl
 
-hands_stay : (hands : List Hand) (e : Event) → is_built e ≡ true → IsLasting e hands → hands_by hands e ≡ hands
-hands_stay hands (event.Admit job quota key) built lasting = refl
-hands_stay hands (event.JobEnd job) built lasting = ap (hands_left (is_given_by job.0)) lasting ∙ sym lasting
-hands_stay hands (event.Call job session (command.Create id kind n)) built lasting = refl
-hands_stay hands (event.Call job session (command.Write id offset bytes)) built lasting = refl
-hands_stay hands (event.Call job session (command.Seal id)) built lasting = refl
-hands_stay hands (event.Call job session (command.Get id)) built lasting = refl
-hands_stay hands (event.Call job session (command.Read id offset n)) built lasting = refl
-hands_stay hands (event.Call job session (command.Release id)) built lasting = refl
-hands_stay hands (event.Call job session command.List) built lasting = refl
-hands_stay hands (event.Call job session command.Usage) built lasting = refl
-hands_stay hands (event.Call job session command.Leave) built lasting = refl
-hands_stay hands (event.Call job session (command.Unpin id task)) built lasting = refl
-hands_stay hands (event.Call job session (command.Borrow id task)) built lasting = refl
-hands_stay hands (event.Call job session (command.GiveUp id task)) built lasting = refl
-hands_stay hands (event.Call job session (command.Delete id)) built lasting = refl
-hands_stay hands (event.Call job session (command.EndTask task)) built lasting = absurd cc
-hands_stay hands (event.Call job session (command.Grant id target)) built lasting = absurd cc
-hands_stay hands (event.Call job session (command.Withdraw id target)) built lasting = absurd cc
-hands_stay hands (event.Call job session (command.Peek id offset n)) built lasting = refl
-hands_stay hands (event.Requota job quota) built lasting = refl
-hands_stay hands event.Take built lasting = refl
-hands_stay hands (event.Finish job number a) built lasting = refl
+hands_stay : (hands : List Hand) (e : Event) → moves_hands e ≡ false → hands_by hands e ≡ hands
+hands_stay hands (event.Admit job quota key) lasting = refl
+hands_stay hands (event.JobEnd job) lasting = absurd cc
+hands_stay hands (event.Call job session (command.Create id kind n)) lasting = refl
+hands_stay hands (event.Call job session (command.Write id offset bytes)) lasting = refl
+hands_stay hands (event.Call job session (command.Seal id)) lasting = refl
+hands_stay hands (event.Call job session (command.Get id)) lasting = refl
+hands_stay hands (event.Call job session (command.Read id offset n)) lasting = refl
+hands_stay hands (event.Call job session (command.Release id)) lasting = refl
+hands_stay hands (event.Call job session command.List) lasting = refl
+hands_stay hands (event.Call job session command.Usage) lasting = refl
+hands_stay hands (event.Call job session command.Leave) lasting = refl
+hands_stay hands (event.Call job session (command.Unpin id task)) lasting = refl
+hands_stay hands (event.Call job session (command.Borrow id task)) lasting = refl
+hands_stay hands (event.Call job session (command.GiveUp id task)) lasting = refl
+hands_stay hands (event.Call job session (command.Delete id)) lasting = refl
+hands_stay hands (event.Call job session (command.EndTask task)) lasting = absurd cc
+hands_stay hands (event.Call job session (command.Grant id target)) lasting = absurd cc
+hands_stay hands (event.Call job session (command.Withdraw id target)) lasting = absurd cc
+hands_stay hands (event.Call job session (command.Peek id offset n)) lasting = refl
+hands_stay hands (event.Requota job quota) lasting = refl
+hands_stay hands event.Take lasting = refl
+hands_stay hands (event.Finish job number a) lasting = refl
 
-pub hands_after-built : (hands : List Hand) (e : Event) (told : Reply (List ℕ)) → is_built e ≡ true → IsLasting e hands → hands_after hands (Own e) told ≡ hands
-hands_after-built hands e reply.Ok built lasting = hands_stay hands e built lasting
-hands_after-built hands e _ built lasting = refl
+pub lasting_still : (e : Event) (told : Reply (List ℕ)) → moves_hands e ≡ false → IsStill e told
+lasting_still e reply.Ok lasting = record { notes = λ before. no_note before e lasting; hands = λ hands. hands_stay hands e lasting }
+lasting_still e _ lasting = record { notes = λ before. refl; hands = λ hands. refl }
 
--- where no hand stands none ends
-pub lasting_none : (e : Event) (hands : List Hand) → hands ≡ [] → IsLasting e hands
-lasting_none (event.Admit job quota key) hands none = refl
-lasting_none (event.JobEnd job) hands none = none
-lasting_none (event.Call job session c) hands none = refl
-lasting_none (event.Requota job quota) hands none = refl
-lasting_none event.Take hands none = refl
-lasting_none (event.Finish job number a) hands none = refl
+pub refused_still : (e : Event) (refusal : Refusal) → IsStill e (reply.Refused refusal)
+refused_still e refusal = record { notes = λ before. refl; hands = λ hands. refl }
 
 -- ---- every job's view
 
@@ -182,6 +178,12 @@ works_shown node job view h = by (row_at node (record { 0 = job })) h.by_row
       used = ap (list_all (λ work. nat_lt 0 work.number && nat_le work.number (used_by node.works (record { 0 = job })))) b.works;
       one = λ n. subst (λ ws. count_by (λ work. work.number == n) ws ≤ 1) (sym b.works) (omega arith);
     }
+
+-- a step after which the job's works are those before asks for none
+pub asks_nothing : (number : ℕ) (node : Hosted) (job : JobNo) (view : View) (x : Input) → Shows node job.0 view → (view_step number view x).view.shape.works ≡ works_of node.works job → (view_step number view x).works ≡ []
+asks_nothing number node job view x h same =
+    let w = works_shown node job.0 view h in
+    (λ i. above (w.asked i) (same i)) ∙ above-used (used_by node.works job) (works_of node.works job) w.used
 
 -- what is left of a job's works is within what they were within
 used_left : (job : JobNo) (stays : Queued → Bool) (used : ℕ) (works : List Queued)
@@ -234,22 +236,22 @@ module _ (old new : Hosted) (v : ℕ → View) (shows : ShowsAll old v) where
   pub own_shown : (job : JobNo) (x : Input) → Shows new job.0 (cond (job.0 == job.0) (view_step old.number (v job.0) x).view (v job.0)) → Shows new job.0 (view_step old.number (v job.0) x).view
   own_shown job x h = let same : (job.0 == job.0) ≡ true = grind (arith, nat_tests) in subst (λ t. Shows new job.0 (cond t (view_step old.number (v job.0) x).view (v job.0))) same h
 
-  pub line_is : (e : Event) (told : Reply (List ℕ)) → is_built e ≡ true → IsLineAfter old.works e told new.works → ((job : ℕ) → Shows new job (view_after old.number job (v job) e told))
+  pub line_is : (e : Event) (told : Reply (List ℕ)) → IsLineAfter old.works e told new.works → ((job : ℕ) → Shows new job (view_after old.number job (v job) e told))
       → new.works.works ≡ line_left old.works.works (Own e) told ++ asked_now old.number v (own_of e told)
-  line_is (event.Admit job quota key) reply.Ok built h after = same_line job (input.Begin quota) (own_shown job (input.Begin quota) (after job.0)) h
-  line_is (event.Admit job quota key) _ built h after = h ∙ sym (append-nil old.works.works)
-  line_is (event.JobEnd job) reply.Ok built h after = left_line job input.End (own_shown job input.End (after job.0)) (λ work. not (is_of job work)) h
-  line_is (event.JobEnd job) _ built h after = h ∙ sym (append-nil old.works.works)
-  line_is (event.Call job session c) told built h after = called_line job (input.Call session c) (own_shown job (input.Call session c) (after job.0)) h
-  line_is (event.Requota job quota) reply.Ok built h after = same_line job (input.Requota quota) (own_shown job (input.Requota quota) (after job.0)) h
-  line_is (event.Requota job quota) _ built h after = h ∙ sym (append-nil old.works.works)
-  line_is event.Take (reply.Work work) built h after =
+  line_is (event.Admit job quota key) reply.Ok h after = same_line job (input.Begin quota) (own_shown job (input.Begin quota) (after job.0)) h
+  line_is (event.Admit job quota key) _ h after = h ∙ sym (append-nil old.works.works)
+  line_is (event.JobEnd job) reply.Ok h after = left_line job input.End (own_shown job input.End (after job.0)) (λ work. not (is_of job work)) h
+  line_is (event.JobEnd job) _ h after = h ∙ sym (append-nil old.works.works)
+  line_is (event.Call job session c) told h after = called_line job (input.Call session c) (own_shown job (input.Call session c) (after job.0)) h
+  line_is (event.Requota job quota) reply.Ok h after = same_line job (input.Requota quota) (own_shown job (input.Requota quota) (after job.0)) h
+  line_is (event.Requota job quota) _ h after = h ∙ sym (append-nil old.works.works)
+  line_is event.Take (reply.Work work) h after =
       h ∙ sym (marked-is work.job work.number old.works.works (works_shown old work.job.0 (v work.job.0) (shows work.job.0)).one)
       ∙ sym (append-nil (map (taken_if work.job work.number) old.works.works))
-  line_is event.Take _ built h after = h ∙ sym (append-nil old.works.works)
-  line_is (event.Finish job number a) reply.Ok built h after =
+  line_is event.Take _ h after = h ∙ sym (append-nil old.works.works)
+  line_is (event.Finish job number a) reply.Ok h after =
       left_line job (input.Answer number a) (own_shown job (input.Answer number a) (after job.0)) (λ work. not (is_at job number work && work.taken)) h
-  line_is (event.Finish job number a) _ built h after = h ∙ sym (append-nil (filter (λ work. not (is_at job number work && work.taken)) old.works.works))
+  line_is (event.Finish job number a) _ h after = h ∙ sym (append-nil (filter (λ work. not (is_at job number work && work.taken)) old.works.works))
 
 -- ---- the step
 
@@ -261,7 +263,7 @@ finish_answer old v (event.Requota job quota) told is = refl
 finish_answer old v event.Take told is = refl
 finish_answer old v (event.Finish job number a) told is = is
 
-module _ (old new : Hosted) (e : Event) (given : RowGiven) (built : is_built e ≡ true) (h : StepsOne old e given new) where
+module _ (old new : Hosted) (e : Event) (given : RowGiven) (still : IsStill e given.reply) (h : StepsOne old e given new) where
   module _ (v : ℕ → View) (shows : ShowsAll old v) where
     abbrev before : Before
     before = before_of old v
@@ -271,21 +273,21 @@ module _ (old new : Hosted) (e : Event) (given : RowGiven) (built : is_built e �
     told_is None g = record { posts = g.posts; erased = g.erased }
 
     operator : IsEventAnswer old v e given.reply
-    operator = by e built h.operator (h.by_views v shows)
+    operator = by e h.operator (h.by_views v shows)
       where
-        by : (e : Event) → is_built e ≡ true → IsOneAnswer old e given.reply → IsAnswerByViews old v e given.reply → IsEventAnswer old v e given.reply
-        by (event.Admit job quota key) built is by_views = is
-        by (event.JobEnd job) built is by_views = is
-        by (event.Call job session c) built is by_views = is
-        by (event.Requota job quota) built is by_views = by_views
-        by event.Take built is by_views = by_views
-        by (event.Finish job number a) built is by_views = by_views
+        by : (e : Event) → IsOneAnswer old e given.reply → IsAnswerByViews old v e given.reply → IsEventAnswer old v e given.reply
+        by (event.Admit job quota key) is by_views = is
+        by (event.JobEnd job) is by_views = is
+        by (event.Call job session c) is by_views = is
+        by (event.Requota job quota) is by_views = by_views
+        by event.Take is by_views = by_views
+        by (event.Finish job number a) is by_views = by_views
 
     answer : IsFinishAnswer before e given.reply
     answer = finish_answer old v e given.reply operator
 
     told : IsGiven old.number v (own_due before (Own e) given.reply) (with_no_notes given)
-    told = subst (λ o. IsGiven old.number v o (with_no_notes given)) (sym (own_due-built before e given.reply built answer)) (told_is (input_of e given.reply) (h.told (v (job_of_event e)) (shows (job_of_event e))))
+    told = subst (λ o. IsGiven old.number v o (with_no_notes given)) (sym (own_due_is before e given.reply answer)) (told_is (input_of e given.reply) (h.told (v (job_of_event e)) (shows (job_of_event e))))
 
     -- an answer is never that there is no memory
     never : wants_memory given.reply ≡ false
@@ -293,7 +295,7 @@ module _ (old new : Hosted) (e : Event) (given : RowGiven) (built : is_built e �
 
     inputs_are : (job : ℕ) → inputs_to before (Own e) given.reply job ≡ only_of job (option_to_list (own_of e given.reply))
     inputs_are job =
-        ap (only_of job) ((λ i. option_to_list (own_here-built before e given.reply built answer never i) ++ notes_here-built before e given.reply built h.lasting i)
+        ap (only_of job) ((λ i. option_to_list (own_here_is before e given.reply answer never i) ++ still.notes before i)
         ∙ append-nil (option_to_list (own_of e given.reply)))
 
     view_is : (job : ℕ) → view_from old.number (v job) (inputs_to before (Own e) given.reply job) ≡ view_after old.number job (v job) e given.reply
@@ -303,14 +305,14 @@ module _ (old new : Hosted) (e : Event) (given : RowGiven) (built : is_built e �
     views job = subst (Shows new job) (sym (view_is job)) (h.views v shows job)
 
     line : new.works.works ≡ line_after old v (Own e) given.reply
-    line = line_is old new v shows e given.reply built (h.line v shows) (h.views v shows)
-        ∙ ap (λ o. line_left old.works.works (Own e) given.reply ++ asked_now old.number v o) (sym (own_here-built before e given.reply built answer never))
+    line = line_is old new v shows e given.reply (h.line v shows) (h.views v shows)
+        ∙ ap (λ o. line_left old.works.works (Own e) given.reply ++ asked_now old.number v o) (sym (own_here_is before e given.reply answer never))
 
     from : StepsFrom old v (Own e) (with_no_notes given) new
     from = record {
       views = views;
       told = told;
-      notes = sym (ap (judged_notes old.number v) (notes_here-built before e given.reply built h.lasting));
+      notes = sym (ap (judged_notes old.number v) (still.notes before));
       operator = operator;
       line = line;
     }
@@ -318,7 +320,7 @@ module _ (old new : Hosted) (e : Event) (given : RowGiven) (built : is_built e �
   pub all_steps : Steps old (Own e) (with_no_notes given) new
   all_steps = record {
     number = h.number;
-    hands = h.hands ∙ sym (hands_after-built old.hands e given.reply built h.lasting);
+    hands = h.hands ∙ sym (still.hands old.hands);
     admissions = h.admissions;
     lives = h.lives;
     each = from;
@@ -345,13 +347,30 @@ call_judged (event.Requota job quota) _ = refl
 call_judged event.Take _ = refl
 call_judged (event.Finish job number a) _ = refl
 
-pub other_lasting : (e : Event) (hands : List Hand) → ((job : JobNo) → e ≡ event.JobEnd job → ⊥) → IsLasting e hands
-other_lasting (event.Admit job quota key) hands other = refl
-other_lasting (event.JobEnd job) hands other = absurd (other job refl)
-other_lasting (event.Call job session c) hands other = refl
-other_lasting (event.Requota job quota) hands other = refl
-other_lasting event.Take hands other = refl
-other_lasting (event.Finish job number a) hands other = refl
+-- what moves hands may take memory
+pub moves_frugal : (node : Hosted) (e : Event) → moves_hands e ≡ true → is_frugal node e ≡ true → ⊥
+moves_frugal node (event.JobEnd job) moves frugal = absurd cc
+moves_frugal node (event.Call job session (command.Create id kind n)) moves frugal = absurd cc
+moves_frugal node (event.Call job session (command.Write id offset bytes)) moves frugal = absurd cc
+moves_frugal node (event.Call job session (command.Seal id)) moves frugal = absurd cc
+moves_frugal node (event.Call job session (command.Get id)) moves frugal = absurd cc
+moves_frugal node (event.Call job session (command.Read id offset n)) moves frugal = absurd cc
+moves_frugal node (event.Call job session (command.Release id)) moves frugal = absurd cc
+moves_frugal node (event.Call job session command.List) moves frugal = absurd cc
+moves_frugal node (event.Call job session command.Usage) moves frugal = absurd cc
+moves_frugal node (event.Call job session command.Leave) moves frugal = absurd cc
+moves_frugal node (event.Call job session (command.Unpin id task)) moves frugal = absurd cc
+moves_frugal node (event.Call job session (command.Borrow id task)) moves frugal = absurd cc
+moves_frugal node (event.Call job session (command.GiveUp id task)) moves frugal = absurd cc
+moves_frugal node (event.Call job session (command.Delete id)) moves frugal = absurd cc
+moves_frugal node (event.Call job session (command.EndTask task)) moves frugal = absurd cc
+moves_frugal node (event.Call job session (command.Grant id target)) moves frugal = absurd cc
+moves_frugal node (event.Call job session (command.Withdraw id target)) moves frugal = absurd cc
+moves_frugal node (event.Call job session (command.Peek id offset n)) moves frugal = absurd cc
+moves_frugal node (event.Admit job quota key) moves frugal = absurd cc
+moves_frugal node (event.Requota job quota) moves frugal = absurd cc
+moves_frugal node event.Take moves frugal = absurd cc
+moves_frugal node (event.Finish job number a) moves frugal = absurd cc
 
 pub no_finish : (e : Event) → ((job : JobNo) (number : ℕ) (a : DeviceAnswer) → e ≡ event.Finish job number a → ⊥) → is_finish e ≡ false
 no_finish (event.Admit job quota key) other = refl

@@ -198,7 +198,6 @@ module _ (nodeno : ℕ) (a : Admissions) (line : WorkLine) (hands : List Hand) (
       lives = refl;
       line = λ v shows. untaken_stay job number line.works (none_at (v job.0) (shows job.0));
       hands = refl;
-      lasting = refl;
     }
 
   -- ---- a live job
@@ -329,5 +328,4 @@ module _ (nodeno : ℕ) (a : Admissions) (line : WorkLine) (hands : List Hand) (
       lives = refl;
       line = λ v shows. line_left (v job.0) (shows job.0);
       hands = refl;
-      lasting = refl;
     }

@@ -43,24 +43,24 @@ lies Restoring fetch sealed = refl
 lies Fetching fetch sealed = true_false sealed
 lies Away fetch sealed = true_false sealed
 
-module _ (row : Row) (beside : Beside) (contents : Contents) (h : IsShown row beside contents) (id : ObjectId) (own : id.job.0 ≡ row.job) (given : has_hand beside.given id ≡ true) where
-  -- it is there, and sealed
-  pub record Granted : Type 0 where
-    pub kept : Kept
-    pub found : at row.copies id ≡ Some kept
-    pub sealed : is_sealed kept.copy.state ≡ true
+-- a copy that is there, and sealed
+pub record IsSealedCopy (row : Row) (id : ObjectId) : Type 0 where
+  pub kept : Kept
+  pub found : at row.copies id ≡ Some kept
+  pub sealed : is_sealed kept.copy.state ≡ true
 
-  pub granted_copy : Granted
-  granted_copy = by (at row.copies id) refl
+module _ (row : Row) (beside : Beside) (contents : Contents) (h : IsShown row beside contents) (id : ObjectId) where
+  -- a granted one is such
+  pub granted_copy : id.job.0 ≡ row.job → has_hand beside.given id ≡ true → IsSealedCopy row id
+  granted_copy own given = by (at row.copies id) refl
     where
-      by : (o : Option Kept) → at row.copies id ≡ o → Granted
+      by : (o : Option Kept) → at row.copies id ≡ o → IsSealedCopy row id
       by None none = true_false (sym (h.kept.kept.shape.hands_of_copies id own (at-copies_none row.copies id none)) ∙ given)
       by (Some k) found = record { kept = k; found = found; sealed = ((h.kept.kept.shape.each id k.copy (at-copies_found row.copies id k found)).granted given).0 }
 
   -- its bytes are those that it has in its own job's store
-  pub granted_bytes : row_bytes row id ≡ bytes_at contents.bytes id
-  granted_bytes =
-      let g = granted_copy in
+  pub sealed_bytes : IsSealedCopy row id → row_bytes row id ≡ bytes_at contents.bytes id
+  sealed_bytes g =
       let copy = (h.kept.kept.shape.each id g.kept.copy (at-copies_found row.copies id g.kept g.found)) in
       ap (λ o. option_map_or (kept_bytes row) o []) g.found ∙ by_place g.kept g.found g.kept.copy.offset refl (copy.resident ∙ lies g.kept.copy.state g.kept.copy.fetch g.sealed)
     where
@@ -72,16 +72,28 @@ module _ (row : Row) (beside : Beside) (contents : Contents) (h : IsShown row be
 
 -- a step leaves them
 module _ (node : ℕ) (row after : Row) (before beside : Beside) (contents : Contents) (x : Input) (told : Given) (h : IsShown row before contents) (t : TakesStep node row before contents x told after beside) where
-  pub granted_stay : (id : ObjectId) → id.job.0 ≡ row.job → id.job.0 ≡ after.job → has_hand before.given id ≡ true → has_hand beside.given id ≡ true → row_bytes row id ≡ row_bytes after id
-  granted_stay id own own_after given still =
-      let g = granted_copy row before contents h id own given in
-      let s = granted_copy after beside (view_step node (seen row before contents) x).view.contents t.shown id own_after still in
-      granted_bytes row before contents h id own given
+  pub sealed_stay : (id : ObjectId) → IsSealedCopy row id → IsSealedCopy after id → row_bytes row id ≡ row_bytes after id
+  sealed_stay id g s =
+      sealed_bytes row before contents h id g
       ∙ sym (bytes_stay node (seen row before contents) h.kept.kept.shape h.kept.kept.filled id g.kept.copy (at-copies_found row.copies id g.kept g.found) g.sealed
       x s.kept.copy (ap (λ c. at c.copies id) t.shape ∙ at-copies_found after.copies id s.kept s.found) s.sealed)
-      ∙ sym (granted_bytes after beside (view_step node (seen row before contents) x).view.contents t.shown id own_after still)
+      ∙ sym (sealed_bytes after beside (view_step node (seen row before contents) x).view.contents t.shown id s)
 
 -- ---- at a node
+
+-- where a job's row is another now, the bytes of an object are those before if that row leaves them
+module _ (job : JobNo) (old new : List (JobNo × Row)) (row after : Row) (found : lookup (same_job job) old ≡ Some row)
+    (updated : (q : JobNo) → lookup (same_job q) new ≡ cond (same_job job q) (Some after) (lookup (same_job q) old)) where
+  pub bytes_where : (id : ObjectId) → (id.job.0 ≡ job.0 → row_bytes row id ≡ row_bytes after id) → bytes_here old id ≡ bytes_here new id
+  bytes_where id stay = by (same_job job id.job) refl
+    where
+      by : (b : Bool) → same_job job id.job ≡ b → bytes_here old id ≡ bytes_here new id
+      by false other = sym (ap (λ o. option_map_or (λ row. row_bytes row id) o []) (updated id.job ∙ ap (λ b. cond b (Some after) (lookup (same_job id.job) old)) other))
+      by true same =
+          let jobs : id.job.0 ≡ job.0 = sym (eqb-true job.0 id.job.0 same) in
+          ap (λ o. option_map_or (λ row. row_bytes row id) o []) (ap (λ n. lookup (same_job (record { 0 = n })) old) jobs ∙ found)
+          ∙ stay jobs
+          ∙ sym (ap (λ o. option_map_or (λ row. row_bytes row id) o []) (updated id.job ∙ ap (λ b. cond b (Some after) (lookup (same_job id.job) old)) same))
 
 -- an object's own job gave a hand of it exactly if a first hand of it stands
 pub first_given : (id : ObjectId) (hands : List Hand) → list_any (is_first id) hands ≡ has_hand (given_by hands id.job.0) id
@@ -107,13 +119,9 @@ module _ (hands : List Hand) (table : AreHands hands) where
       (h : IsShown row (beside_of line hands bytes job.0) contents)
       (t : TakesStep node row (beside_of line hands bytes job.0) contents x told after (beside_of works hands bytes job.0)) where
     pub bytes_same : (id : ObjectId) → list_any (is_of id) hands ≡ true → bytes_here old id ≡ bytes_here new id
-    bytes_same id there = by (same_job job id.job) refl
-      where
-        by : (b : Bool) → same_job job id.job ≡ b → bytes_here old id ≡ bytes_here new id
-        by false other = sym (ap (λ o. option_map_or (λ row. row_bytes row id) o []) (updated id.job ∙ ap (λ b. cond b (Some after) (lookup (same_job id.job) old)) other))
-        by true same =
-            let jobs : id.job.0 ≡ job.0 = sym (eqb-true job.0 id.job.0 same) in
-            let gave : has_hand (given_by hands job.0) id ≡ true = subst (λ n. has_hand (given_by hands n) id ≡ true) jobs (own_gave id there) in
-            ap (λ o. option_map_or (λ row. row_bytes row id) o []) (ap (λ n. lookup (same_job (record { 0 = n })) old) jobs ∙ found)
-            ∙ granted_stay node row after (beside_of line hands bytes job.0) (beside_of works hands bytes job.0) contents x told h t id (jobs ∙ sym own) (jobs ∙ sym own_after) gave gave
-            ∙ sym (ap (λ o. option_map_or (λ row. row_bytes row id) o []) (updated id.job ∙ ap (λ b. cond b (Some after) (lookup (same_job id.job) old)) same))
+    bytes_same id there =
+        bytes_where job old new row after found updated id (λ jobs.
+        let gave : has_hand (given_by hands job.0) id ≡ true = subst (λ n. has_hand (given_by hands n) id ≡ true) jobs (own_gave id there) in
+        sealed_stay node row after (beside_of line hands bytes job.0) (beside_of works hands bytes job.0) contents x told h t id
+        (granted_copy row (beside_of line hands bytes job.0) contents h id (jobs ∙ sym own) gave)
+        (granted_copy after (beside_of works hands bytes job.0) (view_step node (seen row (beside_of line hands bytes job.0) contents) x).view.contents t.shown id (jobs ∙ sym own_after) gave))

@@ -18,12 +18,12 @@ use Rattle.node_table.specs.Granting.{peek_check}
 use Rattle.node_table.specs.Row.{Row, Beside, beside_of, shape_of}
 use Rattle.node_table.specs.Late.{may_grow}
 use Rattle.node_table.specs.Shown.{seen, IsShown}
-use Rattle.node_table.proofs.Late.{create_late, seal_late, get_late, read_late, list_late, leave_late, unpin_late, borrow_late, give_up_late, delete_late}
+use Rattle.node_table.proofs.Late.{create_late, seal_late, get_late, read_late, list_late, leave_late, unpin_late, borrow_late, give_up_late, delete_late, end_task_late}
 use Rattle.node_core.specs.Hosted.{Hosted, IsRowView, IsViewBy, bytes_here, beside_at}
 use Rattle.node_table.proofs.Peeking.{peeks}
-use Rattle.node_core.specs.Built.{is_built, is_built_command}
 use Rattle.node_core.specs.Late.{is_accepted, hands_check, IsLate, IsUnrefused, IsEventUnrefused}
 use Rattle.node_core.specs.Steps.{answered}
+use Rattle.node_core.proofs.HandCommands.{grant_late, withdraw_late}
 use Rattle.node_core.proofs.Taking.{front_given}
 use Rattle.node_core.proofs.Views.{view_is}
 
@@ -36,49 +36,53 @@ peek_late node line hands bytes row contents session id offset n h passed =
     (sym (peeks node line hands bytes row contents session id offset n h).reply ∙ ap (λ o. option_map_or reply.Refused o (reply.Bytes (take n (drop offset (bytes id))))) passed)
 
 module _ (node : ℕ) (row : Row) (beside : Beside) (contents : Contents) (session : ℕ) (h : IsShown row beside contents) where
-  -- that a Peek is due more than a refusal, which the hands say
-  abbrev pub PeekLate : Command (List ℕ) → Type 0
-  PeekLate (command.Peek id offset n) = may_grow (shape_of row beside) (view_step node (seen row beside contents) (input.Call session (command.Peek id offset n))).reply ≡ true
-  PeekLate _ = Unit {0}
+  -- that a command is due more than a refusal, where it is the hands that say so
+  abbrev pub HandsLate : Command (List ℕ) → Type 0
+  HandsLate (command.Grant id target) = may_grow (shape_of row beside) (view_step node (seen row beside contents) (input.Call session (command.Grant id target))).reply ≡ true
+  HandsLate (command.Withdraw id target) = may_grow (shape_of row beside) (view_step node (seen row beside contents) (input.Call session (command.Withdraw id target))).reply ≡ true
+  HandsLate (command.Peek id offset n) = may_grow (shape_of row beside) (view_step node (seen row beside contents) (input.Call session (command.Peek id offset n))).reply ≡ true
+  HandsLate _ = Unit {0}
 
-  row_late : (c : Command (List ℕ)) → is_built_command c ≡ true → IsUnrefused row row.job session c → PeekLate c
+  row_late : (c : Command (List ℕ)) → IsUnrefused row row.job session c → HandsLate c
       → may_grow (shape_of row beside) (view_step node (seen row beside contents) (input.Call session c)).reply ≡ true
-  row_late (command.Create id kind n) built u p = create_late node row beside contents session h id kind n u.own u.passed
-  row_late (command.Seal id) built u p = seal_late node row beside contents session h id u.own u.passed
-  row_late (command.Get id) built u p = get_late node row beside contents session h id u.own u.passed
-  row_late (command.Read id offset n) built u p = read_late node row beside contents session h id offset n u.own u.passed
-  row_late command.List built u p = list_late node row beside contents session h
-  row_late (command.Write id offset bytes) built u p = absurd (let g = u.grows in cc)
-  row_late (command.Release id) built u p = absurd (let g = u.grows in cc)
-  row_late command.Usage built u p = absurd (let g = u.grows in cc)
-  row_late command.Leave built u p = leave_late node row beside contents session h
-  row_late (command.Unpin id task) built u p = unpin_late node row beside contents session h id task u.own u.passed
-  row_late (command.Borrow id task) built u p = borrow_late node row beside contents session h id task u.own u.passed
-  row_late (command.GiveUp id task) built u p = give_up_late node row beside contents session h id task u.own u.passed
-  row_late (command.Delete id) built u p = delete_late node row beside contents session h id u.own u.passed
-  row_late (command.EndTask task) built u p = absurd cc
-  row_late (command.Grant id target) built u p = absurd cc
-  row_late (command.Withdraw id target) built u p = absurd cc
-  row_late (command.Peek id offset n) built u p = p
+  row_late (command.Create id kind n) u p = create_late node row beside contents session h id kind n u.own u.passed
+  row_late (command.Seal id) u p = seal_late node row beside contents session h id u.own u.passed
+  row_late (command.Get id) u p = get_late node row beside contents session h id u.own u.passed
+  row_late (command.Read id offset n) u p = read_late node row beside contents session h id offset n u.own u.passed
+  row_late command.List u p = list_late node row beside contents session h
+  row_late (command.Write id offset bytes) u p = absurd (let g = u.grows in cc)
+  row_late (command.Release id) u p = absurd (let g = u.grows in cc)
+  row_late command.Usage u p = absurd (let g = u.grows in cc)
+  row_late command.Leave u p = leave_late node row beside contents session h
+  row_late (command.Unpin id task) u p = unpin_late node row beside contents session h id task u.own u.passed
+  row_late (command.Borrow id task) u p = borrow_late node row beside contents session h id task u.own u.passed
+  row_late (command.GiveUp id task) u p = give_up_late node row beside contents session h id task u.own u.passed
+  row_late (command.Delete id) u p = delete_late node row beside contents session h id u.own u.passed
+  row_late (command.EndTask task) u p = end_task_late node row beside contents session h task u.passed
+  row_late (command.Grant id target) u p = p
+  row_late (command.Withdraw id target) u p = p
+  row_late (command.Peek id offset n) u p = p
 
 -- whatever the command is
 by_hands : (node : Hosted) (job : JobNo) (row : Row) (contents : Contents) (session : ℕ) (h : IsShown row (beside_at node job.0) contents) → row.job ≡ job.0
-    → (c : Command (List ℕ)) → hands_check node job.0 c ≡ None → PeekLate node.number row (beside_at node job.0) contents session h c
+    → (c : Command (List ℕ)) → hands_check node row job.0 c ≡ None → HandsLate node.number row (beside_at node job.0) contents session h c
+by_hands node job row contents session h own (command.Grant id target) passed = grant_late node.number node.works node.hands (bytes_here node.rows) job row contents session id target own h passed
+by_hands node job row contents session h own (command.Withdraw id target) passed = withdraw_late node.number node.works node.hands (bytes_here node.rows) job row contents session id target own h passed
 by_hands node job row contents session h own (command.Peek id offset n) passed =
     subst (λ j. may_grow (shape_of row (beside_at node j)) (view_step node.number (seen row (beside_at node j) contents) (input.Call session (command.Peek id offset n))).reply ≡ true) own
     (peek_late node.number node.works node.hands (bytes_here node.rows) row contents session id offset n
     (subst (λ j. IsShown row (beside_at node j) contents) (sym own) h) (subst (λ j. peek_check node.hands j id (length (bytes_here node.rows id)) offset n ≡ None) (sym own) passed))
 by_hands node job row contents session h own _ passed = tt
 
-pub event_late : (node : Hosted) (e : Event) → is_built e ≡ true → IsEventUnrefused node e → IsLate node (Own e)
-event_late node (event.Admit job quota key) built u v shows = ap (λ check. is_accepted (answered check)) u
-event_late node (event.JobEnd job) built u v shows = ap (λ check. is_accepted (answered check)) u
-event_late node (event.Call job session c) built u v shows =
+pub event_late : (node : Hosted) (e : Event) → IsEventUnrefused node e → IsLate node (Own e)
+event_late node (event.Admit job quota key) u v shows = ap (λ check. is_accepted (answered check)) u
+event_late node (event.JobEnd job) u v shows = ap (λ check. is_accepted (answered check)) u
+event_late node (event.Call job session c) u v shows =
     let beside = beside_at node job.0 in
     let r : IsRowView u.row beside job.0 (v job.0) = subst (IsViewBy node.admissions.greatest beside job.0 (v job.0)) u.found (shows job.0).by_row in
     subst (λ w. may_grow w.shape (view_step node.number w (input.Call session c)).reply ≡ true) (sym (view_is u.row beside job.0 (v job.0) r))
-    (row_late node.number u.row beside (v job.0).contents session r.shown c built (subst (λ n. IsUnrefused u.row n session c) (sym r.own) u.unrefused)
+    (row_late node.number u.row beside (v job.0).contents session r.shown c (subst (λ n. IsUnrefused u.row n session c) (sym r.own) u.unrefused)
     (by_hands node job u.row (v job.0).contents session r.shown r.own c u.by_hands))
-event_late node (event.Requota job quota) built u v shows = ap (λ check. is_accepted (answered check)) (u (v job.0) (shows job.0))
-event_late node event.Take built u v shows = ap is_accepted (front_given node u.asked u.first u.row u.found v shows).1
-event_late node (event.Finish job number a) built u v shows = absurd u
+event_late node (event.Requota job quota) u v shows = ap (λ check. is_accepted (answered check)) (u (v job.0) (shows job.0))
+event_late node event.Take u v shows = ap is_accepted (front_given node u.asked u.first u.row u.found v shows).1
+event_late node (event.Finish job number a) u v shows = absurd u

@@ -1,6 +1,7 @@
 mod Others
 mod Lines
 mod Granted
+mod HandCommands
 mod Views
 mod Calling
 mod Listed
@@ -15,7 +16,11 @@ mod Finishing
 mod Requotas
 pub mod Never
 pub mod AllJobs
+mod TaskEnds
 pub mod Notes
 mod Late
+mod Giving
+mod Withdrawing
 mod Arriving
 mod Small
+pub mod Briefs

@@ -1,6 +1,6 @@
--- The reply to a command has a frame, and no event that is built tells of a hand.
+-- The reply to a command has a frame, and who is told of hands.
 use Rattle.std.proofs.Common.{◌≡◌, ℕ, ◌==◌, ◌≤◌, Bool, true, false, cond, ◌||◌, ◌&&◌, not, List, [], ◌∷◌, length, map, Option, Some, None, is_some, refl, sym, ap, subst, ◌∙◌, arith}
-use Rattle.std.specs.List.{list_any, list_all}
+use Rattle.std.specs.List.{list_all}
 use Rattle.std.specs.Map.{lookup, keys_of}
 use Rattle.std.proofs.lemmas.Bool.Decides.{nat_tests}
 use Rattle.std.proofs.lemmas.List.{length-map}
@@ -14,9 +14,10 @@ use Rattle.private_store.specs.declared.inputs.Input.{Input}
 use Rattle.private_store.specs.declared.inputs.Input.TheVariants as input
 use Rattle.private_store.specs.declared.schedules.Event.{Event}
 use Rattle.private_store.specs.declared.schedules.Event.TheVariants as event
+use Rattle.private_store.specs.declared.schedules.NodeEvent.TheVariants.{Own}
 use Rattle.private_store.specs.Answers.{is_small_reply, AreGrantedWithin}
 use Rattle.private_store.specs.Contents.{View}
-use Rattle.private_store.specs.Hands.{Hand, is_given_by, hands_ended}
+use Rattle.private_store.specs.Hands.{Hand}
 use Rattle.private_store.specs.Jobs.{same_job}
 use Rattle.private_store.specs.Kept.{IsViewKept}
 use Rattle.private_store.specs.Limits.{most_live_jobs}
@@ -27,15 +28,12 @@ use Rattle.grants.specs.Private.{as_given}
 use Rattle.grants.specs.Table.{AreHands, given_by}
 use Rattle.grants.proofs.Few.{is_among, few_granted}
 use Rattle.node_table.specs.Row.{Row}
-use Rattle.node_table.specs.Shown.{Given}
-use Rattle.node_core.specs.Built.{is_built}
 use Rattle.node_core.specs.Foreseen.{takers_told, AreTakers}
-use Rattle.node_core.specs.Hosted.{Hosted, IsViewBy, Shows, ShowsAll, row_at, beside_at, bytes_here}
-use Rattle.node_core.specs.Judged.{SeesFew, IsSmall}
-use Rattle.node_core.specs.OneJob.{IsLasting, StepsOne}
+use Rattle.node_core.specs.Hosted.{Hosted, IsViewBy, ShowsAll, row_at, beside_at, bytes_here}
+use Rattle.node_core.specs.Judged.{moves_hands, SeesFew, IsSmall}
 use Rattle.node_core.specs.declared.outcome.Note.{Note}
-use Rattle.node_core.specs.Outcomes.{inputs_noted, end_noted}
-use Rattle.node_core.specs.Steps.{JobJudged}
+use Rattle.node_core.specs.Outcomes.{inputs_noted, end_noted, received_noted}
+use Rattle.node_core.specs.Steps.{JobJudged, Given, Steps}
 use Rattle.node_core.proofs.Views.{view_is, told_refused, call_refuses}
 
 -- ---- the givers of hands are live
@@ -110,8 +108,8 @@ module _ (node : Hosted) (few : SeesFew node) (v : ℕ → View) (shows : ShowsA
           ap is_small_reply (sym (told_refused node.number node.admissions node.works node.hands job x refl node.rows is NotAdmitted
           (call_refuses node.number node.admissions node.works node.hands job session c) (v job.0) (shows job.0)).reply)
 
-pub small : (old new : Hosted) (e : Event) (given : Given) → SeesFew old → StepsOne old e given new → IsSmall old e given.reply
-small old new (event.Call job session c) given few steps v shows = ap is_small_reply (steps.told (v job.0) (shows job.0)).reply ∙ small_call old few v shows job session c
+pub small : (old new : Hosted) (e : Event) (given : Given) → SeesFew old → Steps old (Own e) given new → IsSmall old e given.reply
+small old new (event.Call job session c) given few steps v shows = ap is_small_reply (steps.each v shows).told.reply ∙ small_call old few v shows job session c
 small old new (event.Admit job quota key) given few steps v shows = refl
 small old new (event.Requota job quota) given few steps v shows = refl
 small old new (event.JobEnd job) given few steps v shows = refl
@@ -120,40 +118,44 @@ small old new (event.Finish job number a) given few steps v shows = refl
 
 -- ---- takers
 
--- where no hand ends, no event that is built tells of one
-pub none_told : (hands : List Hand) (e : Event) (told : Reply (List ℕ)) → is_built e ≡ true → IsLasting e hands → AreTakers hands e told []
-none_told hands (event.Call job session (command.Create id kind n)) reply.Ok built last = refl
-none_told hands (event.Call job session (command.Write id offset bytes)) reply.Ok built last = refl
-none_told hands (event.Call job session (command.Seal id)) reply.Ok built last = refl
-none_told hands (event.Call job session (command.Get id)) reply.Ok built last = refl
-none_told hands (event.Call job session (command.Read id offset n)) reply.Ok built last = refl
-none_told hands (event.Call job session (command.Release id)) reply.Ok built last = refl
-none_told hands (event.Call job session (command.Unpin id task)) reply.Ok built last = refl
-none_told hands (event.Call job session (command.Borrow id task)) reply.Ok built last = refl
-none_told hands (event.Call job session (command.GiveUp id task)) reply.Ok built last = refl
-none_told hands (event.Call job session (command.Delete id)) reply.Ok built last = refl
-none_told hands (event.Call job session command.List) reply.Ok built last = refl
-none_told hands (event.Call job session command.Usage) reply.Ok built last = refl
-none_told hands (event.Call job session command.Leave) reply.Ok built last = refl
-none_told hands (event.Call job session (command.EndTask task)) reply.Ok built last = absurd cc
-none_told hands (event.Call job session (command.Grant id target)) reply.Ok built last = absurd cc
-none_told hands (event.Call job session (command.Withdraw id target)) reply.Ok built last = absurd cc
-none_told hands (event.Call job session (command.Peek id offset n)) reply.Ok built last = refl
-none_told hands (event.Admit job quota key) reply.Ok built last = refl
-none_told hands (event.Requota job quota) reply.Ok built last = refl
-none_told hands (event.JobEnd job) reply.Ok built last = sym (ap (λ hs. takers_told (hands_ended (is_given_by job.0) hs)) last)
-none_told hands event.Take reply.Ok built last = refl
-none_told hands (event.Finish job number a) reply.Ok built last = refl
-none_told hands e _ built last = refl
+-- of what moves no hand nobody is told
+pub none_told : (hands : List Hand) (e : Event) (told : Reply (List ℕ)) → moves_hands e ≡ false → AreTakers hands e told []
+none_told hands (event.Call job session (command.Create id kind n)) reply.Ok last = refl
+none_told hands (event.Call job session (command.Write id offset bytes)) reply.Ok last = refl
+none_told hands (event.Call job session (command.Seal id)) reply.Ok last = refl
+none_told hands (event.Call job session (command.Get id)) reply.Ok last = refl
+none_told hands (event.Call job session (command.Read id offset n)) reply.Ok last = refl
+none_told hands (event.Call job session (command.Release id)) reply.Ok last = refl
+none_told hands (event.Call job session (command.Unpin id task)) reply.Ok last = refl
+none_told hands (event.Call job session (command.Borrow id task)) reply.Ok last = refl
+none_told hands (event.Call job session (command.GiveUp id task)) reply.Ok last = refl
+none_told hands (event.Call job session (command.Delete id)) reply.Ok last = refl
+none_told hands (event.Call job session command.List) reply.Ok last = refl
+none_told hands (event.Call job session command.Usage) reply.Ok last = refl
+none_told hands (event.Call job session command.Leave) reply.Ok last = refl
+none_told hands (event.Call job session (command.EndTask task)) reply.Ok last = absurd cc
+none_told hands (event.Call job session (command.Grant id target)) reply.Ok last = absurd cc
+none_told hands (event.Call job session (command.Withdraw id target)) reply.Ok last = absurd cc
+none_told hands (event.Call job session (command.Peek id offset n)) reply.Ok last = refl
+none_told hands (event.Admit job quota key) reply.Ok last = refl
+none_told hands (event.Requota job quota) reply.Ok last = refl
+none_told hands (event.JobEnd job) reply.Ok last = absurd cc
+none_told hands event.Take reply.Ok last = refl
+none_told hands (event.Finish job number a) reply.Ok last = refl
+none_told hands e _ last = refl
+
+jobs_noted : (ns : List Note) → map (λ (note : Note). note.job) ns ≡ map (λ (x : JobJudged). record { 0 = x.job }) (inputs_noted ns)
+jobs_noted [] = refl
+jobs_noted (n ∷ ns) = ap (λ js. n.job ∷ js) (jobs_noted ns)
+
+-- of the note of a new hand
+pub taker_noted : (notes : List Note) (hand : Hand) (n : ℕ) → inputs_noted notes ≡ received_noted hand n ∷ [] → map (λ note. note.job) notes ≡ record { 0 = hand.taker } ∷ []
+taker_noted notes hand n is = jobs_noted notes ∙ ap (map (λ (x : JobJudged). record { 0 = x.job })) is
 
 -- of notes of ends
 pub takers_noted : (notes : List Note) (ended : List Hand) → inputs_noted notes ≡ map end_noted ended → map (λ note. note.job) notes ≡ takers_told ended
 takers_noted notes ended is = jobs_noted notes ∙ ap (map (λ (x : JobJudged). record { 0 = x.job })) is ∙ jobs_ended ended
   where
-    jobs_noted : (ns : List Note) → map (λ (note : Note). note.job) ns ≡ map (λ (x : JobJudged). record { 0 = x.job }) (inputs_noted ns)
-    jobs_noted [] = refl
-    jobs_noted (n ∷ ns) = ap (λ js. n.job ∷ js) (jobs_noted ns)
-
     jobs_ended : (hs : List Hand) → map (λ (x : JobJudged). record { 0 = x.job }) (map end_noted hs) ≡ takers_told hs
     jobs_ended [] = refl
     jobs_ended (h ∷ hs) = ap (λ js. record { 0 = h.taker } ∷ js) (jobs_ended hs)

@@ -150,7 +150,6 @@ module _ (number : ℕ) (a : Admissions) (line : WorkLine) (hands : List Hand) (
     lives = refl;
     line = λ v shows. refl;
     hands = refl;
-    lasting = refl;
   }
 
   module _ (asked : Asked) (front : front_of line.works ≡ Some asked) where
@@ -195,7 +194,6 @@ module _ (number : ℕ) (a : Admissions) (line : WorkLine) (hands : List Hand) (
         lives = refl;
         line = λ v shows. ap (λ (l : WorkLine). l.works) marks.line ∙ (λ i. marked (sym of_job i) (sym under i) line.works);
         hands = refl;
-        lasting = refl;
       }
 
 -- the front of a job that has a row is given

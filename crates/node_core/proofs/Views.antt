@@ -209,7 +209,6 @@ module _ (number : ℕ) (a : Admissions) (line : WorkLine) (hands : List Hand) (
       lives = refl;
       line = λ v shows. line_after;
       hands = refl;
-      lasting = refl;
     }
 
   pub call_refuses : Refuses number a line hands job (input.Call session c) refl NotAdmitted
@@ -229,5 +228,4 @@ module _ (number : ℕ) (a : Admissions) (line : WorkLine) (hands : List Hand) (
       lives = refl;
       line = λ v shows. asked_nothing line job;
       hands = refl;
-      lasting = refl;
     }

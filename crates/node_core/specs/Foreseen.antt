@@ -1,5 +1,5 @@
 -- What is known of an event before it is taken: how many messages it sends at most, and whom it may tell of hands.
-use Rattle.std.specs.Prelude.{◌≡◌, ℕ, ◌+◌, List, [], ◌∷◌, length, map, Option}
+use Rattle.std.specs.Prelude.{◌≡◌, ℕ, ◌+◌, ◌*◌, List, [], ◌∷◌, length, map, Option}
 use Rattle.std.specs.Option.{option_map_or}
 use Rattle.obj_id.specs.declared.ids.JobNo.{JobNo}
 use Rattle.obj_id.specs.declared.commands.Command.{Command}
@@ -17,7 +17,8 @@ use Rattle.node_table.specs.Row.{Row}
 use Rattle.node_core.specs.Hosted.{Hosted, row_at}
 
 -- the most messages that a command of a job with this row, or none, sends: Create may evict each copy, and tells the
--- directory of each; Get may do so as well, and asks a node for the object
+-- directory of each; Get may do so as well, and asks a node for the object; EndTask may doom each copy, and give up a borrow of
+-- each
 abbrev pub most_by_command : Option Row → Command (List ℕ) → ℕ
 most_by_command own (command.Create id kind n) = option_map_or (λ row. length row.copies) own 0
 most_by_command own (command.Seal id) = 1
@@ -25,6 +26,7 @@ most_by_command own (command.Get id) = option_map_or (λ row. length row.copies 
 most_by_command own (command.Unpin id task) = 1
 most_by_command own (command.GiveUp id task) = 1
 most_by_command own (command.Delete id) = 1
+most_by_command own (command.EndTask task) = option_map_or (λ row. 2 * length row.copies) own 0
 most_by_command own _ = 0
 
 -- the most messages that the event sends
@@ -44,6 +46,13 @@ most_by_arrival own (arrival.FromPeer from (peer.NotHere id number)) = option_ma
 -- of hands, those to whom they were given
 abbrev pub takers_told : List Hand → List JobNo
 takers_told hands = map (λ hand. record { 0 = hand.taker }) hands
+
+-- the hands that end if the event is accepted, and their takers, in the order in which they are told
+abbrev pub ended_by : List Hand → Event → List Hand
+ended_by hands e = option_map_or (λ test. hands_ended test hands) (ends e) []
+
+abbrev pub takers_of_ended : List Hand → Event → List JobNo
+takers_of_ended hands e = takers_told (ended_by hands e)
 
 -- the jobs that the event tells of hands if it is accepted, one for each note, in their order
 abbrev pub takers_of : List Hand → Event → List JobNo

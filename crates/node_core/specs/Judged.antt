@@ -1,5 +1,6 @@
 -- What an event was to its own job, without contents, and which replies have a frame.
 use Rattle.std.specs.Prelude.{◌≡◌, List, ℕ, Bool, true, false, Option, Some, None, is_some, option_map}
+use Rattle.obj_id.specs.declared.commands.Command.TheVariants as command
 use Rattle.obj_id.specs.declared.commands.Reply.{Reply}
 use Rattle.obj_id.specs.declared.commands.Reply.TheVariants as reply
 use Rattle.private_store.specs.declared.inputs.Judged.{Judged}
@@ -22,10 +23,13 @@ abbrev pub is_finish : Event → Bool
 is_finish (event.Finish job number a) = true
 is_finish _ = false
 
--- whether it is the end of a job, which those are told of as well to whom the job granted objects
-abbrev pub is_job_end : Event → Bool
-is_job_end (event.JobEnd job) = true
-is_job_end _ = false
+-- whether it may give a hand or end some, which those are told of as well to whom objects are granted
+abbrev pub moves_hands : Event → Bool
+moves_hands (event.JobEnd job) = true
+moves_hands (event.Call job session (command.EndTask task)) = true
+moves_hands (event.Call job session (command.Grant id target)) = true
+moves_hands (event.Call job session (command.Withdraw id target)) = true
+moves_hands _ = false
 
 -- what an event with this answer was, if it is no Finish
 abbrev pub judged_as : Event → Reply (List ℕ) → Option Judged

@@ -2,7 +2,9 @@
 use Rattle.std.specs.Prelude.{◌≡◌, ℕ, Bool, true, false, List, length, Option, Some, None, is_some}
 use Rattle.obj_id.specs.declared.commands.Command.{Command}
 use Rattle.obj_id.specs.declared.commands.Command.TheVariants as command
+use Rattle.std.specs.Option.{option_map_or}
 use Rattle.obj_id.specs.declared.refusals.Refusal.{Refusal}
+use Rattle.obj_id.specs.declared.refusals.Refusal.TheVariants.{NotAdmitted}
 use Rattle.obj_id.specs.declared.commands.Reply.{Reply}
 use Rattle.obj_id.specs.declared.commands.Reply.TheVariants as reply
 use Rattle.private_store.specs.declared.inputs.Input.TheVariants as input
@@ -13,15 +15,18 @@ use Rattle.private_store.specs.declared.schedules.NodeEvent.TheVariants.{Own, Ar
 use Rattle.private_store.specs.Contents.{View}
 use Rattle.private_store.specs.Private.{view_step}
 use Rattle.obj_id.specs.declared.ids.JobNo.{JobNo}
+use Rattle.obj_id.specs.declared.ids.TaskNo.{TaskNo}
 use Rattle.job_admission.specs.Admissions.{live_at, admit_check}
 use Rattle.spill_work.specs.declared.queue.Asked.{Asked}
 use Rattle.spill_work.specs.Line.{front_of}
+use Rattle.grants.specs.Table.{grant_check, withdraw_check}
 use Rattle.node_table.specs.Row.{Row}
-use Rattle.node_table.specs.Checks.{early_check}
+use Rattle.node_table.specs.Checks.{early_check, end_task_check}
 use Rattle.node_table.specs.Granting.{peek_check}
 use Rattle.node_table.specs.Late.{may_grow}
 use Rattle.node_core.specs.Hosted.{Hosted, row_at, Shows, ShowsAll, bytes_here}
 use Rattle.node_core.specs.Calls.{is_own, takes_no_memory}
+use Rattle.node_core.specs.Granting.{grant_refusal}
 use Rattle.node_core.specs.Steps.{is_taken, answered, end_check, requota_check, stale_unless, take_told}
 
 -- the answer that an event is due
@@ -57,17 +62,23 @@ pub record IsUnrefused (row : Row) (job session : ℕ) (c : Command (List ℕ)) 
   pub passed : early_check row session c ≡ None
   pub grows : takes_no_memory (Some row) c ≡ false
 
--- why a command is refused by the hands that stand
-abbrev pub hands_check : Hosted → ℕ → Command (List ℕ) → Option Refusal
-hands_check node job (command.Peek id offset n) = peek_check node.hands job id (length (bytes_here node.rows id)) offset n
-hands_check node job _ = None
+-- why a command of the job with this row is refused by the hands that stand
+abbrev pub hands_check : Hosted → Row → ℕ → Command (List ℕ) → Option Refusal
+hands_check node row job (command.Grant id target) = grant_refusal row job id target.0 (grant_check node.hands job id target.0)
+hands_check node row job (command.Withdraw id target) = withdraw_check node.hands job id target.0
+hands_check node row job (command.Peek id offset n) = peek_check node.hands job id (length (bytes_here node.rows id)) offset n
+hands_check node row job _ = None
+
+-- why a task of a job with this row, or none, can't end
+abbrev pub task_refusal : Option Row → TaskNo → Option Refusal
+task_refusal own task = option_map_or (λ row. end_task_check row task) own (Some NotAdmitted)
 
 -- on the row of a live job
 pub record IsCallUnrefused (node : Hosted) (job : JobNo) (session : ℕ) (c : Command (List ℕ)) : Type 0 where
   pub row : Row
   pub found : row_at node job ≡ Some row
   pub unrefused : IsUnrefused row job.0 session c
-  pub by_hands : hands_check node job.0 c ≡ None
+  pub by_hands : hands_check node row job.0 c ≡ None
 
 -- a work that nobody has taken, of a job that has a row
 pub record IsFront (node : Hosted) : Type 0 where

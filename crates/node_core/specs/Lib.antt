@@ -1,6 +1,6 @@
 pub mod Hosted
-pub mod Built
 pub mod Granted
+pub mod Granting
 pub mod Steps
 pub mod Quotas
 pub mod OneJob

@@ -1,4 +1,4 @@
--- What a built event does at a node, told of one job at a time: it is an input of its own job alone.
+-- What an event that moves no hand does at a node, told of one job at a time: it is an input of its own job alone.
 use Rattle.std.specs.Prelude.{◌≡◌, ℕ, ◌==◌, if◌then◌else◌, not, ◌&&◌, List, [], filter, Option, Some, None}
 use Rattle.std.specs.Option.{option_map_or}
 use Rattle.obj_id.specs.declared.commands.Reply.{Reply}
@@ -8,7 +8,6 @@ use Rattle.private_store.specs.declared.inputs.Input.TheVariants as input
 use Rattle.private_store.specs.declared.schedules.Event.{Event}
 use Rattle.private_store.specs.declared.schedules.Event.TheVariants as event
 use Rattle.private_store.specs.Contents.{View}
-use Rattle.private_store.specs.Hands.{Hand}
 use Rattle.private_store.specs.Private.{view_step}
 use Rattle.spill_work.specs.Line.{WorkLine, is_of, is_at, marked}
 use Rattle.node_table.specs.Asked.{HasAsked}
@@ -75,11 +74,6 @@ IsLineAfter old (event.Finish job number a) told new = new.works ≡ filter (λ 
 IsLineAfter old (event.Call job session c) told new = HasAsked old job new
 IsLineAfter old _ _ new = new.works ≡ old.works
 
--- none of these hands ends by the event: a job ends while none stands
-abbrev pub IsLasting : Event → List Hand → Type 0
-IsLasting (event.JobEnd job) hands = hands ≡ []
-IsLasting _ hands = hands ≡ hands
-
 pub record StepsOne (old : Hosted) (e : Event) (given : Given) (new : Hosted) : Type 0 where
   pub number : new.number ≡ old.number
   -- every job's view is the private step of the view before on what the event is to that job
@@ -91,6 +85,5 @@ pub record StepsOne (old : Hosted) (e : Event) (given : Given) (new : Hosted) : 
   pub admissions : new.admissions ≡ admissions_after old.admissions (Own e) given.reply
   pub lives : lives_of new.admissions.live ≡ lives_after old.admissions.memory (lives_of old.admissions.live) (Own e) given.reply
   pub line : (v : ℕ → View) → ShowsAll old v → IsLineAfter old.works e given.reply new.works
-  -- the hands stand as they stood, and none of them ends
+  -- the hands stand as they stood
   pub hands : new.hands ≡ old.hands
-  pub lasting : IsLasting e old.hands

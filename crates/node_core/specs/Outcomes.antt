@@ -1,5 +1,5 @@
 -- What an event gives, as the private steps have it.
-use Rattle.std.specs.Prelude.{List, [], map}
+use Rattle.std.specs.Prelude.{ℕ, List, [], ◌∷◌, map}
 use Rattle.private_store.specs.declared.inputs.Judged.TheVariants as judged
 use Rattle.private_store.specs.Hands.{Hand}
 use Rattle.node_table.specs.Erased.{keys_of}
@@ -19,6 +19,10 @@ inputs_noted notes = map input_noted notes
 abbrev pub end_noted : Hand → JobJudged
 end_noted hand = record { job = hand.taker; input = judged.Withdrawn hand.id (record { 0 = hand.giver }) hand.depth }
 
+-- what a hand of an object of this length is to its taker
+abbrev pub received_noted : Hand → ℕ → JobJudged
+received_noted hand n = record { job = hand.taker; input = judged.Received hand.id n (record { 0 = hand.giver }) hand.depth }
+
 abbrev pub given_of : Outcome → Given
 given_of o =
     record {
@@ -31,6 +35,10 @@ given_of o =
 -- what a row gave, where no hand changed
 abbrev pub with_no_notes : RowGiven → Given
 with_no_notes given = record { reply = given.reply; posts = given.posts; erased = given.erased; notes = [] }
+
+-- where this hand of an object of this length was given
+abbrev pub with_given : RowGiven → Hand → ℕ → Given
+with_given given hand n = record { reply = given.reply; posts = given.posts; erased = given.erased; notes = received_noted hand n ∷ [] }
 
 -- where these hands ended
 abbrev pub with_ends : RowGiven → List Hand → Given

@@ -1,10 +1,9 @@
 //! What a node knows of an event before it is taken.
-ghost use Rattle.std.specs.Prelude.{◌≡◌, true, Some, IfOk, IsErrOf};
+ghost use Rattle.std.specs.Prelude.{◌≡◌, ◌∷◌, [], Some, IfOk, IsErrOf};
 ghost use Rattle.obj_id.specs.declared.refusals.Refusal.{Refusal};
 ghost use Rattle.obj_id.specs.declared.refusals.Refusal.TheVariants.{NoMemory};
 ghost use Rattle.node_core.specs.Hosted.{row_at};
-ghost use Rattle.node_core.specs.Built.{is_built};
-ghost use Rattle.node_core.specs.Foreseen.{most_by_arrival as most_by_arrival_lem, most_by_command as most_by_command_lem, most_messages as most_messages_lem, takers_of as takers_of_lem, takers_told};
+ghost use Rattle.node_core.specs.Foreseen.{takers_of_ended as takers_of_ended_lem, most_by_arrival as most_by_arrival_lem, most_by_command as most_by_command_lem, most_messages as most_messages_lem, takers_of as takers_of_lem, takers_told};
 
 use crate::Node;
 use bytes::Bytes;
@@ -24,7 +23,6 @@ pub struct Foreseen {
 impl Node {
     /// What the event will send, if it is taken now. Takes no memory and a look-up of the job, and changes nothing.
     pub fn foresee(&self, event: &Event) -> Foreseen
-        requires { is_built event.now ≡ true }
         ensures messages { result.most_messages ≡ most_messages_lem self.now event.now }
     {
         Foreseen {
@@ -47,15 +45,30 @@ impl Node {
     /// The jobs that the event tells of hands if it is accepted, one for each note, in their order. `NoMemory` alone is an
     /// error. It changes nothing.
     pub fn takers(&self, event: &Event) -> Result<Items<JobNo>, Refusal>
-        requires { is_built event.now ≡ true }
         ensures takers { IfOk result (λ takers. takers ≡ takers_of_lem self.now.hands event.now) }
         ensures memory { (r : Refusal) → IsErrOf result r → r ≡ NoMemory }
     {
-        let Event::JobEnd(job) = event else {
-            return Ok(Items::new(self.alloc));
+        match event {
+            Event::Call(_, _, Command::Grant(_, target)) => Ok(one_taker(self.alloc, *target)?),
+            _ => Ok(self.takers_of_ended(event)?),
+        }
+    }
+
+    /// The takers of the hands that end if the event is accepted, in the order in which they are told.
+    fn takers_of_ended(&self, event: &Event) -> Result<Items<JobNo>, AllocError>
+        ensures { IfOk result (λ takers. takers ≡ takers_of_ended_lem self.now.hands event.now) }
+    {
+        let ends = match event {
+            Event::JobEnd(job) => self.hands.ends_with_job(*job)?,
+            Event::Call(job, _, Command::EndTask(task)) => {
+                self.hands.ends_with_task(*job, *task)?
+            }
+            Event::Call(job, _, Command::Withdraw(id, target)) => {
+                self.hands.ends_with_hand(*job, *id, *target)?
+            }
+            _ => return Ok(Items::new(self.alloc)),
         };
-        let ended = self.hands.ends_with_job(*job)?;
-        Ok(takers_of(self.alloc, ended.as_slice())?)
+        takers_of(self.alloc, ends.hands())
     }
 
     /// The most messages that the event sends.
@@ -70,7 +83,7 @@ impl Node {
     }
 
     /// The most messages that a command of the job sends: Create and Get may evict each of its copies, and Get asks for
-    /// the object as well.
+    /// the object as well. EndTask may doom each, and give up a borrow of each.
     fn most_by_command(&self, job: JobNo, command: &Command<Bytes>) -> usize
         ensures { result ≡ most_by_command_lem (row_at self.now job) command.now }
     {
@@ -83,10 +96,23 @@ impl Node {
                 Some(row) => row.copy_count() + 1,
                 None => 0,
             },
+            Command::EndTask(_) => match self.rows.get(&job) {
+                Some(row) => 2 * row.copy_count(),
+                None => 0,
+            },
             Command::Seal(_) | Command::Unpin(..) | Command::GiveUp(..) | Command::Delete(_) => 1,
             _ => 0,
         }
     }
+}
+
+/// One taker.
+fn one_taker(alloc: Global, taker: JobNo) -> Result<Items<JobNo>, AllocError>
+    ensures { IfOk result (λ takers. takers ≡ taker ∷ []) }
+{
+    let mut takers = Vec::with_capacity(alloc, 1)?;
+    takers.push(taker)?;
+    Ok(Items::from_vec(takers))
 }
 
 /// The takers of the hands, in their order.

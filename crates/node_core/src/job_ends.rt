@@ -38,11 +38,12 @@ impl Node {
         let erase = row.device_keys(self.alloc)?;
         let message = Message::ToDirectory(DirectoryMessage::EndJob(self.number));
         let messages = node_table::Outcome::one_message(self.alloc, Place::Directory, message)?;
-        let notes = Vec::with_capacity(self.alloc, self.hands.len())?;
-        let ended = self.hands.drop_job(job)?;
+        let ends = self.hands.ends_with_job(job)?;
+        let notes = Vec::with_capacity(self.alloc, ends.hands().len())?;
         let Ok(()) = self.admission.finish_job(job) else {
             unreachable!()
         };
+        self.hands.take_out(&ends);
         self.works.drop_job(job);
         self.rows.shift_remove(&job);
         let outcome = node_table::Outcome {
@@ -51,6 +52,6 @@ impl Node {
             erase,
         };
         let judged = Some(Judged::End);
-        Ok(Outcome::with_ends(outcome, notes, ended.as_slice(), judged))
+        Ok(Outcome::with_ends(outcome, notes, ends.hands(), judged))
     }
 }

@@ -1,7 +1,7 @@
 //! What an event was to its own job, without contents.
 ghost use Rattle.std.specs.Prelude.{◌≡◌};
 ghost use Rattle.private_store.specs.Contents.{brief as brief_lem};
-ghost use Rattle.node_core.specs.Judged.{if_ok as if_ok_lem, judged_as as judged_as_lem};
+ghost use Rattle.node_core.specs.Judged.{if_ok as if_ok_lem, judged_as as judged_as_lem, moves_hands as moves_hands_lem};
 
 use bytes::Bytes;
 use obj_id::{Command, Reply};
@@ -17,6 +17,20 @@ pub(crate) fn judged_as(event: &Event, reply: &Reply<Bytes>) -> Option<Judged>
         Event::JobEnd(_) => if_ok(reply, Judged::End),
         Event::Call(_, session, command) => Some(Judged::Call(*session, brief(command))),
         Event::Take | Event::Finish(..) => None,
+    }
+}
+
+/// Whether the event may give a hand or end some.
+pub(crate) fn moves_hands(event: &Event) -> bool
+    ensures { result ≡ moves_hands_lem event.now }
+{
+    match event {
+        Event::JobEnd(_) => true,
+        Event::Call(_, _, command) => match command {
+            Command::EndTask(_) | Command::Grant(..) | Command::Withdraw(..) => true,
+            _ => false,
+        },
+        _ => false,
     }
 }
 

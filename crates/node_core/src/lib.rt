@@ -16,27 +16,27 @@ ghost use Rattle.private_store.specs.declared.schedules.NodeEvent.TheVariants as
 ghost use Rattle.node_core.specs.Calls.{takes_no_memory, is_frugal};
 ghost use Rattle.node_core.specs.Hosted.{Shows, row_at};
 ghost use Rattle.node_core.specs.Borrowed.{borrowed_check, IsBorrowed};
-ghost use Rattle.node_core.specs.Built.{is_built, is_built_command};
 ghost use Rattle.node_core.specs.Steps.{Steps};
 ghost use Rattle.node_core.specs.Late.{IsCallUnrefused, IsEventUnrefused, IsLate};
 ghost use Rattle.node_core.specs.OneJob.{StepsOne};
 ghost use Rattle.node_core.specs.Outcomes.{given_of};
 ghost use Rattle.node_core.specs.Foreseen.{most_by_command, most_messages, AreTakers};
-ghost use Rattle.node_core.specs.Judged.{is_finish, is_job_end, IsJudged, SeesFew, IsSmall};
+ghost use Rattle.node_core.specs.Judged.{is_finish, moves_hands, judged_as, IsJudged, SeesFew, IsSmall};
 
 mod arrivals;
-mod built;
 mod calls;
 mod device_works;
 mod foreseen;
+mod granting;
 mod job_ends;
 mod judged;
 mod listing;
 mod outcome;
 mod peeking;
+mod plain;
 mod quotas;
+mod task_ends;
 
-pub use built::{is_built, is_built_command};
 use bytes::Bytes;
 pub use foreseen::Foreseen;
 use grants::Grants;
@@ -103,7 +103,6 @@ impl Node {
     /// `foresee` says, tells of hands the jobs that `takers` says, and says what it was to its own job. The reply to a command
     /// has a frame.
     pub fn apply(&mut self, event: &Event) -> Result<Outcome, Refusal>
-        requires { is_built event.now ≡ true }
         ensures ok { IfOk result (λ o. Steps self.old (node_event.Own event.now) (given_of o) self.new) }
         ensures late { OnErr result (IsLate self.old (node_event.Own event.now)) }
         ensures few { IfOk result (λ o. length o.messages ≤ most_messages self.old event.now) }
@@ -119,8 +118,8 @@ impl Node {
             let (outcome, judged) = self.finish(*job, *number, answer);
             return Ok(Outcome::of_row(self.alloc, outcome, judged));
         }
-        if let Event::JobEnd(job) = event {
-            return self.end_job(*job);
+        if judged::moves_hands(event) {
+            return self.move_hands(event);
         }
         let outcome = self.step_one(event)?;
         let judged = judged::judged_as(event, &outcome.reply);
@@ -134,11 +133,36 @@ impl Node {
         let _ = self.admission.live_jobs();
     }
 
-    /// The same of all but a Finish and the end of a job: what ends no hand and gives none.
+    /// A step of what may end hands or give one.
+    fn move_hands(&mut self, event: &Event) -> Result<Outcome, Refusal>
+        requires moves { moves_hands event.now ≡ true }
+        ensures ok { IfOk result (λ o. Steps self.old (node_event.Own event.now) (given_of o) self.new) }
+        ensures few { IfOk result (λ o. length o.messages ≤ most_messages self.old event.now) }
+        ensures judged { IfOk result (λ o. o.judged ≡ judged_as event.now o.reply) }
+        ensures takers { IfOk result (λ o. AreTakers self.old.hands event.now o.reply (map (λ note. note.job) o.notes)) }
+        ensures late { OnErr result (IsEventUnrefused self.old event.now) }
+        ensures memory { (r : Refusal) → IsErrOf result r → r ≡ NoMemory }
+        ensures err { OnErr result (self.new ≡ self.old) }
+    {
+        match event {
+            Event::JobEnd(job) => self.end_job(*job),
+            Event::Call(job, session, Command::Grant(id, target)) => {
+                self.grant(*job, *session, id, *target)
+            }
+            Event::Call(job, session, Command::Withdraw(id, target)) => {
+                self.withdraw(*job, *session, id, *target)
+            }
+            Event::Call(job, session, Command::EndTask(task)) => {
+                self.end_task(*job, *session, *task)
+            }
+            _ => unreachable!(),
+        }
+    }
+
+    /// A step of all else but a Finish.
     fn step_one(&mut self, event: &Event) -> Result<node_table::Outcome, Refusal>
-        requires built { is_built event.now ≡ true }
         requires other { is_finish event.now ≡ false }
-        requires lasting { is_job_end event.now ≡ false }
+        requires lasting { moves_hands event.now ≡ false }
         ensures ok { IfOk result (λ o. StepsOne self.old event.now (row_given_of o) self.new) }
         ensures few { IfOk result (λ o. length o.messages ≤ most_messages self.old event.now) }
         ensures late { OnErr result (IsEventUnrefused self.old event.now) }
@@ -202,15 +226,15 @@ impl Node {
         row.lend(session, id)
     }
 
-    /// A session's command: its job's row carries it out, but for List and Peek, which read other rows too. `NotAdmitted` where the
-    /// job isn't live.
+    /// A session's command that ends no hand and gives none: its job's row carries it out, but for List and Peek, which
+    /// read other rows too. `NotAdmitted` where the job isn't live.
     fn call(
         &mut self,
         job: JobNo,
         session: u32,
         command: &Command<Bytes>,
     ) -> Result<node_table::Outcome, Refusal>
-        requires { is_built_command command.now ≡ true }
+        requires lasting { moves_hands (event.Call job session command.now) ≡ false }
         ensures ok { IfOk result (λ o. StepsOne self.old (event.Call job session command.now) (row_given_of o) self.new) }
         ensures few { IfOk result (λ o. length o.messages ≤ most_by_command (row_at self.old job) command.now) }
         ensures late { OnErr result (IsCallUnrefused self.old job session command.now) }

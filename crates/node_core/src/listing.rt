@@ -64,7 +64,7 @@ impl Node {
     }
 
     /// The length of an object of which a hand stands, as the row of its own job has it.
-    fn granted_length(&self, id: &ObjectId) -> u32
+    pub(crate) fn granted_length(&self, id: &ObjectId) -> u32
         ensures { result ≡ length (bytes_here self.now.rows id.now) }
     {
         match self.rows.get(&id.job()) {

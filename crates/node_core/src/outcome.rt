@@ -1,12 +1,14 @@
 //! What an event gives at a node.
 ghost use Rattle.std.specs.Prelude.{◌≡◌, ◌≤◌, [], length, vec_len, vec_capacity};
+ghost use Rattle.obj_id.specs.declared.commands.Reply.TheVariants as reply;
 ghost use Rattle.node_table.specs.Outcomes.{given_of as row_given_of};
-ghost use Rattle.node_core.specs.Outcomes.{given_of, input_noted, end_noted, with_no_notes, with_ends};
+ghost use Rattle.node_table.specs.Shown.{only};
+ghost use Rattle.node_core.specs.Outcomes.{given_of, input_noted, end_noted, received_noted, with_no_notes, with_given, with_ends};
 
 use bytes::Bytes;
 use grants::Hand;
 use node_table::Erase;
-use obj_id::{Items, JobNo, Message, Place, Reply};
+use obj_id::{Items, JobNo, Message, Place, Refusal, Reply};
 use private_store::Judged;
 use std::alloc::Global;
 
@@ -50,6 +52,40 @@ impl Outcome {
         }
     }
 
+    /// A refusal, which changed nothing. Takes no memory.
+    pub(crate) fn refused(alloc: Global, refusal: Refusal, judged: Option<Judged>) -> Outcome
+        ensures given { given_of result ≡ with_no_notes (only (reply.Refused refusal)) }
+        ensures notes { result.notes ≡ [] }
+        ensures judged { result.judged ≡ judged }
+    {
+        let outcome = node_table::Outcome::only(alloc, Reply::Refused(refusal));
+        Outcome::of_row(alloc, outcome, judged)
+    }
+
+    /// What a row gave, where this hand of an object of this length was given: `notes` is empty, and has room for one.
+    pub(crate) fn with_given(
+        outcome: node_table::Outcome,
+        notes: Vec<Note>,
+        hand: &Hand,
+        length: u32,
+        judged: Option<Judged>,
+    ) -> Outcome
+        requires empty { (notes.items ≡ []) × (vec_len notes ≡ 0) }
+        requires room { 1 ≤ vec_capacity notes }
+        ensures given { given_of result ≡ with_given (row_given_of outcome) hand.now length }
+        ensures judged { result.judged ≡ judged }
+    {
+        let mut notes = notes;
+        notes.push(received_note(hand, length)).unwrap();
+        Outcome {
+            reply: outcome.reply,
+            messages: outcome.messages,
+            erase: outcome.erase,
+            notes: Items::from_vec(notes),
+            judged,
+        }
+    }
+
     /// The same, where these hands end by it: `notes` is empty, and has room for a note of each.
     pub(crate) fn with_ends(
         outcome: node_table::Outcome,
@@ -73,6 +109,21 @@ impl Outcome {
             notes: Items::from_vec(notes),
             judged,
         }
+    }
+}
+
+/// What a hand of an object of this length is to its taker.
+fn received_note(hand: &Hand, length: u32) -> Note
+    ensures { input_noted result ≡ received_noted hand.now length }
+{
+    Note {
+        job: hand.taker(),
+        input: Judged::Received {
+            id: hand.id(),
+            length,
+            giver: hand.giver(),
+            depth: hand.depth(),
+        },
     }
 }
 

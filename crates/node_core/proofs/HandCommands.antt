@@ -1,0 +1,190 @@
+-- The row of a job takes a Grant or a Withdraw: of an own object by its copy, of another job's by the hands alone.
+use Rattle.std.proofs.Common.{◌≡◌, ℕ, ◌==◌, Bool, true, false, cond, not, List, Option, Some, None, refl, sym, ap, subst, ◌∙◌}
+use Rattle.std.specs.List.{list_any}
+use Rattle.std.proofs.lemmas.Bool.{eqb-true}
+use Rattle.obj_id.specs.declared.ids.JobNo.{JobNo}
+use Rattle.obj_id.specs.declared.ids.ObjectId.{ObjectId}
+use Rattle.obj_id.specs.declared.commands.Command.TheVariants as command
+use Rattle.obj_id.specs.declared.commands.Reply.TheVariants as reply
+use Rattle.obj_id.specs.declared.refusals.Refusal.{Refusal}
+use Rattle.obj_id.specs.declared.refusals.Refusal.TheVariants.{BadId, Gone, Absent, NotResident}
+use Rattle.obj_id.specs.Kinds.{is_primary}
+use Rattle.private_store.specs.declared.inputs.Input.{Input}
+use Rattle.private_store.specs.declared.inputs.Input.TheVariants as input
+use Rattle.private_store.specs.Copies.{is_sealed}
+use Rattle.private_store.specs.Change.{done, erasing, settled}
+use Rattle.private_store.specs.Commands.{is_sealed_primary}
+use Rattle.private_store.specs.Contents.{Contents, whole_reply}
+use Rattle.private_store.specs.Hands.{Hand, with_hand, hands_left, is_withdrawn}
+use Rattle.private_store.specs.Kept.{is_remembered}
+use Rattle.private_store.specs.Private.{view_step}
+use Rattle.private_store.specs.Tables.{at}
+use Rattle.private_store.proofs.Tests.{both_right}
+use Rattle.grants.specs.Private.{without_given}
+use Rattle.grants.specs.Table.{AreHands, is_first, is_no_taker, grant_check as table_check, withdraw_check}
+use Rattle.grants.proofs.Private.{refuses_alike}
+use Rattle.spill_work.specs.Line.{WorkLine}
+use Rattle.node_table.specs.Granting.{grant_check, grant_check_of, hands_granted}
+use Rattle.node_table.specs.Late.{may_grow}
+use Rattle.node_table.specs.Notes.{beside_rest}
+use Rattle.node_table.specs.Row.{Row, Beside, beside_of, shape_of}
+use Rattle.node_table.specs.Shown.{seen, IsShown, Given, only, TakesStep}
+use Rattle.node_table.proofs.ByChecks.{unless_refused, called}
+use Rattle.node_table.proofs.Granting.{grant_refused, grant_done, lend_refused, lend_done, withdraw_refused, give_back_done}
+use Rattle.node_table.proofs.Notes.{lengths, row_has_hands}
+use Rattle.node_table.proofs.Passed.{past, there, not_not}
+use Rattle.node_core.specs.Granting.{grant_refusal, TakesGrant, TakesWithdraw}
+use Rattle.node_core.proofs.Granted.{IsSealedCopy}
+
+-- ---- what a Grant that passed its checks says
+
+-- the table refuses it for nothing either
+check_passed : (row : Row) (id : ObjectId) (target : ℕ) (table : Option Refusal) → grant_check row id target table ≡ None
+    → IsSealedCopy row id × (table ≡ None)
+check_passed row id target table e =
+    let alive = past (is_remembered row.ended_tasks id.task) Gone _ (past (is_no_taker id row.job target) BadId _ e).1 in
+    let k = there (λ k. grant_check_of k table) Absent (at row.copies id) alive.1 in
+    let resides = past (not (is_sealed_primary k.0.copy)) NotResident table (past k.0.copy.doomed Absent _ k.2).1 in
+    (record { kept = k.0; found = k.1; sealed = both_right (is_primary k.0.copy.kind) (is_sealed k.0.copy.state) (not_not (is_sealed_primary k.0.copy) resides.0) }, resides.1)
+
+pub table_passed : (row : Row) (job : ℕ) (id : ObjectId) (target : ℕ) (table : Option Refusal) → grant_refusal row job id target table ≡ None → table ≡ None
+table_passed row job id target table = by (id.job.0 == job)
+  where
+    by : (b : Bool) → cond b (grant_check row id target table) table ≡ None → table ≡ None
+    by true e = (check_passed row id target table e).1
+    by false e = e
+
+-- an own object has a sealed copy
+pub own_sealed : (row : Row) (job : ℕ) (id : ObjectId) (target : ℕ) (table : Option Refusal) → (id.job.0 == job) ≡ true → grant_refusal row job id target table ≡ None → IsSealedCopy row id
+own_sealed row job id target table mine e = (check_passed row id target table (ap (λ b. cond b (grant_check row id target table) table) (sym mine) ∙ e)).0
+
+-- another job's object, as a test of the job numbers tells of it
+pub foreign_is : (id : ObjectId) (job its : JobNo) → its ≡ id.job → (its.0 ≡ job.0 → ⊥) → (id.job.0 == job.0) ≡ false
+foreign_is id job its is other = by (id.job.0 == job.0) refl
+  where
+    by : (b : Bool) → (id.job.0 == job.0) ≡ b → b ≡ false
+    by false e = refl
+    by true e = absurd (other (ap (λ (j : JobNo). j.0) is ∙ eqb-true id.job.0 job.0 e))
+
+-- ---- the steps
+
+module _ (old new : Row) (job : JobNo) (session : ℕ) (id : ObjectId) (target : JobNo) (told : Given) where
+  -- of an own object by what the row's own call says
+  pub own_given : (mine : (id.job.0 == job.0) ≡ true) (table : Option Refusal) → grant_refusal old job.0 id target.0 table ≡ None
+      → ((node : ℕ) (line : WorkLine) (hands : List Hand) (bytes : ObjectId → List ℕ) (contents : Contents) → (id.job.0 == old.job) ≡ true
+      → table ≡ table_check hands old.job id target.0 → IsShown old (beside_of line hands bytes old.job) contents
+      → TakesStep node old (beside_of line hands bytes old.job) contents (input.Call session (command.Grant id target)) told new
+      (beside_of line (hands_granted (grant_check old id target.0 table) hands id old.job target.0) bytes old.job))
+      → TakesGrant old job.0 session id target told new
+  own_given mine table passed step node line hands bytes contents own refused shown =
+      let none = table_passed old job.0 id target.0 table passed in
+      let says = table_passed old job.0 id target.0 (table_check hands job.0 id target.0) refused in
+      let its = ap (λ b. cond b (grant_check old id target.0 table) table) (sym mine) ∙ passed in
+      subst (λ n. TakesStep node old (beside_of line hands bytes n) contents (input.Call session (command.Grant id target)) told new (beside_of line (with_hand hands id n target.0) bytes n)) own
+      (subst (λ o. TakesStep node old (beside_of line hands bytes old.job) contents (input.Call session (command.Grant id target)) told new (beside_of line (hands_granted o hands id old.job target.0) bytes old.job)) its
+      (step node line hands bytes contents (ap (λ n. id.job.0 == n) own ∙ mine) (none ∙ sym says ∙ ap (λ n. table_check hands n id target.0) (sym own))
+      (subst (λ n. IsShown old (beside_of line hands bytes n) contents) (sym own) shown)))
+
+  pub own_withdrawn : (mine : (id.job.0 == job.0) ≡ true) (granted : Bool)
+      → ((node : ℕ) (line : WorkLine) (hands : List Hand) (bytes : ObjectId → List ℕ) (contents : Contents) → AreHands hands → (id.job.0 == old.job) ≡ true
+      → withdraw_check hands old.job id target.0 ≡ None → granted ≡ list_any (is_first id) (hands_left (is_withdrawn old.job id target.0) hands)
+      → IsShown old (beside_of line hands bytes old.job) contents
+      → TakesStep node old (beside_of line hands bytes old.job) contents (input.Call session (command.Withdraw id target)) told new
+      (beside_rest line (is_withdrawn old.job id target.0) hands bytes old.job))
+      → TakesWithdraw old job.0 session id target granted told new
+  own_withdrawn mine granted step node line hands bytes contents table own stands says shown =
+      subst (λ n. TakesStep node old (beside_of line hands bytes n) contents (input.Call session (command.Withdraw id target)) told new (beside_rest line (is_withdrawn n id target.0) hands bytes n)) own
+      (step node line hands bytes contents table (ap (λ n. id.job.0 == n) own ∙ mine) (ap (λ n. withdraw_check hands n id target.0) own ∙ stands)
+      (says ∙ ap (λ n. list_any (is_first id) (hands_left (is_withdrawn n id target.0) hands)) (sym own))
+      (subst (λ n. IsShown old (beside_of line hands bytes n) contents) (sym own) shown))
+
+module _ (row : Row) (job : JobNo) (session : ℕ) (id : ObjectId) (target : JobNo) where
+  -- of another job's object the row stays
+  pub handed_on : (id.job.0 == job.0) ≡ false → TakesGrant row job.0 session id target (only reply.Ok) row
+  handed_on foreign node line hands bytes contents own passed shown =
+      subst (λ n. TakesStep node row (beside_of line hands bytes n) contents (input.Call session (command.Grant id target)) (only reply.Ok) row (beside_of line (with_hand hands id n target.0) bytes n)) own
+      (lend_done node line hands bytes row contents session id target (subst (λ n. IsShown row (beside_of line hands bytes n) contents) (sym own) shown)
+      (ap (λ n. id.job.0 == n) own ∙ foreign)
+      (ap (λ n. table_check hands n id target.0) own ∙ table_passed row job.0 id target.0 (table_check hands job.0 id target.0) passed))
+
+  pub taken_back : (granted : Bool) → (id.job.0 == job.0) ≡ false → TakesWithdraw row job.0 session id target granted (only reply.Ok) row
+  taken_back granted foreign node line hands bytes contents table own stands says shown =
+      subst (λ n. TakesStep node row (beside_of line hands bytes n) contents (input.Call session (command.Withdraw id target)) (only reply.Ok) row (beside_rest line (is_withdrawn n id target.0) hands bytes n)) own
+      (give_back_done node line hands bytes row contents session id target (subst (λ n. IsShown row (beside_of line hands bytes n) contents) (sym own) shown)
+      (ap (λ n. id.job.0 == n) own ∙ foreign) (ap (λ n. withdraw_check hands n id target.0) own ∙ stands))
+
+-- ---- refusals, and what is due where there is none
+
+module _ (node : ℕ) (line : WorkLine) (hands : List Hand) (bytes : ObjectId → List ℕ) (row : Row) (contents : Contents) (session : ℕ) (id : ObjectId) (target : JobNo)
+    (h : IsShown row (beside_of line hands bytes row.job) contents) where
+  abbrev beside : Beside
+  beside = beside_of line hands bytes row.job
+
+  abbrev asks : Input
+  asks = input.Call session (command.Grant id target)
+
+  abbrev ending : Input
+  ending = input.Call session (command.Withdraw id target)
+
+  abbrev table : Option Refusal
+  table = table_check hands row.job id target.0
+
+  refused_here : (r : Refusal) → grant_refusal row row.job id target.0 table ≡ Some r → TakesStep node row beside contents asks (only (reply.Refused r)) row beside
+  refused_here r = by (id.job.0 == row.job) refl
+    where
+      by : (b : Bool) → (id.job.0 == row.job) ≡ b → cond b (grant_check row id target.0 table) table ≡ Some r → TakesStep node row beside contents asks (only (reply.Refused r)) row beside
+      by true mine e =
+          subst (λ o. TakesStep node row beside contents asks (only (reply.Refused r)) row (beside_of line (hands_granted o hands id row.job target.0) bytes row.job)) e
+          (grant_refused node line hands bytes row contents session id target h mine table refl r e)
+      by false foreign e = lend_refused node line hands bytes row contents session id target h foreign r e
+
+  -- a Grant that passed its checks
+  grant_due : grant_refusal row row.job id target.0 table ≡ None → (view_step node (seen row beside contents) asks).reply ≡ reply.Ok
+  grant_due = by (id.job.0 == row.job) refl
+    where
+      by : (b : Bool) → (id.job.0 == row.job) ≡ b → cond b (grant_check row id target.0 table) table ≡ None → (view_step node (seen row beside contents) asks).reply ≡ reply.Ok
+      by true mine e = sym (grant_done node line hands bytes row contents session id target h mine table refl e).reply
+      by false foreign e = sym (lend_done node line hands bytes row contents session id target h foreign e).reply
+
+  -- a Withdraw of a hand that stands
+  withdraw_due : withdraw_check hands row.job id target.0 ≡ None → (view_step node (seen row beside contents) ending).reply ≡ reply.Ok
+  withdraw_due stands =
+      let whole = shape_of row beside in
+      let c = done (settled (without_given whole hands id target.0) id) in
+      ap (λ d. whole_reply (seen row beside contents) ending d.reply)
+      (called row beside session (command.Withdraw id target)
+      ∙ ap (erasing whole) ((refuses_alike (lengths bytes) hands whole (row_has_hands line hands bytes row)).withdrawal id target.0
+      ∙ ap (λ o. unless_refused whole o c) stands))
+
+module _ (node : ℕ) (line : WorkLine) (hands : List Hand) (bytes : ObjectId → List ℕ) (job : JobNo) (row : Row) (contents : Contents) (session : ℕ) (id : ObjectId) (target : JobNo) (own : row.job ≡ job.0)
+    (h : IsShown row (beside_of line hands bytes job.0) contents) where
+  at_home : IsShown row (beside_of line hands bytes row.job) contents
+  at_home = subst (λ n. IsShown row (beside_of line hands bytes n) contents) (sym own) h
+
+  pub refused_grant : (r : Refusal) → grant_refusal row job.0 id target.0 (table_check hands job.0 id target.0) ≡ Some r
+      → TakesStep node row (beside_of line hands bytes job.0) contents (input.Call session (command.Grant id target)) (only (reply.Refused r)) row (beside_of line hands bytes job.0)
+  refused_grant r e =
+      subst (λ n. TakesStep node row (beside_of line hands bytes n) contents (input.Call session (command.Grant id target)) (only (reply.Refused r)) row (beside_of line hands bytes n)) own
+      (refused_here node line hands bytes row contents session id target at_home r
+      (ap (λ n. grant_refusal row n id target.0 (table_check hands n id target.0)) own ∙ e))
+
+  pub refused_withdraw : (r : Refusal) → withdraw_check hands job.0 id target.0 ≡ Some r
+      → TakesStep node row (beside_of line hands bytes job.0) contents (input.Call session (command.Withdraw id target)) (only (reply.Refused r)) row (beside_of line hands bytes job.0)
+  refused_withdraw r e =
+      subst (λ n. TakesStep node row (beside_of line hands bytes n) contents (input.Call session (command.Withdraw id target)) (only (reply.Refused r)) row (beside_of line hands bytes n)) own
+      (withdraw_refused node line hands bytes row contents session id target at_home r (ap (λ n. withdraw_check hands n id target.0) own ∙ e))
+
+  -- such a one may want memory
+  pub grant_late : grant_refusal row job.0 id target.0 (table_check hands job.0 id target.0) ≡ None
+      → may_grow (shape_of row (beside_of line hands bytes job.0)) (view_step node (seen row (beside_of line hands bytes job.0) contents) (input.Call session (command.Grant id target))).reply ≡ true
+  grant_late e =
+      subst (λ n. may_grow (shape_of row (beside_of line hands bytes n)) (view_step node (seen row (beside_of line hands bytes n) contents) (input.Call session (command.Grant id target))).reply ≡ true) own
+      (ap (may_grow (shape_of row (beside_of line hands bytes row.job)))
+      (grant_due node line hands bytes row contents session id target at_home (ap (λ n. grant_refusal row n id target.0 (table_check hands n id target.0)) own ∙ e)))
+
+  pub withdraw_late : withdraw_check hands job.0 id target.0 ≡ None
+      → may_grow (shape_of row (beside_of line hands bytes job.0)) (view_step node (seen row (beside_of line hands bytes job.0) contents) (input.Call session (command.Withdraw id target))).reply ≡ true
+  withdraw_late e =
+      subst (λ n. may_grow (shape_of row (beside_of line hands bytes n)) (view_step node (seen row (beside_of line hands bytes n) contents) (input.Call session (command.Withdraw id target))).reply ≡ true) own
+      (ap (may_grow (shape_of row (beside_of line hands bytes row.job)))
+      (withdraw_due node line hands bytes row contents session id target at_home (ap (λ n. withdraw_check hands n id target.0) own ∙ e)))

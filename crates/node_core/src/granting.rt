@@ -1,0 +1,153 @@
+//! Grant and Withdraw, and what they are to those to whom objects are granted.
+ghost use Rattle.std.specs.Prelude.{◌≡◌, [], None, map, IfOk, OnErr, IsErrOf};
+ghost use Rattle.obj_id.specs.declared.commands.Command.TheVariants as command;
+ghost use Rattle.obj_id.specs.declared.commands.Reply.TheVariants as reply;
+ghost use Rattle.obj_id.specs.declared.refusals.Refusal.{Refusal};
+ghost use Rattle.obj_id.specs.declared.refusals.Refusal.TheVariants.{NoMemory};
+ghost use Rattle.private_store.specs.declared.schedules.Event.TheVariants as event;
+ghost use Rattle.private_store.specs.declared.schedules.NodeEvent.TheVariants as node_event;
+ghost use Rattle.node_table.specs.Outcomes.{given_of as row_given_of};
+ghost use Rattle.node_core.specs.Foreseen.{AreTakers};
+ghost use Rattle.node_core.specs.Granting.{grant_refusal as grant_refusal_lem, TakesGrant, TakesWithdraw};
+ghost use Rattle.node_core.specs.Judged.{judged_as};
+ghost use Rattle.node_core.specs.Late.{IsCallUnrefused};
+ghost use Rattle.node_core.specs.Outcomes.{given_of};
+ghost use Rattle.node_core.specs.Steps.{Steps};
+
+use crate::Node;
+use crate::outcome::Outcome;
+use node_table::JobRow;
+use obj_id::{Command, JobNo, ObjectId, Refusal, Reply};
+use private_store::Judged;
+use std::alloc::Global;
+
+impl Node {
+    /// Grants an object, the job's own or one that it was granted, to the target, live or not: the target is told.
+    /// `NotAdmitted` where the job isn't live; of an own object `BadId`, `Gone`, `Absent`, `NotResident`, `Exists` or
+    /// `TooMany`, of another's `BadId`, `NotGranted`, `Exists` or `TooMany`. The error is out of memory, and then nothing
+    /// has changed.
+    pub(crate) fn grant(
+        &mut self,
+        job: JobNo,
+        session: u32,
+        id: &ObjectId,
+        target: JobNo,
+    ) -> Result<Outcome, Refusal>
+        ensures ok { IfOk result (λ o. Steps self.old (node_event.Own (event.Call job session (command.Grant id.now target))) (given_of o) self.new) }
+        ensures silent { IfOk result (λ o. o.messages ≡ []) }
+        ensures judged { IfOk result (λ o. o.judged ≡ judged_as (event.Call job session (command.Grant id.now target)) o.reply) }
+        ensures takers { IfOk result (λ o. AreTakers self.old.hands (event.Call job session (command.Grant id.now target)) o.reply (map (λ note. note.job) o.notes)) }
+        ensures late { OnErr result (IsCallUnrefused self.old job session (command.Grant id.now target)) }
+        ensures memory { (r : Refusal) → IsErrOf result r → r ≡ NoMemory }
+        ensures err { OnErr result (self.new ≡ self.old) }
+    {
+        let judged = Some(Judged::Call(session, Command::Grant(*id, target)));
+        let length = self.granted_length(id);
+        let Some(row) = self.rows.get_mut(&job) else {
+            return Ok(Outcome::refused(self.alloc, Refusal::NotAdmitted, judged));
+        };
+        let table = self.hands.grant_check(job, *id, target);
+        if let Some(refusal) = grant_refusal(row, job, id, target, table) {
+            return Ok(Outcome::refused(self.alloc, refusal, judged));
+        }
+        let notes = Vec::with_capacity(self.alloc, 1)?;
+        let Ok(hand) = self.hands.grant(job, *id, target) else {
+            return Err(Refusal::NoMemory);
+        };
+        let outcome = give(self.alloc, job, row, session, id, target, table);
+        Ok(Outcome::with_given(outcome, notes, &hand, length, judged))
+    }
+
+    /// Takes back from the target an object that the job granted to it: the hand ends, with all that hang on it, and
+    /// each taker is told. `NotAdmitted` where the job isn't live, `NotGranted` where no such hand stands. The error is
+    /// out of memory, and then nothing has changed.
+    pub(crate) fn withdraw(
+        &mut self,
+        job: JobNo,
+        session: u32,
+        id: &ObjectId,
+        target: JobNo,
+    ) -> Result<Outcome, Refusal>
+        ensures ok { IfOk result (λ o. Steps self.old (node_event.Own (event.Call job session (command.Withdraw id.now target))) (given_of o) self.new) }
+        ensures silent { IfOk result (λ o. o.messages ≡ []) }
+        ensures judged { IfOk result (λ o. o.judged ≡ judged_as (event.Call job session (command.Withdraw id.now target)) o.reply) }
+        ensures takers { IfOk result (λ o. AreTakers self.old.hands (event.Call job session (command.Withdraw id.now target)) o.reply (map (λ note. note.job) o.notes)) }
+        ensures late { OnErr result (IsCallUnrefused self.old job session (command.Withdraw id.now target)) }
+        ensures memory { (r : Refusal) → IsErrOf result r → r ≡ NoMemory }
+        ensures err { OnErr result (self.new ≡ self.old) }
+    {
+        let judged = Some(Judged::Call(session, Command::Withdraw(*id, target)));
+        let Some(row) = self.rows.get_mut(&job) else {
+            return Ok(Outcome::refused(self.alloc, Refusal::NotAdmitted, judged));
+        };
+        if !self.hands.has_given(job, *id, target) {
+            return Ok(Outcome::refused(self.alloc, Refusal::NotGranted, judged));
+        }
+        let notes = Vec::with_capacity(self.alloc, self.hands.len())?;
+        let Ok(ended) = self.hands.withdraw(job, *id, target) else {
+            return Err(Refusal::NoMemory);
+        };
+        let granted = self.hands.is_granted(*id);
+        let outcome = let_go(self.alloc, job, row, session, id, target, granted);
+        Ok(Outcome::with_ends(outcome, notes, ended.as_slice(), judged))
+    }
+}
+
+/// Why the job of this row can't grant the object to the target, where this is what the table of hands says. Of another
+/// job's object the table alone decides.
+fn grant_refusal(
+    row: &JobRow,
+    job: JobNo,
+    id: &ObjectId,
+    target: JobNo,
+    table: Option<Refusal>,
+) -> Option<Refusal>
+    ensures { result ≡ grant_refusal_lem row.now job.0 id.now target.0 table }
+{
+    if id.job().0 == job.0 {
+        return row.grant_check(id, target, table);
+    }
+    table
+}
+
+/// The step of the job's row by a Grant that nothing refuses. Takes no memory.
+fn give(
+    alloc: Global,
+    job: JobNo,
+    row: &mut JobRow,
+    session: u32,
+    id: &ObjectId,
+    target: JobNo,
+    table: Option<Refusal>,
+) -> node_table::Outcome
+    requires { grant_refusal_lem row.now job.0 id.now target.0 table ≡ None }
+    ensures step { TakesGrant row.old job.0 session id.now target (row_given_of result) row.new }
+    ensures reply { result.reply ≡ reply.Ok }
+    ensures silent { result.messages ≡ [] }
+{
+    if id.job().0 == job.0 {
+        return row.grant(alloc, session, id, target, table);
+    }
+    node_table::Outcome::only(alloc, Reply::Ok)
+}
+
+/// The step of the job's row by a Withdraw of a hand that stood, where hands of the object from its own job are left or
+/// none. Takes no memory.
+fn let_go(
+    alloc: Global,
+    job: JobNo,
+    row: &mut JobRow,
+    session: u32,
+    id: &ObjectId,
+    target: JobNo,
+    granted: bool,
+) -> node_table::Outcome
+    ensures step { TakesWithdraw row.old job.0 session id.now target granted (row_given_of result) row.new }
+    ensures reply { result.reply ≡ reply.Ok }
+    ensures silent { result.messages ≡ [] }
+{
+    if id.job().0 == job.0 {
+        return row.withdraw(alloc, session, id, target, granted);
+    }
+    node_table::Outcome::only(alloc, Reply::Ok)
+}
