@@ -1,6 +1,10 @@
 mod Logging
-mod Built
+mod OwnInputs
 mod Lists
 mod Telling
 mod Numbering
 mod Recording
+mod Lives
+mod Bases
+mod Rooms
+mod Bisected

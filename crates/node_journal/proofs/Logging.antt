@@ -1,41 +1,37 @@
--- A job's lines in place of what was there.
-use Rattle.std.proofs.Common.{◌≡◌, ℕ, Bool, true, false, cond, ◌==◌, ◌+◌, ◌≤◌, List, [], ◌++◌, Option, Some, None, refl, sym, ap, subst, ◌∙◌, arith}
+-- A job's journal in place of what was there.
+use Rattle.std.proofs.Common.{◌≡◌, ℕ, true, false, cond, ◌==◌, ◌+◌, ◌≤◌, List, Option, Some, None, refl, sym, ap, subst, ◌∙◌, arith}
 use Rattle.std.specs.Prelude.{if◌then◌else◌}
 use Rattle.std.specs.Option.{option_map_or}
 use Rattle.std.specs.Map.{lookup}
 use Rattle.std.proofs.lemmas.Bool.Decides.{nat_tests}
 use Rattle.obj_id.specs.declared.ids.JobNo.{JobNo}
 use Rattle.private_store.specs.Jobs.{same_job}
-use Rattle.node_journal.specs.declared.entries.Line.{Line}
-use Rattle.node_journal.specs.Logs.{JobLog, list_of, spare_of}
+use Rattle.node_journal.specs.Journals.{Journal, fresh, folded_if}
+use Rattle.node_journal.specs.Logs.{JobLog, journal_of, spare_of}
 
 same_number : (a b : ℕ) → (a == b) ≡ true → a ≡ b
 same_number a b t = grind (arith, nat_tests)
 
-abbrev pub list_in : Option JobLog → List Line
-list_in o = option_map_or (λ log. log.list) o []
+abbrev pub journal_in : ℕ → Option JobLog → Journal
+journal_in job o = option_map_or (λ log. log.journal) o (fresh job)
 
 abbrev pub spare_in : Option JobLog → ℕ
 spare_in o = option_map_or (λ log. log.spare) o 0
 
 module _ (job : JobNo) (old new : List (JobNo × JobLog)) (after : JobLog) (updated : (q : JobNo) → lookup (same_job q) new ≡ cond (same_job job q) (Some after) (lookup (same_job q) old)) where
-  pub list_more : (more : List Line) → after.list ≡ list_of old job.0 ++ more → (other : ℕ) → list_of new other ≡ (if job.0 == other then list_of old other ++ more else list_of old other)
-  list_more more is other =
+  pub journal_moved : (f : Journal → Journal) → after.journal ≡ f (journal_of old job.0) → (other : ℕ) → journal_of new other ≡ (if job.0 == other then f (journal_of old other) else journal_of old other)
+  journal_moved f is other =
       let q : JobNo = record { 0 = other } in
-      ap list_in (updated q)
-      ∙ elim (job.0 == other) as (λ b. (job.0 == other) ≡ b → list_in (cond b (Some after) (lookup (same_job q) old)) ≡ cond b (list_of old other ++ more) (list_of old other)) [
-        | true ↦ λ t. is ∙ ap (λ n. list_of old n ++ more) (same_number job.0 other t)
+      ap (journal_in other) (updated q)
+      ∙ elim (job.0 == other) as (λ b. (job.0 == other) ≡ b → journal_in other (cond b (Some after) (lookup (same_job q) old)) ≡ cond b (f (journal_of old other)) (journal_of old other)) [
+        | true ↦ λ t. is ∙ ap (λ n. f (journal_of old n)) (same_number job.0 other t)
         | false ↦ λ _. refl
       ] refl
 
-  pub list_kept : after.list ≡ list_of old job.0 → (other : ℕ) → list_of new other ≡ list_of old other
-  list_kept is other =
-      let q : JobNo = record { 0 = other } in
-      ap list_in (updated q)
-      ∙ elim (job.0 == other) as (λ b. (job.0 == other) ≡ b → list_in (cond b (Some after) (lookup (same_job q) old)) ≡ list_of old other) [
-        | true ↦ λ t. is ∙ ap (list_of old) (same_number job.0 other t)
-        | false ↦ λ _. refl
-      ] refl
+  pub journal_kept : after.journal ≡ journal_of old job.0 → (other : ℕ) → journal_of new other ≡ journal_of old other
+  journal_kept is other =
+      journal_moved (λ journal. journal) is other
+      ∙ elim (job.0 == other) as (λ b. cond b (journal_of old other) (journal_of old other) ≡ journal_of old other) [ true ↦ refl | false ↦ refl ]
 
   pub spare_left : (k : ℕ) → spare_of old job.0 ≤ after.spare + k → (other : ℕ) → spare_of old other ≤ spare_of new other + k
   spare_left k less other =
@@ -62,3 +58,13 @@ module _ (job : JobNo) (old new : List (JobNo × JobLog)) (after : JobLog) (upda
         | true ↦ λ _. refl
         | false ↦ λ t. absurd (grind (arith, nat_tests, t))
       ] refl
+
+-- a job that has none has nothing to fold
+pub none_folded : (job : JobNo) (logs : List (JobNo × JobLog)) → lookup (same_job job) logs ≡ None → (other : ℕ) → journal_of logs other ≡ folded_if (job.0 == other) (journal_of logs other)
+none_folded job logs none other =
+    elim (job.0 == other) as (λ b. (job.0 == other) ≡ b → journal_of logs other ≡ folded_if b (journal_of logs other)) [
+      | true ↦ λ t.
+          let own : journal_of logs other ≡ fresh other = ap (journal_of logs) (sym (same_number job.0 other t)) ∙ ap (journal_in job.0) none ∙ ap fresh (same_number job.0 other t) in
+          own ∙ ap (folded_if true) (sym own)
+      | false ↦ λ _. refl
+    ] refl

@@ -1,5 +1,5 @@
 -- Numbers of lines.
-use Rattle.std.proofs.Common.{◌≡◌, ℕ, ◌+◌, Bool, true, false, cond, ◌==◌, ◌&&◌, List, [], ◌∷◌, ◌++◌, map, append-nil, append_assoc, refl, ap, subst, sym, ◌∙◌, arith}
+use Rattle.std.proofs.Common.{◌≡◌, ℕ, ◌+◌, Bool, true, false, cond, ◌==◌, List, [], ◌∷◌, ◌++◌, map, append-nil, append_assoc, refl, ap, subst, sym, ◌∙◌, arith}
 use Rattle.std.specs.Prelude.{nat_lt, nat_le, if◌then◌else◌, filter}
 use Rattle.std.specs.List.{list_all}
 use Rattle.std.proofs.lemmas.Bool.Decides.{nat_tests}
@@ -8,7 +8,7 @@ use Rattle.node_core.specs.Steps.{JobJudged}
 use Rattle.node_journal.specs.declared.entries.Entry.{Entry}
 use Rattle.node_journal.specs.declared.entries.Line.{Line}
 use Rattle.node_journal.specs.declared.entries.Line.TheVariants as line
-use Rattle.node_journal.specs.Journals.{notes_for, step_of, follows, rise_above, AreNumbered}
+use Rattle.node_journal.specs.Journals.{Journal, fresh, notes_for, step_of, last_of, follows, rise_above, AreNumbered, folded_if, with_lines}
 
 abbrev all_within : ℕ → List Line → Bool
 all_within most ls = list_all (λ (l : Line). nat_le (step_of l) most) ls
@@ -23,12 +23,15 @@ within_more count (l ∷ ls) h =
     more : (n : ℕ) → nat_le n count ≡ true → nat_le n (count + 1) ≡ true
     more n t = grind (arith, nat_tests)
 
-within-snoc : (most : ℕ) (ls : List Line) (l : Line) → nat_le (step_of l) most ≡ true → all_within most ls ≡ true → all_within most (ls ++ l ∷ []) ≡ true
-within-snoc most [] l is h = both (nat_le (step_of l) most) true is refl
-within-snoc most (first ∷ ls) l is h =
-    both (nat_le (step_of first) most) (all_within most (ls ++ l ∷ []))
-    (both_left (nat_le (step_of first) most) (all_within most ls) h)
-    (within-snoc most ls l is (both_right (nat_le (step_of first) most) (all_within most ls) h))
+all-snoc : (test : Line → Bool) (ls : List Line) (l : Line) → test l ≡ true → list_all test ls ≡ true → list_all test (ls ++ l ∷ []) ≡ true
+all-snoc test [] l is h = both (test l) true is refl
+all-snoc test (first ∷ ls) l is h =
+    both (test first) (list_all test (ls ++ l ∷ [])) (both_left (test first) (list_all test ls) h) (all-snoc test ls l is (both_right (test first) (list_all test ls) h))
+
+-- the last number is one of them, or the first
+last_within : (most low : ℕ) (ls : List Line) → nat_le low most ≡ true → all_within most ls ≡ true → nat_le (last_of low ls) most ≡ true
+last_within most low [] le h = le
+last_within most low (l ∷ ls) le h = last_within most (step_of l) ls (both_left (nat_le (step_of l) most) (all_within most ls) h) (both_right (nat_le (step_of l) most) (all_within most ls) h)
 
 -- what follows the last number follows each one up to it
 follows_less : (low most : ℕ) (l : Line) → nat_le low most ≡ true → follows most l ≡ true → follows low l ≡ true
@@ -45,48 +48,70 @@ rise-snoc low most (first ∷ ls) l le f w h =
     (both_right (nat_le (step_of first) most) (all_within most ls) w)
     (both_right (follows low first) (rise_above (step_of first) ls) h))
 
-least : (n : ℕ) → nat_le 0 n ≡ true
-least n = grind (arith, nat_tests)
-
 within_itself : (n : ℕ) → nat_le n n ≡ true
 within_itself n = grind (arith, nat_tests)
 
 less_next : (n : ℕ) → nat_lt n (n + 1) ≡ true
 less_next n = grind (arith, nat_tests)
 
+le_next : (a b : ℕ) → nat_le a b ≡ true → nat_le a (b + 1) ≡ true
+le_next a b h = grind (arith, nat_tests, h)
+
+lt_next : (a b : ℕ) → nat_le a b ≡ true → nat_lt a (b + 1) ≡ true
+lt_next a b h = grind (arith, nat_tests, h)
+
 -- a note of the last step
-note_numbered : (count : ℕ) (ls : List Line) (x : JobJudged) → AreNumbered count ls → AreNumbered count (ls ++ line.Note count x.input ∷ [])
-note_numbered count ls x h = record {
-  rise = rise-snoc 0 count ls (line.Note count x.input) (least count) (within_itself count) h.most h.rise;
-  most = within-snoc count ls (line.Note count x.input) (within_itself count) h.most;
+note_numbered : (count : ℕ) (j : Journal) (x : JobJudged) → nat_lt j.covered count ≡ true → AreNumbered count j → AreNumbered count (with_lines j (line.Note count x.input ∷ []))
+note_numbered count j x past h = record {
+  covered = h.covered;
+  rise = rise-snoc j.covered count j.list (line.Note count x.input) h.covered (within_itself count) h.most h.rise;
+  above = all-snoc (λ l. nat_lt j.covered (step_of l)) j.list (line.Note count x.input) past h.above;
+  most = all-snoc (λ l. nat_le (step_of l) count) j.list (line.Note count x.input) (within_itself count) h.most;
 }
 
-notes_numbered : (count job : ℕ) (ls : List Line) (notes : List JobJudged) → AreNumbered count ls → AreNumbered count (ls ++ notes_for count notes job)
-notes_numbered count job ls notes h = by (filter (λ (note : JobJudged). note.job == job) notes) ls h
+notes_numbered : (count job : ℕ) (j : Journal) (notes : List JobJudged) → nat_lt j.covered count ≡ true → AreNumbered count j → AreNumbered count (with_lines j (notes_for count notes job))
+notes_numbered count job j notes past h = by (filter (λ (note : JobJudged). note.job == job) notes) j past h
   where
-    by : (xs : List JobJudged) (ls : List Line) → AreNumbered count ls → AreNumbered count (ls ++ map (λ (note : JobJudged). line.Note count note.input) xs)
-    by [] ls h = subst (AreNumbered count) (sym (append-nil ls)) h
-    by (x ∷ xs) ls h =
-        subst (AreNumbered count) (append_assoc ls (line.Note count x.input ∷ []) (map (λ (note : JobJudged). line.Note count note.input) xs))
-        (by xs (ls ++ line.Note count x.input ∷ []) (note_numbered count ls x h))
+    by : (xs : List JobJudged) (j : Journal) → nat_lt j.covered count ≡ true → AreNumbered count j → AreNumbered count (with_lines j (map (λ (note : JobJudged). line.Note count note.input) xs))
+    by [] j past h = subst (λ ls. AreNumbered count (record j { list = ls })) (sym (append-nil j.list)) h
+    by (x ∷ xs) j past h =
+        subst (λ ls. AreNumbered count (record j { list = ls })) (append_assoc j.list (line.Note count x.input ∷ []) (map (λ (note : JobJudged). line.Note count note.input) xs))
+        (by xs (with_lines j (line.Note count x.input ∷ [])) past (note_numbered count j x past h))
 
 -- an entry of the next step, of this job or another, and its notes
-pub all_numbered : (count job : ℕ) (own : Bool) (ls after : List Line) (entry : Entry) (notes : List JobJudged) → entry.number ≡ count + 1
-    → after ≡ ls ++ ((if own then line.Entry entry ∷ [] else []) ++ notes_for (count + 1) notes job) → AreNumbered count ls → AreNumbered (count + 1) after
-all_numbered count job own ls after entry notes is e h = subst (AreNumbered (count + 1)) (sym e) (by own)
+next_numbered : (count job : ℕ) (own : Bool) (j : Journal) (entry : Entry) (notes : List JobJudged) → entry.number ≡ count + 1
+    → AreNumbered count j → AreNumbered (count + 1) (with_lines j ((if own then line.Entry entry ∷ [] else []) ++ notes_for (count + 1) notes job))
+next_numbered count job own j entry notes is h = by own
   where
-    with_entry : AreNumbered (count + 1) (ls ++ line.Entry entry ∷ [])
+    past : nat_lt j.covered (count + 1) ≡ true
+    past = lt_next j.covered count h.covered
+
+    without : AreNumbered (count + 1) j
+    without = record { covered = le_next j.covered count h.covered; rise = h.rise; above = h.above; most = within_more count j.list h.most }
+
+    with_entry : AreNumbered (count + 1) (with_lines j (line.Entry entry ∷ []))
     with_entry = record {
-      rise = rise-snoc 0 count ls (line.Entry entry) (least count) (ap (nat_lt count) is ∙ less_next count) h.most h.rise;
-      most = within-snoc (count + 1) ls (line.Entry entry) (ap (λ n. nat_le n (count + 1)) is ∙ within_itself (count + 1)) (within_more count ls h.most);
+      covered = without.covered;
+      rise = rise-snoc j.covered count j.list (line.Entry entry) h.covered (ap (nat_lt count) is ∙ less_next count) h.most h.rise;
+      above = all-snoc (λ l. nat_lt j.covered (step_of l)) j.list (line.Entry entry) (ap (nat_lt j.covered) is ∙ past) h.above;
+      most = all-snoc (λ l. nat_le (step_of l) (count + 1)) j.list (line.Entry entry) (ap (λ n. nat_le n (count + 1)) is ∙ within_itself (count + 1)) (within_more count j.list h.most);
     }
 
-    without : AreNumbered (count + 1) ls
-    without = record { rise = h.rise; most = within_more count ls h.most }
+    by : (b : Bool) → AreNumbered (count + 1) (with_lines j (cond b (line.Entry entry ∷ []) [] ++ notes_for (count + 1) notes job))
+    by true = subst (λ ls. AreNumbered (count + 1) (record j { list = ls })) (append_assoc j.list (line.Entry entry ∷ []) (notes_for (count + 1) notes job)) (notes_numbered (count + 1) job (with_lines j (line.Entry entry ∷ [])) notes past with_entry)
+    by false = notes_numbered (count + 1) job j notes past without
 
-    by : (b : Bool) → AreNumbered (count + 1) (ls ++ (cond b (line.Entry entry ∷ []) [] ++ notes_for (count + 1) notes job))
-    by true = subst (AreNumbered (count + 1)) (append_assoc ls (line.Entry entry ∷ []) (notes_for (count + 1) notes job)) (notes_numbered (count + 1) job (ls ++ line.Entry entry ∷ []) notes with_entry)
-    by false = notes_numbered (count + 1) job ls notes without
+-- folding keeps that
+folded_numbered : (count : ℕ) (b : Bool) (j : Journal) → AreNumbered count j → AreNumbered count (folded_if b j)
+folded_numbered count true j h = record { covered = last_within count j.covered j.list h.covered h.most; rise = refl; above = refl; most = refl }
+folded_numbered count false j h = h
 
-pub none_numbered : (count : ℕ) (ls : List Line) → ls ≡ [] → AreNumbered count ls
-none_numbered count ls is = subst (AreNumbered count) (sym is) (record { rise = refl; most = refl })
+pub all_numbered : (count job : ℕ) (own full : Bool) (j after : Journal) (entry : Entry) (notes : List JobJudged) → entry.number ≡ count + 1
+    → after ≡ with_lines (folded_if full j) ((if own then line.Entry entry ∷ [] else []) ++ notes_for (count + 1) notes job) → AreNumbered count j → AreNumbered (count + 1) after
+all_numbered count job own full j after entry notes is e h = subst (AreNumbered (count + 1)) (sym e) (next_numbered count job own (folded_if full j) entry notes is (folded_numbered count full j h))
+
+pub fold_numbered : (count : ℕ) (b : Bool) (j after : Journal) → after ≡ folded_if b j → AreNumbered count j → AreNumbered count after
+fold_numbered count b j after e h = subst (AreNumbered count) (sym e) (folded_numbered count b j h)
+
+pub none_numbered : (job : ℕ) (j : Journal) → j ≡ fresh job → AreNumbered 0 j
+none_numbered job j is = subst (AreNumbered 0) (sym is) (record { covered = refl; rise = refl; above = refl; most = refl })

@@ -1,5 +1,5 @@
 -- What the record of a step needs, and what it adds.
-use Rattle.std.proofs.Common.{◌≡◌, ℕ, ◌==◌, ◌≤◌, ◌+◌, Bool, true, false, cond, ◌||◌, List, [], ◌∷◌, ◌++◌, length, map, append_assoc, refl, sym, ap, ◌∙◌, arith}
+use Rattle.std.proofs.Common.{◌≡◌, ℕ, ◌≤◌, ◌+◌, Bool, true, false, ◌||◌, List, [], ◌∷◌, ◌++◌, length, map, append_assoc, refl, sym, ap, ◌∙◌, arith}
 use Rattle.std.specs.Prelude.{if◌then◌else◌}
 use Rattle.std.specs.List.{list_any}
 use Rattle.std.proofs.lemmas.List.{length-map}
@@ -13,6 +13,7 @@ use Rattle.private_store.proofs.Tests.{true_false}
 use Rattle.node_core.specs.declared.outcome.Note.{Note}
 use Rattle.node_core.specs.Foreseen.{AreTakers, takers_of}
 use Rattle.node_journal.specs.declared.entries.Line.{Line}
+use Rattle.node_journal.specs.Journals.{Journal, with_lines}
 
 -- those that a step told of hands are among the jobs that it might tell, and no more
 any_mapped : (taker : JobNo) (notes : List Note) → list_any (same_job taker) (map (λ (note : Note). note.job) notes) ≡ list_any (λ (note : Note). same_job taker note.job) notes
@@ -52,7 +53,7 @@ room_left notes takers hands e told before after are is room left taker h =
     notes_fit (room taker w.0) (left taker.0) w.1
 
 -- an entry of this job or another, and notes after it
-pub added : (own : Bool) (first second third : List Line) (entry : Line) (notes : List Line) → second ≡ (if own then first ++ entry ∷ [] else first) → third ≡ second ++ notes
-    → third ≡ first ++ ((if own then entry ∷ [] else []) ++ notes)
-added true first second third entry notes is more = more ∙ ap (λ l. l ++ notes) is ∙ append_assoc first (entry ∷ []) notes
-added false first second third entry notes is more = more ∙ ap (λ l. l ++ notes) is
+pub added : (own : Bool) (first second third : Journal) (entry : Line) (notes : List Line) → second ≡ (if own then with_lines first (entry ∷ []) else first) → third ≡ with_lines second notes
+    → third ≡ with_lines first ((if own then entry ∷ [] else []) ++ notes)
+added true first second third entry notes is more = more ∙ ap (λ j. with_lines j notes) is ∙ ap (λ ls. record first { list = ls }) (append_assoc first.list (entry ∷ []) notes)
+added false first second third entry notes is more = more ∙ ap (λ j. with_lines j notes) is

@@ -18,12 +18,11 @@ use Rattle.private_store.specs.Contents.{View, judge}
 use Rattle.private_store.specs.Answers.{wants_memory, is_small_reply}
 use Rattle.private_store.specs.NodeInputs.{JobInput, Before, own_here, notes_here, only_of, inputs_to}
 use Rattle.private_store.specs.Private.{view_step, view_from, view_of, no_store}
-use Rattle.private_store.specs.Replay.{Line as Replayed, unbegun_brief, replayed, brief_after, brief_step, brief_of}
+use Rattle.private_store.specs.Replay.{Line as Replayed, replayed, brief_after, brief_step, brief_of}
 use Rattle.private_store.proofs.AnswersAre.{view_never_wants, answers_whole}
 use Rattle.private_store.proofs.Tests.{none_some}
 use Rattle.private_store.proofs.StepsKept.{no_store_kept, view_keeps}
 use Rattle.job_admission.specs.Admissions.{Admissions}
-use Rattle.node_core.specs.Built.{is_built}
 use Rattle.node_core.specs.Hosted.{Hosted, Shows, ShowsAll}
 use Rattle.node_core.specs.Steps.{Given, JobJudged, Steps, StepsFrom, IsStepOf, IsGiven, before_of, job_of_event, judged_notes}
 use Rattle.node_core.specs.OneJob.{input_of}
@@ -32,26 +31,27 @@ use Rattle.node_journal.specs.declared.entries.Entry.{Entry}
 use Rattle.node_journal.specs.declared.entries.Line.{Line}
 use Rattle.node_journal.specs.declared.entries.Line.TheVariants as line
 use Rattle.node_journal.specs.Replies.{unlisted, kept_reply}
-use Rattle.node_journal.specs.Journals.{entry_for, notes_for, lines_made, line_of, lines_of, AreDue, IsTold, Tells, is_call}
-use Rattle.node_core.proofs.AllJobs.{own_of, IsFinishAnswer, finish_answer, own_due-built}
+use Rattle.node_journal.specs.Journals.{Journal, fresh, entry_for, notes_for, lines_made, line_of, lines_of, AreDue, IsTold, Tells, folded_if, with_lines, is_call}
+use Rattle.node_core.proofs.AllJobs.{own_of, IsFinishAnswer, finish_answer, own_due_is}
 use Rattle.node_core.proofs.Notes.{is_note, AreJobNotes, here_notes}
-use Rattle.node_journal.proofs.Built.{of_job, here_is, if_own, own_inputs}
+use Rattle.node_journal.proofs.OwnInputs.{of_job, here_is, if_own, own_inputs}
 use Rattle.node_journal.proofs.Lists.{lines_of-snoc, replayed-snoc, due-snoc}
 
 -- ---- lines
 
 -- the replay of a list with a line more that is an input
-module _ (node job : ℕ) (view : View) (x : Input) (ls : List Line) (l : Line) (told : Reply ℕ) (h : IsTold job view ls) where
+module _ (node : ℕ) (view : View) (x : Input) (j : Journal) (l : Line) (told : Reply ℕ) (h : IsTold view j) where
   abbrev next : Replayed
   next = record { input = judge node view x; reply = told }
 
-  pub line_told : line_of l ≡ Some next → told ≡ unlisted (brief_step (brief_of view) next.input).reply → IsTold job (view_step node view x).view (ls ++ l ∷ [])
+  pub line_told : line_of l ≡ Some next → told ≡ unlisted (brief_step (brief_of view) next.input).reply → IsTold (view_step node view x).view (with_lines j (l ∷ []))
   line_told is due =
+      let ls : List Line = j.list in
       let lines : lines_of (ls ++ l ∷ []) ≡ lines_of ls ++ next ∷ [] = lines_of-snoc ls l ∙ ap (λ o. lines_of ls ++ option_to_list o) is in
       record {
         kept = view_keeps node view x h.kept;
-        replays = ap (replayed (unbegun_brief job)) lines ∙ replayed-snoc (unbegun_brief job) (lines_of ls) next ∙ ap (λ b. brief_after b next.input) h.replays;
-        due = subst (AreDue (unbegun_brief job)) (sym lines) (due-snoc (unbegun_brief job) (lines_of ls) next h.due (due ∙ ap (λ b. unlisted (brief_step b next.input).reply) (sym h.replays)));
+        replays = ap (replayed j.base) lines ∙ replayed-snoc j.base (lines_of ls) next ∙ ap (λ b. brief_after b next.input) h.replays;
+        due = subst (AreDue j.base) (sym lines) (due-snoc j.base (lines_of ls) next h.due (due ∙ ap (λ b. unlisted (brief_step b next.input).reply) (sym h.replays)));
       }
 
 -- ---- notes
@@ -78,28 +78,48 @@ note_due node view (input.Answer number a) q = absurd cc
 note_due node view (input.Arrive a) q = absurd cc
 note_due node view input.End q = absurd cc
 
-notes_told : (node number job : ℕ) (v : ℕ → View) (xs : List JobInput) → AreJobNotes xs → (view : View) (ls : List Line) → IsTold job view ls
-    → IsTold job (view_from node view (only_of job xs)) (ls ++ notes_for number (judged_notes node v xs) job)
-notes_told node number job v [] q view ls h = subst (IsTold job view) (sym (append-nil ls)) h
-notes_told node number job v (x ∷ xs) q view ls h = by (x.job == job) (notes_told node number job v xs q.1)
+notes_told : (node number job : ℕ) (v : ℕ → View) (xs : List JobInput) → AreJobNotes xs → (view : View) (j : Journal) → IsTold view j
+    → IsTold (view_from node view (only_of job xs)) (with_lines j (notes_for number (judged_notes node v xs) job))
+notes_told node number job v [] q view j h = subst (λ ls. IsTold view (record j { list = ls })) (sym (append-nil j.list)) h
+notes_told node number job v (x ∷ xs) q view j h = by (x.job == job) (notes_told node number job v xs q.1)
   where
     note : Line
     note = line.Note number (judge node (v x.job) x.input)
 
-    Then : View → List Line → List Input → List Line → Type 0
-    Then w before inputs more = IsTold job (view_from node w inputs) (before ++ more)
+    Then : View → Journal → List Input → List Line → Type 0
+    Then w before inputs more = IsTold (view_from node w inputs) (with_lines before more)
 
-    here : IsTold job (view_step node view x.input).view (ls ++ note ∷ [])
-    here = line_told node job view x.input ls note reply.Ok h
+    here : IsTold (view_step node view x.input).view (with_lines j (note ∷ []))
+    here = line_told node view x.input j note reply.Ok h
         (ap (λ y. Some (record { input = y; reply = reply.Ok })) (judged_alike node (v x.job) view x.input q.0)) (note_due node view x.input q.0)
 
-    by : (t : Bool) → ((w : View) (before : List Line) → IsTold job w before → Then w before (only_of job xs) (notes_for number (judged_notes node v xs) job))
-        → Then view ls (map (λ (y : JobInput). y.input) (cond t (x ∷ filter (λ (y : JobInput). y.job == job) xs) (filter (λ (y : JobInput). y.job == job) xs)))
+    by : (t : Bool) → ((w : View) (before : Journal) → IsTold w before → Then w before (only_of job xs) (notes_for number (judged_notes node v xs) job))
+        → Then view j (map (λ (y : JobInput). y.input) (cond t (x ∷ filter (λ (y : JobInput). y.job == job) xs) (filter (λ (y : JobInput). y.job == job) xs)))
         (map (λ (n : JobJudged). line.Note number n.input) (cond t (record { job = x.job; input = judge node (v x.job) x.input } ∷ filter (λ (n : JobJudged). n.job == job) (judged_notes node v xs)) (filter (λ (n : JobJudged). n.job == job) (judged_notes node v xs))))
     by true rest =
-        subst (IsTold job (view_from node (view_step node view x.input).view (only_of job xs))) (append_assoc ls (note ∷ []) (notes_for number (judged_notes node v xs) job))
-        (rest (view_step node view x.input).view (ls ++ note ∷ []) here)
-    by false rest = rest view ls h
+        subst (λ ls. IsTold (view_from node (view_step node view x.input).view (only_of job xs)) (record j { list = ls })) (append_assoc j.list (note ∷ []) (notes_for number (judged_notes node v xs) job))
+        (rest (view_step node view x.input).view (with_lines j (note ∷ [])) here)
+    by false rest = rest view j h
+
+-- ---- folding
+
+-- the same journals tell of the same
+pub told_alike : (old new : Hosted) (before after : ℕ → Journal) → new ≡ old → ((job : ℕ) → after job ≡ before job) → ∥ Tells old before ∥₁ → ∥ Tells new after ∥₁
+told_alike old new _ after same is h = subst (λ node. ∥ Tells node after ∥₁) (sym same) (∥∥₁_map h (λ t. record {
+  views = t.views;
+  shown = t.shown;
+  told = λ job. subst (IsTold (t.views job)) (sym (is job)) (t.told job);
+}))
+
+told_folded : (node : Hosted) (journals : ℕ → Journal) (full : ℕ → Bool) → Tells node journals → Tells node (λ job. folded_if (full job) (journals job))
+told_folded node journals full h = record { views = h.views; shown = h.shown; told = λ job. by job (full job) }
+  where
+    by : (job : ℕ) (b : Bool) → IsTold (h.views job) (folded_if b (journals job))
+    by job true = record { kept = (h.told job).kept; replays = (h.told job).replays; due = refl }
+    by job false = h.told job
+
+pub all_folded : (node : Hosted) (before after : ℕ → Journal) (full : ℕ → Bool) → ((job : ℕ) → after job ≡ folded_if (full job) (before job)) → ∥ Tells node before ∥₁ → ∥ Tells node after ∥₁
+all_folded node before after full is h = told_alike node node (λ job. folded_if (full job) (before job)) after refl is (∥∥₁_map h (told_folded node before full))
 
 -- ---- inputs of one job
 
@@ -120,7 +140,7 @@ from-append node view (x ∷ xs) ys = from-append node (view_step node view x).v
 
 -- ---- one entry more, and its notes
 
-module _ (old new : Hosted) (e : Event) (given : Given) (number : ℕ) (built : is_built e ≡ true) (steps : Steps old (Own e) given new) (was : Option Judged) (is_judged : IsJudged old e given.reply was) where
+module _ (old new : Hosted) (e : Event) (given : Given) (number : ℕ) (steps : Steps old (Own e) given new) (was : Option Judged) (is_judged : IsJudged old e given.reply was) where
   abbrev entry : Entry
   entry = entry_for number was given.reply
 
@@ -140,7 +160,7 @@ module _ (old new : Hosted) (e : Event) (given : Given) (number : ℕ) (built : 
     told_is : (x : Input) → input_of e given.reply ≡ Some x → IsStepOf old.number (v (job_of_event e)) x given
     told_is x is =
         subst (λ o. IsGiven old.number v (of_job (job_of_event e) o) given) is
-        (subst (λ o. IsGiven old.number v o given) (own_due-built before e given.reply built answer) from.told)
+        (subst (λ o. IsGiven old.number v o given) (own_due_is before e given.reply answer) from.told)
 
     -- the answer to an input is never that there is no memory
     never : (x : Input) → input_of e given.reply ≡ Some x → wants_memory given.reply ≡ false
@@ -149,7 +169,7 @@ module _ (old new : Hosted) (e : Event) (given : Given) (number : ℕ) (built : 
     inputs_are : (job : ℕ) → inputs_to before (Own e) given.reply job ≡ if_own (job_of_event e == job) (input_of e given.reply) ++ only_of job noted
     inputs_are job =
         only-append job (option_to_list (own_here before (Own e) given.reply)) noted
-        ∙ ap (λ o. only_of job (option_to_list o) ++ only_of job noted) (here_is before e given.reply built answer never_here)
+        ∙ ap (λ o. only_of job (option_to_list o) ++ only_of job noted) (here_is before e given.reply answer never_here)
         ∙ ap (λ xs. xs ++ only_of job noted) (own_inputs (job_of_event e) job (input_of e given.reply))
       where
         never_here : (job : ℕ) (x : Input) → own_of e given.reply ≡ Some (record { job = job; input = x }) → wants_memory given.reply ≡ false
@@ -162,64 +182,68 @@ module _ (old new : Hosted) (e : Event) (given : Given) (number : ℕ) (built : 
     judged_is : (o : Option Input) → input_of e given.reply ≡ o → was ≡ option_map (judge old.number (v (job_of_event e))) o
     judged_is o is = sym (is_judged.by_view (v (job_of_event e)) (shows (job_of_event e))) ∙ ap (option_map (judge old.number (v (job_of_event e)))) is
 
-    module _ (job : ℕ) (own : job_of_event e ≡ job) (ls : List Line) (h : IsTold job (v job) ls) where
+    module _ (job : ℕ) (own : job_of_event e ≡ job) (j : Journal) (h : IsTold (v job) j) where
+      abbrev ls : List Line
+      ls = j.list
+
       -- an event that is no input of its job
-      none_told : input_of e given.reply ≡ None → IsTold job (v job) (ls ++ line.Entry entry ∷ [])
+      none_told : input_of e given.reply ≡ None → IsTold (v job) (with_lines j (line.Entry entry ∷ []))
       none_told is =
           let lines : lines_of (ls ++ line.Entry entry ∷ []) ≡ lines_of ls =
           lines_of-snoc ls (line.Entry entry) ∙ ap (λ o. lines_of ls ++ option_to_list (option_map (λ x. record { input = x; reply = entry.reply }) o)) (judged_is None is) ∙ append-nil (lines_of ls) in
           record {
             kept = h.kept;
-            replays = ap (replayed (unbegun_brief job)) lines ∙ h.replays;
-            due = subst (AreDue (unbegun_brief job)) (sym lines) h.due;
+            replays = ap (replayed j.base) lines ∙ h.replays;
+            due = subst (AreDue j.base) (sym lines) h.due;
           }
 
       -- one that is
-      some_told : (x : Input) → input_of e given.reply ≡ Some x → IsTold job (view_step old.number (v job) x).view (ls ++ line.Entry entry ∷ [])
+      some_told : (x : Input) → input_of e given.reply ≡ Some x → IsTold (view_step old.number (v job) x).view (with_lines j (line.Entry entry ∷ []))
       some_told x is =
-          line_told old.number job (v job) x ls (line.Entry entry) (kept_reply given.reply) h
+          line_told old.number (v job) x j (line.Entry entry) (kept_reply given.reply) h
           (ap (option_map (λ y. record { input = y; reply = entry.reply })) (judged_is (Some x) is ∙ ap (λ k. Some (judge old.number (v k) x)) own))
           (ap kept_reply ((told_is x is).reply ∙ ap (λ k. (view_step old.number (v k) x).reply) own) ∙ ap unlisted (answers_whole old.number (v job) x h.kept))
 
-    own_told : (job : ℕ) (ls : List Line) → IsTold job (v job) ls
-        → IsTold job (view_from old.number (v job) (if_own (job_of_event e == job) (input_of e given.reply))) (ls ++ (if job_of_event e == job then line.Entry entry ∷ [] else []))
-    own_told job ls h = by (job_of_event e == job) (input_of e given.reply) refl refl
+    own_told : (job : ℕ) (j : Journal) → IsTold (v job) j
+        → IsTold (view_from old.number (v job) (if_own (job_of_event e == job) (input_of e given.reply))) (with_lines j (if job_of_event e == job then line.Entry entry ∷ [] else []))
+    own_told job j h = by (job_of_event e == job) (input_of e given.reply) refl refl
       where
         own_is : (job_of_event e == job) ≡ true → job_of_event e ≡ job
         own_is t = grind (arith, nat_tests)
 
         by : (b : Bool) (o : Option Input) → (job_of_event e == job) ≡ b → input_of e given.reply ≡ o
-            → IsTold job (view_from old.number (v job) (if_own b o)) (ls ++ cond b (line.Entry entry ∷ []) [])
-        by true None t is = none_told job (own_is t) ls h is
-        by true (Some x) t is = some_told job (own_is t) ls h x is
-        by false o t is = subst (IsTold job (v job)) (sym (append-nil ls)) h
+            → IsTold (view_from old.number (v job) (if_own b o)) (with_lines j (cond b (line.Entry entry ∷ []) []))
+        by true None t is = none_told job (own_is t) j h is
+        by true (Some x) t is = some_told job (own_is t) j h x is
+        by false o t is = subst (λ ls. IsTold (v job) (record j { list = ls })) (sym (append-nil j.list)) h
 
-    one_told : (job : ℕ) (ls : List Line) → IsTold job (v job) ls
-        → IsTold job (view_from old.number (v job) (inputs_to before (Own e) given.reply job)) (ls ++ lines_made number e was given job)
-    one_told job ls h =
+    one_told : (job : ℕ) (j : Journal) → IsTold (v job) j
+        → IsTold (view_from old.number (v job) (inputs_to before (Own e) given.reply job)) (with_lines j (lines_made number e was given job))
+    one_told job j h =
         let own : List Line = if job_of_event e == job then line.Entry entry ∷ [] else [] in
         let mine : List Input = if_own (job_of_event e == job) (input_of e given.reply) in
-        subst (λ xs. IsTold job (view_from old.number (v job) xs) (ls ++ lines_made number e was given job)) (sym (inputs_are job))
-        (subst (λ w. IsTold job w (ls ++ lines_made number e was given job)) (sym (from-append old.number (v job) mine (only_of job noted)))
-        (subst (λ notes. IsTold job (view_from old.number (view_from old.number (v job) mine) (only_of job noted)) (ls ++ (own ++ notes_for number notes job))) (sym from.notes)
-        (subst (IsTold job (view_from old.number (view_from old.number (v job) mine) (only_of job noted))) (append_assoc ls own (notes_for number (judged_notes old.number v noted) job))
-        (notes_told old.number number job v noted (here_notes before (Own e) given.reply) (view_from old.number (v job) mine) (ls ++ own) (own_told job ls h)))))
+        subst (λ xs. IsTold (view_from old.number (v job) xs) (with_lines j (lines_made number e was given job))) (sym (inputs_are job))
+        (subst (λ w. IsTold w (with_lines j (lines_made number e was given job))) (sym (from-append old.number (v job) mine (only_of job noted)))
+        (subst (λ notes. IsTold (view_from old.number (view_from old.number (v job) mine) (only_of job noted)) (with_lines j (own ++ notes_for number notes job))) (sym from.notes)
+        (subst (λ ls. IsTold (view_from old.number (view_from old.number (v job) mine) (only_of job noted)) (record j { list = ls })) (append_assoc j.list own (notes_for number (judged_notes old.number v noted) job))
+        (notes_told old.number number job v noted (here_notes before (Own e) given.reply) (view_from old.number (v job) mine) (with_lines j own) (own_told job j h)))))
 
   -- the fact under the lock
-  told_next : (before after : ℕ → List Line) → ((job : ℕ) → after job ≡ before job ++ lines_made number e was given job) → Tells old before → Tells new after
+  told_next : (before after : ℕ → Journal) → ((job : ℕ) → after job ≡ with_lines (before job) (lines_made number e was given job)) → Tells old before → Tells new after
   told_next before after is h = record {
     views = λ job. view_from old.number (h.views job) (inputs_to (before_of old h.views) (Own e) given.reply job);
     shown = (steps.each h.views h.shown).views;
     told = λ job.
-        subst (IsTold job (view_from old.number (h.views job) (inputs_to (before_of old h.views) (Own e) given.reply job))) (sym (is job))
+        subst (IsTold (view_from old.number (h.views job) (inputs_to (before_of old h.views) (Own e) given.reply job))) (sym (is job))
         (one_told h.views h.shown job (before job) (h.told job));
   }
 
-  pub all_told : (before after : ℕ → List Line) → ((job : ℕ) → after job ≡ before job ++ lines_made number e was given job) → ∥ Tells old before ∥₁ → ∥ Tells new after ∥₁
-  all_told before after is h = ∥∥₁_map h (told_next before after is)
+  -- also where lists are folded first
+  pub all_told : (before after : ℕ → Journal) (full : ℕ → Bool) → ((job : ℕ) → after job ≡ with_lines (folded_if (full job) (before job)) (lines_made number e was given job)) → ∥ Tells old before ∥₁ → ∥ Tells new after ∥₁
+  all_told before after full is h = ∥∥₁_map h (λ t. told_next (λ job. folded_if (full job) (before job)) after is (told_folded old before full t))
 
   -- what a session is answered
-  module _ (before : ℕ → List Line) (call : is_call e ≡ true) where
+  module _ (before : ℕ → Journal) (call : is_call e ≡ true) where
     by_call : {A : Type 0} → ((x : Input) → input_of e given.reply ≡ Some x → A) → A
     by_call {A} f = by e call refl
       where
@@ -234,7 +258,7 @@ module _ (old new : Hosted) (e : Event) (given : Given) (number : ℕ) (built : 
     pub call_never_wants : ∥ Tells old before ∥₁ → wants_memory given.reply ≡ false
     call_never_wants h = ∥∥₁_elim h (Bool-set _ _) (λ t. by_call (never t.views t.shown))
 
-pub call_small : (old : Hosted) (e : Event) (told : Reply (List ℕ)) (before : ℕ → List Line) → IsSmall old e told → is_call e ≡ true → ∥ Tells old before ∥₁ → is_small_reply told ≡ true
+pub call_small : (old : Hosted) (e : Event) (told : Reply (List ℕ)) (before : ℕ → Journal) → IsSmall old e told → is_call e ≡ true → ∥ Tells old before ∥₁ → is_small_reply told ≡ true
 call_small old e told before small call h = ∥∥₁_elim h (Bool-set _ _) (λ t. by e call (small t.views t.shown))
   where
     by : (g : Event) → is_call g ≡ true → IsSmallCall g told → is_small_reply told ≡ true
@@ -245,27 +269,19 @@ call_small old e told before small call h = ∥∥₁_elim h (Bool-set _ _) (λ 
     by event.Take call is = absurd cc
     by (event.Finish job number a) call is = absurd cc
 
--- the same lines tell of the same
-pub told_alike : (old new : Hosted) (before after : ℕ → List Line) → new ≡ old → ((job : ℕ) → after job ≡ before job) → ∥ Tells old before ∥₁ → ∥ Tells new after ∥₁
-told_alike old new _ after same is h = subst (λ node. ∥ Tells node after ∥₁) (sym same) (∥∥₁_map h (λ t. record {
-  views = t.views;
-  shown = t.shown;
-  told = λ job. subst (IsTold job (t.views job)) (sym (is job)) (t.told job);
-}))
-
 -- ---- a node in which nothing has happened
 
-pub told_at_first : (node : Hosted) (entries : ℕ → List Line) → ((job : ℕ) → Shows node job (view_of (no_store job))) → ((job : ℕ) → entries job ≡ []) → ∥ Tells node entries ∥₁
-told_at_first node entries shows none = ∣ record {
+pub told_at_first : (node : Hosted) (journals : ℕ → Journal) → ((job : ℕ) → Shows node job (view_of (no_store job))) → ((job : ℕ) → journals job ≡ fresh job) → ∥ Tells node journals ∥₁
+told_at_first node journals shows none = ∣ record {
   views = λ job. view_of (no_store job);
   shown = shows;
-  told = λ job. subst (IsTold job (view_of (no_store job))) (sym (none job)) (record { kept = no_store_kept job; replays = refl; due = refl });
+  told = λ job. subst (IsTold (view_of (no_store job))) (sym (none job)) (record { kept = no_store_kept job; replays = refl; due = refl });
 } ∣₁
 
 -- ---- a session that enters
 
-pub told_entered : (old new : Hosted) (entries : ℕ → List Line) → ((job : ℕ) (view : View) → Shows new job view ↔ Shows old job view) → ∥ Tells old entries ∥₁ → ∥ Tells new entries ∥₁
-told_entered old new entries views h = ∥∥₁_map h (λ t. record { views = t.views; shown = λ job. (views job (t.views job)).1 (t.shown job); told = t.told })
+pub told_entered : (old new : Hosted) (journals : ℕ → Journal) → ((job : ℕ) (view : View) → Shows new job view ↔ Shows old job view) → ∥ Tells old journals ∥₁ → ∥ Tells new journals ∥₁
+told_entered old new journals views h = ∥∥₁_map h (λ t. record { views = t.views; shown = λ job. (views job (t.views job)).1 (t.shown job); told = t.told })
 
 module _ (r : Result ℕ Refusal) (old new : Hosted) (a : Admissions) where
   pub entered_number : OnOk r (new ≡ record old { admissions = a }) → OnErr r (new ≡ old) → new.number ≡ old.number

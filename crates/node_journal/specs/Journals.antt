@@ -1,20 +1,45 @@
 -- What a journal tells of its node.
-use Rattle.std.specs.Prelude.{◌≡◌, ℕ, ◌==◌, nat_lt, nat_le, Bool, true, false, ◌&&◌, if◌then◌else◌, List, [], ◌∷◌, ◌++◌, map, filter, Option, Some, option_map, option_to_list}
-use Rattle.std.specs.List.{list_all}
+use Rattle.std.specs.Prelude.{◌≡◌, ℕ, ◌+◌, ◌==◌, nat_lt, nat_le, Bool, true, false, not, ◌&&◌, if◌then◌else◌, List, [], ◌∷◌, ◌++◌, length, map, filter, count_by, Option, Some, option_map, option_to_list}
+use Rattle.std.specs.List.{list_all, list_any}
+use Rattle.std.specs.Option.{option_map_or}
+use Rattle.obj_id.specs.declared.ids.JobNo.{JobNo}
 use Rattle.obj_id.specs.declared.commands.Reply.{Reply}
 use Rattle.obj_id.specs.declared.commands.Reply.TheVariants as reply
 use Rattle.private_store.specs.declared.inputs.Judged.{Judged}
+use Rattle.private_store.specs.declared.inputs.Judged.TheVariants as judged
 use Rattle.private_store.specs.declared.schedules.Event.{Event}
 use Rattle.private_store.specs.declared.schedules.Event.TheVariants as event
 use Rattle.private_store.specs.Contents.{View}
+use Rattle.private_store.specs.Hands.{Hand}
 use Rattle.private_store.specs.Kept.{IsViewKept}
 use Rattle.private_store.specs.Replay.{Brief, Line as Replayed, unbegun_brief, replayed, answers_due, brief_of}
 use Rattle.node_core.specs.Hosted.{Hosted, ShowsAll}
+use Rattle.node_core.specs.Foreseen.{takers_of}
 use Rattle.node_core.specs.Steps.{Given, JobJudged, job_of_event}
 use Rattle.node_journal.specs.declared.entries.Entry.{Entry}
+use Rattle.node_journal.specs.declared.entries.Agreement.{Agreement}
+use Rattle.node_journal.specs.declared.entries.Agreement.TheVariants as agree
 use Rattle.node_journal.specs.declared.entries.Line.{Line}
 use Rattle.node_journal.specs.declared.entries.Line.TheVariants as line
 use Rattle.node_journal.specs.Replies.{unlisted, kept_reply}
+
+-- ---- a job's journal
+
+pub record Journal : Type 0 where
+  -- the store without contents as it was after what was folded
+  pub base : Brief
+  -- the number of the step that the last folded line is of, or 0
+  pub covered : ℕ
+  -- what came after it, oldest first
+  pub list : List Line
+
+-- of a job that no step was of
+abbrev pub fresh : ℕ → Journal
+fresh job = record { base = unbegun_brief job; covered = 0; list = [] }
+
+-- the lines that a list has at most
+abbrev pub most_lines : ℕ
+most_lines = 65536
 
 -- ---- what a step adds
 
@@ -42,22 +67,26 @@ abbrev pub lines_of : List Line → List Replayed
 lines_of [] = []
 lines_of (l ∷ ls) = option_to_list (line_of l) ++ lines_of ls
 
+-- the store that the journal tells of
+abbrev pub store_of : Journal → Brief
+store_of journal = replayed journal.base (lines_of journal.list)
+
 -- each line has the answer that the replay gives there
 abbrev pub AreDue : Brief → List Replayed → Type 0
 AreDue brief ls = map (λ (l : Replayed). l.reply) ls ≡ map unlisted (answers_due brief (map (λ (l : Replayed). l.input) ls))
 
--- what a job's lines tell of its view
-pub record IsTold (job : ℕ) (view : View) (ls : List Line) : Type 0 where
+-- what a job's journal tells of its view
+pub record IsTold (view : View) (journal : Journal) : Type 0 where
   pub kept : IsViewKept view
-  -- their replay gives it, without its contents, and their answers
-  pub replays : replayed (unbegun_brief job) (lines_of ls) ≡ brief_of view
-  pub due : AreDue (unbegun_brief job) (lines_of ls)
+  -- the replay of its lines on its base gives it, without its contents, and their answers
+  pub replays : store_of journal ≡ brief_of view
+  pub due : AreDue journal.base (lines_of journal.list)
 
--- the node shows views of which the lines tell, those of every job number
-pub record Tells (node : Hosted) (lists : ℕ → List Line) : Type 0 where
+-- the node shows views of which the journals tell, those of every job number
+pub record Tells (node : Hosted) (journals : ℕ → Journal) : Type 0 where
   pub views : ℕ → View
   pub shown : ShowsAll node views
-  pub told : (job : ℕ) → IsTold job (views job) (lists job)
+  pub told : (job : ℕ) → IsTold (views job) (journals job)
 
 -- ---- numbers
 
@@ -65,6 +94,11 @@ pub record Tells (node : Hosted) (lists : ℕ → List Line) : Type 0 where
 abbrev pub step_of : Line → ℕ
 step_of (line.Entry entry) = entry.number
 step_of (line.Note number x) = number
+
+-- that of the last line, if there is one
+abbrev pub last_of : ℕ → List Line → ℕ
+last_of low [] = low
+last_of low (l ∷ ls) = last_of (step_of l) ls
 
 -- whether the line can come after those of the steps up to this number: an entry is of a later step, a note may be of the last
 abbrev pub follows : ℕ → Line → Bool
@@ -75,15 +109,65 @@ abbrev pub rise_above : ℕ → List Line → Bool
 rise_above low [] = true
 rise_above low (l ∷ ls) = follows low l && rise_above (step_of l) ls
 
--- the numbers rise, and none is above the count of all jobs' entries
-pub record AreNumbered (count : ℕ) (ls : List Line) : Type 0 where
-  pub rise : rise_above 0 ls ≡ true
-  pub most : list_all (λ l. nat_le (step_of l) count) ls ≡ true
+-- the numbers rise, all are above what is covered, and none is above the count of all jobs' entries
+pub record AreNumbered (count : ℕ) (journal : Journal) : Type 0 where
+  pub covered : nat_le journal.covered count ≡ true
+  pub rise : rise_above journal.covered journal.list ≡ true
+  pub above : list_all (λ l. nat_lt journal.covered (step_of l)) journal.list ≡ true
+  pub most : list_all (λ l. nat_le (step_of l) count) journal.list ≡ true
+
+-- ---- folding
+
+-- all lines are part of the base
+abbrev pub folded : Journal → Journal
+folded journal = record { base = store_of journal; covered = last_of journal.covered journal.list; list = [] }
+
+abbrev pub folded_if : Bool → Journal → Journal
+folded_if full journal = if full then folded journal else journal
+
+abbrev pub with_lines : Journal → List Line → Journal
+with_lines journal ls = record journal { list = journal.list ++ ls }
+
+-- the lines of a job that a step makes at most: the entry, if the step is of this job, and a note for each hand that it tells
+-- the job of
+abbrev pub lines_due : ℕ → List JobNo → ℕ → ℕ
+lines_due own takers job = count_by (λ taker. taker.0 == job) takers + (if own == job then 1 else 0)
+
+-- whether a list of so many lines has no room for them
+abbrev pub has_no_room : ℕ → List JobNo → ℕ → ℕ → Bool
+has_no_room own takers job lines = nat_lt most_lines (lines + lines_due own takers job)
+
+-- whether the job's list is folded before the event is taken: it might have no room for what the event makes
+abbrev pub is_folded_by : List Hand → Event → ℕ → List Line → Bool
+is_folded_by hands e job ls = has_no_room (job_of_event e) (takers_of hands e) job (length ls)
+
+-- ---- beginnings
+
+abbrev pub is_begin : Judged → Bool
+is_begin (judged.Begin quota) = true
+is_begin _ = false
+
+abbrev pub is_ok : Reply ℕ → Bool
+is_ok reply.Ok = true
+is_ok _ = false
+
+-- whether the line is of the job's admission
+abbrev pub begins : Line → Bool
+begins l = option_map_or (λ (told : Replayed). is_begin told.input && is_ok told.reply) (line_of l) false
+
+-- ---- receipts
 
 -- whether it is the entry of this number
 abbrev pub is_entry : ℕ → Line → Bool
 is_entry number (line.Entry entry) = entry.number == number
 is_entry number (line.Note n x) = false
+
+-- what the journal of its job says of a receipt of this number, if it is of this node
+abbrev pub agreement : Bool → ℕ → Journal → Agreement
+agreement here number journal =
+    if not here then agree.No else
+    (if nat_le number journal.covered then agree.Folded else
+    (if list_any (is_entry number) journal.list then agree.Yes else agree.No))
 
 -- ---- events
 

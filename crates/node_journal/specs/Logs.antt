@@ -1,22 +1,40 @@
--- The lines of all jobs, by job.
-use Rattle.std.specs.Prelude.{ℕ, List, []}
+-- The journals of all jobs, by job, and the bases that are made for some of them.
+use Rattle.std.specs.Prelude.{◌≡◌, ℕ, ◌==◌, Bool, List, [], ◌∷◌}
+use Rattle.std.specs.List.{list_any}
 use Rattle.std.specs.Option.{option_map_or}
 use Rattle.std.specs.Map.{lookup}
 use Rattle.obj_id.specs.declared.ids.JobNo.{JobNo}
 use Rattle.private_store.specs.Jobs.{same_job}
+use Rattle.private_store.specs.Replay.{Brief}
 use Rattle.node_journal.specs.declared.entries.Line.{Line}
+use Rattle.node_journal.specs.Journals.{Journal, fresh, store_of}
 
--- what a contract sees of one job's lines
+-- what a contract sees of one job's journal
 pub record JobLog : Type 0 where
-  -- oldest first
-  pub list : List Line
-  -- how many more take no memory
+  pub journal : Journal
+  -- how many lines more take no memory
   pub spare : ℕ
 
--- the lines of a job number, oldest first
+abbrev pub journal_of : List (JobNo × JobLog) → ℕ → Journal
+journal_of logs job = option_map_or (λ log. log.journal) (lookup (same_job (record { 0 = job })) logs) (fresh job)
+
+-- the lines of a job number after its base, oldest first
 abbrev pub list_of : List (JobNo × JobLog) → ℕ → List Line
-list_of logs job = option_map_or (λ log. log.list) (lookup (same_job (record { 0 = job })) logs) []
+list_of logs job = (journal_of logs job).list
 
 -- how many more lines of it take no memory
 abbrev pub spare_of : List (JobNo × JobLog) → ℕ → ℕ
 spare_of logs job = option_map_or (λ log. log.spare) (lookup (same_job (record { 0 = job })) logs) 0
+
+-- ---- bases
+
+abbrev pub Bases : Type 0
+Bases = List (JobNo × Brief)
+
+-- each is the store that its job's journal tells of
+abbrev pub AreStores : Bases → (ℕ → Journal) → Type 0
+AreStores [] journals = Unit {0}
+AreStores (e ∷ es) journals = (e.1 ≡ store_of (journals e.0.0)) × AreStores es journals
+
+abbrev pub has_base : ℕ → Bases → Bool
+has_base job bases = list_any (λ e. e.0.0 == job) bases

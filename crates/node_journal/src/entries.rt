@@ -2,6 +2,7 @@
 ghost use Rattle.std.specs.Prelude.{◌≡◌};
 ghost use Rattle.obj_id.specs.declared.commands.Reply.TheVariants as reply;
 ghost use Rattle.node_core.specs.Steps.{job_of_event};
+ghost use Rattle.node_journal.specs.Journals.{begins, is_entry, step_of};
 ghost use Rattle.node_journal.specs.Replies.{kept_reply};
 
 use bytes::Bytes;
@@ -30,6 +31,52 @@ pub enum Line {
     /// What the step with this entry's number was to the job as the taker of a hand, without contents. It is always answered
     /// Ok, and a job's own step may be followed by notes of its own.
     Note(u64, Judged),
+}
+
+impl Line {
+    /// The number of the step that made it.
+    pub fn number(&self) -> u64
+        ensures { result ≡ step_of self.now }
+    {
+        match self {
+            Line::Entry(entry) => entry.number,
+            Line::Note(number, _) => *number,
+        }
+    }
+
+    /// Whether it is the entry of this number.
+    pub(crate) fn is_entry(&self, number: u64) -> bool
+        ensures { result ≡ is_entry number self.now }
+    {
+        match self {
+            Line::Entry(entry) => entry.number == number,
+            Line::Note(_, _) => false,
+        }
+    }
+
+    /// Whether it is of the job's admission.
+    pub(crate) fn begins(&self) -> bool
+        ensures { result ≡ begins self.now }
+    {
+        match self {
+            Line::Entry(entry) => match &entry.input {
+                Some(Judged::Begin(_)) => matches!(entry.reply, Reply::Ok),
+                _ => false,
+            },
+            Line::Note(_, input) => matches!(input, Judged::Begin(_)),
+        }
+    }
+}
+
+/// What a journal answers to a receipt.
+#[derive(Clone, Copy, Debug, PartialEq, Eq, Drop)]
+pub enum Agreement {
+    /// Its entry is there.
+    Yes,
+    /// It is of another node, or no entry that isn't folded has its number.
+    No,
+    /// Its number is covered: it was folded, if it ever was there.
+    Folded,
 }
 
 /// The name of one entry in a journal of the ledger `L`: a step makes it, and it isn't copied.

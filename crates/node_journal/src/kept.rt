@@ -1,5 +1,5 @@
 //! A node with its journal, under one name.
-ghost use Rattle.std.specs.Prelude.{◌≡◌, ℕ, ◌+◌, ◌++◌, ◌∷◌, ◌==◌, ◌&&◌, ◌⊎◌, ◌≤◌, [], true, false, if◌then◌else◌, Some, None, IfOk, IfErr, OnOk, OnErr, IsErrOf, IsOk, is_some};
+ghost use Rattle.std.specs.Prelude.{◌≡◌, ℕ, ◌+◌, ◌==◌, ◌⊎◌, ◌≤◌, [], true, false, length, Some, None, IfOk, IfErr, OnOk, OnErr, IsErrOf, IsOk, is_some};
 ghost use Rattle.std.specs.List.{list_any};
 ghost use Rattle.obj_id.specs.declared.refusals.Refusal.{Refusal};
 ghost use Rattle.obj_id.specs.declared.refusals.Refusal.TheVariants.{NoMemory, NotAdmitted, TooMany};
@@ -7,15 +7,15 @@ ghost use Rattle.private_store.specs.declared.schedules.NodeEvent.TheVariants as
 ghost use Rattle.private_store.specs.Answers.{wants_memory, is_small_reply};
 ghost use Rattle.job_admission.specs.Admissions.{largest_memory, sessions_entered, enter_check, entered};
 ghost use Rattle.spill_work.specs.Line.{front_of};
-ghost use Rattle.node_core.specs.Built.{is_built};
 ghost use Rattle.node_core.specs.Steps.{job_of_event, Steps};
 ghost use Rattle.node_core.specs.Judged.{IsJudged, IsSmall};
 ghost use Rattle.node_core.specs.Outcomes.{given_of};
-ghost use Rattle.node_journal.specs.Logs.{list_of};
-ghost use Rattle.node_journal.specs.Journals.{entry_for, lines_made, is_entry, Tells, AreNumbered, is_call};
+ghost use Rattle.node_journal.specs.Logs.{journal_of, list_of};
+ghost use Rattle.node_journal.specs.Journals.{entry_for, lines_made, is_entry, rise_above, Tells, AreNumbered, agreement, folded_if, is_folded_by, most_lines, with_lines, is_call};
 
 use crate::copies::copy_of;
-use crate::entries::{Entry, Line, Receipt, job_of, kept_reply_of};
+use crate::entries::{Agreement, Entry, Line, Receipt, job_of, kept_reply_of};
+use crate::folding::{MOST_LINES, base_of, bases_of};
 use crate::logs::Logs;
 use node_core::{Node, Outcome};
 use obj_id::{JobKey, JobNo, Refusal};
@@ -30,8 +30,9 @@ const LAST_ENTRY: u64 = (1 << 60) - 1;
 /// A node with its journal, which holds one part of the ledger that its name is: nothing else of that part's name can be
 /// stepped, since nobody else gets the part.
 ///
-/// Whenever it can be seen, the node shows of every job number a view of which the job's lines tell: their replay gives that
-/// view without its contents, and each entry has the answer that the replay gives there. The entries' numbers rise.
+/// Whenever it can be seen, the node shows of every job number a view of which the job's journal tells: the replay of its
+/// lines on its base gives that view without its contents, and each entry has the answer that the replay gives there. The
+/// numbers of the lines rise and are above what is covered, and no list is longer than 65,536 lines.
 #[derive(Drop)]
 pub struct Kept<L: Ledger> {
     alloc: Global,
@@ -44,8 +45,9 @@ pub struct Kept<L: Ledger> {
     pub ghost seated: { seat.parts ≡ 1 },
     pub ghost blank: { seat.amount ≡ 0 },
     pub ghost named: { node.number ≡ number },
-    pub ghost numbered: { (job : ℕ) → AreNumbered count (list_of logs job) },
-    pub ghost told: { ∥ Tells node (list_of logs) ∥₁ },
+    pub ghost numbered: { (job : ℕ) → AreNumbered count (journal_of logs job) },
+    pub ghost few: { (job : ℕ) → length (list_of logs job) ≤ most_lines },
+    pub ghost told: { ∥ Tells node (journal_of logs) ∥₁ },
 }
 
 impl<L: Ledger> Kept<L> {
@@ -69,14 +71,15 @@ impl<L: Ledger> Kept<L> {
     }
 
     /// Steps the node by one event, and adds one entry, which the receipt names, and after it a note to each job that the
-    /// step told of a hand.
+    /// step told of a hand. A list that might become longer than 65,536 lines by that is folded first: its base is then the
+    /// replay of its old base and lines, and it has the new lines alone.
     ///
-    /// `NoMemory` alone, if the event or its entry finds no memory, or if 1,152,921,504,606,846,975 entries were made:
-    /// then nothing has changed.
+    /// `NoMemory` alone, if the event, its entry or a fold finds no memory, if 1,152,921,504,606,846,975 entries were made,
+    /// or if the event tells 65,536 hands or more: then nothing has changed.
     pub fn step(&mut self, event: &Event) -> Result<(Outcome, Receipt<L>), Refusal>
-        requires { is_built event.now ≡ true }
         ensures node { IfOk result (λ r. Steps self.old.node (node_event.Own event.now) (given_of r.0) self.new.node) }
-        ensures journal { IfOk result (λ r. (job : ℕ) → list_of self.new.logs job ≡ list_of self.old.logs job ++ lines_made (self.old.count + 1) event.now r.0.judged (given_of r.0) job) }
+        ensures journal { IfOk result (λ r. (job : ℕ) → journal_of self.new.logs job
+            ≡ with_lines (folded_if (is_folded_by self.old.node.hands event.now job (list_of self.old.logs job)) (journal_of self.old.logs job)) (lines_made (self.old.count + 1) event.now r.0.judged (given_of r.0) job)) }
         ensures receipt { IfOk result (λ r. (r.1.node ≡ self.old.number) × (r.1.job.0 ≡ job_of_event event.now) × (r.1.entry ≡ entry_for (self.old.count + 1) r.0.judged r.0.reply)) }
         ensures judged { IfOk result (λ r. IsJudged self.old.node event.now r.0.reply r.0.judged) }
         ensures count { OnOk result (self.new.count ≡ self.old.count + 1) }
@@ -85,7 +88,7 @@ impl<L: Ledger> Kept<L> {
         ensures number { self.new.number ≡ self.old.number }
         ensures memory { (r : Refusal) → IsErrOf result r → r ≡ NoMemory }
         ensures same { OnErr result ((self.new.node ≡ self.old.node) × (self.new.count ≡ self.old.count)) }
-        ensures unchanged { OnErr result ((job : ℕ) → list_of self.new.logs job ≡ list_of self.old.logs job) }
+        ensures unchanged { OnErr result ((job : ℕ) → journal_of self.new.logs job ≡ journal_of self.old.logs job) }
     {
         if self.count >= LAST_ENTRY {
             return Err(Refusal::NoMemory);
@@ -112,6 +115,28 @@ impl<L: Ledger> Kept<L> {
             name: PhantomData,
         };
         Ok((outcome, receipt))
+    }
+
+    /// Folds the job's lines into its base: the new base is the replay of the old one and its lines, covers the number of the
+    /// last of them, and no line is left. All else stays. Takes a walk over the lines and over the job's copies, works and
+    /// hands. The error is out of memory, and then nothing has changed.
+    pub fn checkpoint(&mut self, job: JobNo) -> Result<(), Refusal>
+        ensures journal { OnOk result ((other : ℕ) → journal_of self.new.logs other ≡ folded_if (job.0 == other) (journal_of self.old.logs other)) }
+        ensures same { (self.new.node ≡ self.old.node) × (self.new.count ≡ self.old.count) × (self.new.number ≡ self.old.number) }
+        ensures memory { (r : Refusal) → IsErrOf result r → r ≡ NoMemory }
+        ensures unchanged { OnErr result (self.new.logs ≡ self.old.logs) }
+    {
+        let Kept {
+            alloc: _,
+            node,
+            number: _,
+            logs,
+            count: _,
+            seat: _,
+        } = self;
+        let base = base_of(node, logs, job)?;
+        logs.fold(job, base);
+        Ok(())
     }
 
     /// The number of the job's next session, from 1, as `Node::enter` gives it. It makes no entry. Takes no memory.
@@ -156,16 +181,32 @@ impl<L: Ledger> Kept<L> {
         self.node.has_work()
     }
 
-    /// Whether the journal has an entry of the receipt's job and number, if the receipt is this node's.
-    ///
-    /// Looks at each of the job's lines, at most.
-    pub fn stands(&self, receipt: &Receipt<L>) -> bool
-        ensures { result ≡ (receipt.now.node == self.now.number && list_any (is_entry receipt.now.entry.number) (list_of self.now.logs receipt.now.job.0)) }
+    /// What the journal says of a receipt: `No` to another node's; `Folded` where its number is covered; and else whether the
+    /// entry of its job and number is there, which is looked for by bisection.
+    pub fn agrees(&self, receipt: &Receipt<L>) -> Agreement
+        ensures { result ≡ agreement (receipt.now.node == self.now.number) receipt.now.entry.number (journal_of self.now.logs receipt.now.job.0) }
     {
-        receipt.node() == self.number && has_number(self.list(receipt.job()), receipt.number())
+        if receipt.node() != self.number {
+            return Agreement::No;
+        }
+        if receipt.number() <= self.covered(receipt.job()) {
+            return Agreement::Folded;
+        }
+        if has_entry(self.list(receipt.job()), receipt.number()) {
+            Agreement::Yes
+        } else {
+            Agreement::No
+        }
     }
 
-    /// The lines of a job number, oldest first.
+    /// The number of the step that the last folded line of a job number is of; 0 where nothing was folded.
+    pub fn covered(&self, job: JobNo) -> u64
+        ensures { result ≡ (journal_of self.now.logs job.0).covered }
+    {
+        self.logs.covered(job)
+    }
+
+    /// The lines of a job number after its base, oldest first.
     pub fn list(&self, job: JobNo) -> &[Line]
         ensures { result.now ≡ list_of self.now.logs job.0 }
     {
@@ -173,24 +214,29 @@ impl<L: Ledger> Kept<L> {
     }
 }
 
-/// Whether one of the lines is the entry of this number.
-fn has_number(lines: &[Line], number: u64) -> bool
+/// Whether one of these lines, whose numbers rise, is the entry of this number.
+fn has_entry(lines: &[Line], number: u64) -> bool
+    requires rise { (low : ℕ) × (rise_above low lines.now ≡ true) }
+    requires few { length lines.now ≤ most_lines }
     ensures { result ≡ list_any (is_entry number) lines.now }
 {
-    lines.iter().any(|line| is_entry_of(line, number))
-}
-
-/// Whether the line is the entry of this number.
-fn is_entry_of(line: &Line, number: u64) -> bool
-    ensures { result ≡ is_entry number line.now }
-{
-    match line {
-        Line::Entry(entry) => entry.number == number,
-        Line::Note(_, _) => false,
+    let mut rest = lines;
+    while !rest.is_empty() {
+        let middle = rest.len() / 2;
+        let line = &rest[middle];
+        if line.number() < number {
+            rest = &rest[middle + 1..];
+        } else if line.is_entry(number) {
+            return true;
+        } else {
+            rest = &rest[..middle];
+        }
     }
+    false
 }
 
-/// Steps the node, and writes the entry of this number and what the step told the takers of hands. An error changes neither.
+/// Steps the node, and writes the entry of this number and what the step told the takers of hands; lists that might have no
+/// room are folded before. An error changes neither.
 fn record(
     alloc: Global,
     node: &mut Node,
@@ -198,19 +244,27 @@ fn record(
     number: u64,
     event: &Event,
 ) -> Result<Outcome, Refusal>
-    requires { is_built event.now ≡ true }
+    requires told { ∥ Tells node.old (journal_of logs.old) ∥₁ }
+    requires few { (job : ℕ) → length (list_of logs.old job) ≤ most_lines }
     ensures node { IfOk result (λ o. Steps node.old (node_event.Own event.now) (given_of o) node.new) }
     ensures judged { IfOk result (λ o. IsJudged node.old event.now o.reply o.judged) }
     ensures small { IfOk result (λ o. IsSmall node.old event.now o.reply) }
-    ensures logs { IfOk result (λ o. (job : ℕ) → list_of logs.new job ≡ list_of logs.old job ++ lines_made number event.now o.judged (given_of o) job) }
+    ensures logs { IfOk result (λ o. (job : ℕ) → journal_of logs.new job
+        ≡ with_lines (folded_if (is_folded_by node.old.hands event.now job (list_of logs.old job)) (journal_of logs.old job)) (lines_made number event.now o.judged (given_of o) job)) }
+    ensures few { IfOk result (λ o. (job : ℕ) → length (list_of logs.new job) ≤ most_lines) }
     ensures memory { (r : Refusal) → IsErrOf result r → r ≡ NoMemory }
     ensures err { OnErr result (node.new ≡ node.old) }
-    ensures unchanged { OnErr result ((job : ℕ) → list_of logs.new job ≡ list_of logs.old job) }
+    ensures unchanged { OnErr result ((job : ℕ) → journal_of logs.new job ≡ journal_of logs.old job) }
 {
     let job = job_of(event);
     // all growth comes before the node's step
     let takers = node.takers(event)?;
+    if takers.as_slice().len() >= MOST_LINES {
+        return Err(Refusal::NoMemory);
+    }
     logs.reserve(job, takers.as_slice())?;
+    // the bases are those before the step
+    let bases = bases_of(alloc, node, logs, job, takers.as_slice())?;
     let outcome = node.apply(event)?;
     let reply = kept_reply_of(alloc, &outcome.reply);
     let entry = Entry {
@@ -218,6 +272,7 @@ fn record(
         input: copy_of(&outcome.judged),
         reply,
     };
+    logs.fold_all(bases);
     logs.add(job, Line::Entry(entry));
     logs.add_notes(number, outcome.notes.as_slice());
     Ok(outcome)

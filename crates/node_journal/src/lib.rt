@@ -1,11 +1,13 @@
 //! A node with its journal: every step makes an entry, which a receipt names. Whenever a journaled node can be seen, the
-//! replay of each job's entries gives the job's store at the node, without contents, and the answers.
+//! replay of each job's lines on their base gives the job's store at the node, without contents, and the answers.
 #![tactic(auto)]
 
 mod copies;
 mod entries;
+mod folding;
 mod kept;
 mod logs;
 
-pub use entries::{Entry, Line, Receipt};
+pub use entries::{Agreement, Entry, Line, Receipt};
+pub use folding::MOST_LINES;
 pub use kept::Kept;

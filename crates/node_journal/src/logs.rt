@@ -1,23 +1,30 @@
-//! The lines of all jobs, oldest first: all growth comes before a step, and what the step adds then takes no memory. A
-//! contract sees the lines of every job number, and how many more of a job take no memory.
-ghost use Rattle.std.specs.Prelude.{◌≡◌, ℕ, ◌==◌, ◌+◌, ◌++◌, ◌∷◌, ◌<◌, ◌≤◌, [], true, length, map, if◌then◌else◌, OnOk};
+//! The journals of all jobs: all growth comes before a step, and what the step adds then takes no memory. A contract sees the
+//! journal of every job number, and how many more lines of a job take no memory.
+ghost use Rattle.std.specs.Prelude.{◌≡◌, ℕ, ◌==◌, ◌+◌, ◌∷◌, ◌<◌, ◌≤◌, ◌||◌, [], true, length, map, if◌then◌else◌, OnOk};
 ghost use Rattle.std.specs.List.{list_any};
 ghost use Rattle.private_store.specs.Jobs.{same_job};
+ghost use Rattle.plain_store.specs.Parts.{has_begun as has_begun_lem};
 ghost use Rattle.node_core.specs.Outcomes.{inputs_noted};
-ghost use Rattle.node_journal.specs.Journals.{notes_for};
-ghost use Rattle.node_journal.specs.Logs.{list_of, spare_of};
+ghost use Rattle.node_journal.specs.Journals.{notes_for, begins, fresh, folded_if, last_of, store_of, with_lines};
+ghost use Rattle.node_journal.specs.Logs.{journal_of, list_of, spare_of, AreStores, has_base};
 
 use crate::copies::copy_of_judged;
 use crate::entries::Line;
 use indexmap::IndexMap;
 use node_core::Note;
 use obj_id::JobNo;
+use plain_store::PlainStore;
 use std::alloc::{AllocError, Global};
 use std::marker::Model;
 
-/// The lines of one job, oldest first.
+/// The journal of one job.
 #[derive(Drop)]
 struct Log {
+    // the store as it was after what was folded
+    base: PlainStore,
+    // the number of the step that the last folded line is of, or 0
+    covered: u64,
+    // oldest first
     lines: Vec<Line>,
 }
 
@@ -27,22 +34,24 @@ impl Model for Log {
 
     ghost Value = { JobLog };
 
-    ghost view = { λ l. record { list = l.lines.items; spare = vec_capacity l.lines - vec_len l.lines } };
+    ghost view = { λ l. record { journal = record { base = l.base; covered = l.covered; list = l.lines.items }; spare = vec_capacity l.lines - vec_len l.lines } };
 }
 
 impl Log {
-    /// No lines. Takes no memory.
-    fn new(alloc: Global) -> Log
-        ensures { result.list ≡ [] }
+    /// That of a job that no step was of. Takes no memory.
+    fn new(alloc: Global, job: JobNo) -> Log
+        ensures { result.journal ≡ fresh job.0 }
     {
         Log {
+            base: PlainStore::new(alloc, job),
+            covered: 0,
             lines: Vec::new(alloc),
         }
     }
 
     /// Makes room for so many lines more.
     fn reserve(&mut self, more: usize) -> Result<(), AllocError>
-        ensures list { self.new.list ≡ self.old.list }
+        ensures journal { self.new.journal ≡ self.old.journal }
         ensures spare { self.old.spare ≤ self.new.spare }
         ensures room { OnOk result (more ≤ self.new.spare) }
     {
@@ -52,20 +61,60 @@ impl Log {
     /// Adds a line, for which there is room.
     fn add(&mut self, line: Line)
         requires { 0 < self.old.spare }
-        ensures list { self.new.list ≡ self.old.list ++ line ∷ [] }
+        ensures journal { self.new.journal ≡ with_lines self.old.journal (line ∷ []) }
         ensures spare { self.old.spare ≤ self.new.spare + 1 }
     {
         self.lines.push(line).unwrap();
     }
 
+    /// The lines go, and this is the base from now on. Takes no memory.
+    fn fold(&mut self, base: PlainStore)
+        ensures journal { self.new.journal ≡ record { base = base; covered = last_of self.old.journal.covered self.old.journal.list; list = [] } }
+        ensures spare { self.old.spare ≤ self.new.spare }
+    {
+        self.covered = last_number(self.covered, &self.lines);
+        self.lines.clear();
+        self.base = base;
+    }
+
+    /// Whether the job was ever admitted.
+    fn has_begun(&self) -> bool
+        ensures { result ≡ (has_begun_lem self.now.journal.base.shape.life || list_any begins self.now.journal.list) }
+    {
+        self.base.has_begun() || any_begins(&self.lines)
+    }
+
+    fn covered(&self) -> u64
+        ensures { result ≡ self.now.journal.covered }
+    {
+        self.covered
+    }
+
     fn as_slice(&self) -> &[Line]
-        ensures { result.now ≡ self.now.list }
+        ensures { result.now ≡ self.now.journal.list }
     {
         &self.lines
     }
 }
 
-/// The lines of all jobs.
+/// The number of the last line's step, or this one if there is no line.
+fn last_number(number: u64, lines: &[Line]) -> u64
+    ensures { result ≡ last_of number lines.now }
+{
+    match lines.last() {
+        Some(line) => line.number(),
+        None => number,
+    }
+}
+
+/// Whether one of the lines is of the job's admission.
+fn any_begins(lines: &[Line]) -> bool
+    ensures { result ≡ list_any begins lines.now }
+{
+    lines.iter().any(|line| line.begins())
+}
+
+/// The journals of all jobs.
 #[derive(Drop)]
 pub struct Logs {
     alloc: Global,
@@ -93,10 +142,10 @@ impl Logs {
         }
     }
 
-    /// Makes room for a line of the job, and a line more for each of these jobs, whichever they are. The lines stay as they
-    /// are, whatever the result.
+    /// Makes room for a line of the job, and a line more for each of these jobs, whichever they are. The journals stay as
+    /// they are, whatever the result.
     pub fn reserve(&mut self, job: JobNo, takers: &[JobNo]) -> Result<(), AllocError>
-        ensures lists { (other : ℕ) → list_of self.new other ≡ list_of self.old other }
+        ensures journals { (other : ℕ) → journal_of self.new other ≡ journal_of self.old other }
         ensures own { OnOk result (length takers.now + 1 ≤ spare_of self.new job.0) }
         ensures room { OnOk result ((taker : JobNo) → list_any (same_job taker) takers.now ≡ true → length takers.now + 1 ≤ spare_of self.new taker.0) }
     {
@@ -109,14 +158,14 @@ impl Logs {
 
     /// Makes room for so many lines of the job.
     fn grow(&mut self, job: JobNo, more: usize) -> Result<(), AllocError>
-        ensures lists { (other : ℕ) → list_of self.new other ≡ list_of self.old other }
+        ensures journals { (other : ℕ) → journal_of self.new other ≡ journal_of self.old other }
         ensures spare { (other : ℕ) → spare_of self.old other ≤ spare_of self.new other }
         ensures room { OnOk result (more ≤ spare_of self.new job.0) }
     {
         if let Some(log) = self.logs.get_mut(&job) {
             return log.reserve(more);
         }
-        let mut log = Log::new(self.alloc);
+        let mut log = Log::new(self.alloc, job);
         log.reserve(more)?;
         match self.logs.insert(job, log) {
             Ok(_) => Ok(()),
@@ -127,7 +176,7 @@ impl Logs {
     /// Adds a line of the job. There is room for it: this takes no memory.
     pub fn add(&mut self, job: JobNo, line: Line)
         requires { 0 < spare_of self.old job.0 }
-        ensures list { (other : ℕ) → list_of self.new other ≡ (if job.0 == other then list_of self.old other ++ line ∷ [] else list_of self.old other) }
+        ensures journal { (other : ℕ) → journal_of self.new other ≡ (if job.0 == other then with_lines (journal_of self.old other) (line ∷ []) else journal_of self.old other) }
         ensures spare { (other : ℕ) → spare_of self.old other ≤ spare_of self.new other + 1 }
     {
         let Some(log) = self.logs.get_mut(&job) else {
@@ -139,14 +188,57 @@ impl Logs {
     /// Adds what the step of this number told the takers of hands. There is room for it: this takes no memory.
     pub fn add_notes(&mut self, number: u64, notes: &[Note])
         requires { (taker : JobNo) → list_any (λ note. same_job taker note.job) notes.now ≡ true → length notes.now ≤ spare_of self.old taker.0 }
-        ensures { (other : ℕ) → list_of self.new other ≡ list_of self.old other ++ notes_for number (inputs_noted notes.now) other }
+        ensures { (other : ℕ) → journal_of self.new other ≡ with_lines (journal_of self.old other) (notes_for number (inputs_noted notes.now) other) }
     {
         for note in notes {
             self.add(note.job, Line::Note(number, copy_of_judged(&note.input)));
         }
     }
 
-    /// The job's lines, oldest first; none for a job that had no step.
+    /// Folds the job's lines into its base, which is then this one. Takes no memory.
+    pub fn fold(&mut self, job: JobNo, base: PlainStore)
+        requires { base ≡ store_of (journal_of self.old job.0) }
+        ensures journal { (other : ℕ) → journal_of self.new other ≡ folded_if (job.0 == other) (journal_of self.old other) }
+        ensures spare { (other : ℕ) → spare_of self.old other ≤ spare_of self.new other }
+    {
+        let Some(log) = self.logs.get_mut(&job) else {
+            return;
+        };
+        log.fold(base);
+    }
+
+    /// Folds the lines of these jobs into their bases, which are then these. Takes no memory.
+    pub fn fold_all(&mut self, bases: Vec<(JobNo, PlainStore)>)
+        requires { AreStores bases.items (journal_of self.old) }
+        ensures journal { (other : ℕ) → journal_of self.new other ≡ folded_if (has_base other bases.items) (journal_of self.old other) }
+        ensures spare { (other : ℕ) → spare_of self.old other ≤ spare_of self.new other }
+    {
+        for (job, base) in bases {
+            self.fold(job, base);
+        }
+    }
+
+    /// Whether the job was ever admitted. Takes a walk over its lines.
+    pub fn has_begun(&self, job: JobNo) -> bool
+        ensures { result ≡ (has_begun_lem (journal_of self.now job.0).base.shape.life || list_any begins (list_of self.now job.0)) }
+    {
+        match self.logs.get(&job) {
+            Some(log) => log.has_begun(),
+            None => false,
+        }
+    }
+
+    /// The number of the step that the job's last folded line is of, or 0.
+    pub fn covered(&self, job: JobNo) -> u64
+        ensures { result ≡ (journal_of self.now job.0).covered }
+    {
+        match self.logs.get(&job) {
+            Some(log) => log.covered(),
+            None => 0,
+        }
+    }
+
+    /// The job's lines after its base, oldest first; none for a job that had no step.
     pub fn list(&self, job: JobNo) -> &[Line]
         ensures { result.now ≡ list_of self.now job.0 }
     {

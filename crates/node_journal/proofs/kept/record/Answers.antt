@@ -1,29 +1,58 @@
-use Rattle.std.proofs.Common.{◌≡◌, ◌==◌, [], ◌∷◌, ◌++◌, map, sym, ap, subst, ◌∙◌}
+use Rattle.std.proofs.Common.{◌≡◌, ◌==◌, ◌<◌, ◌≤◌, ◌+◌, List, [], ◌∷◌, ◌++◌, length, map, refl, sym, ap, subst, ◌∙◌, arith}
 use Rattle.std.specs.Prelude.{if◌then◌else◌}
+use Rattle.obj_id.specs.declared.ids.JobNo.{JobNo}
 use Rattle.node_core.specs.declared.outcome.Note.{Note}
 use Rattle.node_core.specs.Foreseen.{AreTakers}
 use Rattle.node_core.specs.Outcomes.{inputs_noted}
 use Rattle.node_core.specs.Steps.{job_of_event}
 use Rattle.node_journal.specs.declared.entries.Line.TheVariants as line
-use Rattle.node_journal.specs.Journals.{entry_for, notes_for}
-use Rattle.node_journal.specs.Logs.{list_of, spare_of}
+use Rattle.node_journal.specs.Journals.{Journal, entry_for, notes_for, folded_if, has_no_room, is_folded_by, most_lines, with_lines}
+use Rattle.node_journal.specs.Logs.{journal_of, list_of, spare_of}
 use Rattle.node_journal.proofs.Recording.{room_left, added}
+use Rattle.node_journal.proofs.Rooms.{all_few}
+use Rattle.node_journal.proofs.Telling.{told_alike}
 use Rattle.node_journal.proofs.kept.record.Goals as goal
+
+pub bases_of-requires-clause-told : goal.bases_of-requires-clause-told
+bases_of-requires-clause-told c = told_alike c.args.node.now _ _ _ refl c.in_ok-reserve.ensures.journals c.requires.told
+
+pub bases_of-requires-clause-few : goal.bases_of-requires-clause-few
+bases_of-requires-clause-few c = λ job. subst (λ (j : Journal). length j.list ≤ most_lines) (sym (c.in_ok-reserve.ensures.journals job)) (c.requires.few job)
 
 pub add_notes-requires : goal.add_notes-requires
 add_notes-requires c =
     let e = c.args.event.now in
-    room_left c.as_slice-2.result.now c.as_slice.result.now c.args.node.now.hands e c.in_ok-outcome.outcome.reply (spare_of c.reserve.new.self) (spare_of c.add.new.self)
-    (subst (λ notes. AreTakers c.args.node.now.hands e c.in_ok-outcome.outcome.reply (map (λ (note : Note). note.job) notes)) (sym c.as_slice-2.ensures) c.in_ok-outcome.ensures.takers)
-    (c.as_slice.ensures ∙ c.in_ok-takers.ensures.takers) c.in_ok-reserve.ensures.room c.add.ensures.spare
+    let hands = c.args.node.now.hands in
+    let reply = c.in_ok-outcome.outcome.reply in
+    room_left c.as_slice-4.result.now c.as_slice-2.result.now hands e reply (spare_of c.reserve.new.self) (spare_of c.add.new.self)
+    (subst (λ notes. AreTakers hands e reply (map (λ (note : Note). note.job) notes)) (sym c.as_slice-4.ensures) c.in_ok-outcome.ensures.takers)
+    (c.as_slice-2.ensures ∙ c.in_ok-takers.ensures.takers) c.in_ok-reserve.ensures.room
+    (λ other. omega (arith, c.fold_all.ensures.spare other, c.add.ensures.spare other))
 
 pub returns-clause-logs : goal.returns-clause-logs
 returns-clause-logs c = λ job.
+    let e = c.args.event.now in
+    let hands = c.args.node.now.hands in
     let outcome = c.in_ok-outcome.outcome in
-    added (job_of_event c.args.event.now == job) (list_of c.args.logs.now job) (list_of c.add.new.self job) (list_of c.add_notes.new.self job)
+    let takers = c.as_slice-3.ensures ∙ c.in_ok-takers.ensures.takers in
+    let kept = c.in_ok-reserve.ensures.journals job in
+    let full = c.in_ok-bases.ensures.full job ∙ (λ i. has_no_room (c.job_of-job.ensures i) (takers i) job (length (kept i).list)) in
+    let first : Journal = journal_of c.fold_all.new.self job in
+    let first_is : first ≡ folded_if (is_folded_by hands e job (list_of c.args.logs.now job)) (journal_of c.args.logs.now job) =
+    c.fold_all.ensures.journal job ∙ (λ i. folded_if (full i) (kept i)) in
+    added (job_of_event e == job) first (journal_of c.add.new.self job) (journal_of c.add_notes.new.self job)
     (line.Entry (entry_for c.args.number outcome.judged outcome.reply)) (notes_for c.args.number (inputs_noted outcome.notes) job)
-    (c.add.ensures.list job
+    (c.add.ensures.journal job
     ∙ (λ i. if c.job_of-job.ensures i == job
-    then c.in_ok-reserve.ensures.lists job i ++ line.Entry (record { number = c.args.number; input = c.copy_of.ensures i; reply = c.kept_reply_of-reply.ensures i }) ∷ []
-    else c.in_ok-reserve.ensures.lists job i))
-    (c.add_notes.ensures job ∙ ap (λ ns. list_of c.add.new.self job ++ notes_for c.args.number (inputs_noted ns) job) c.as_slice-2.ensures)
+    then with_lines first (line.Entry (record { number = c.args.number; input = c.copy_of.ensures i; reply = c.kept_reply_of-reply.ensures i }) ∷ [])
+    else first))
+    (c.add_notes.ensures job ∙ ap (λ ns. with_lines (journal_of c.add.new.self job) (notes_for c.args.number (inputs_noted ns) job)) c.as_slice-4.ensures)
+    ∙ ap (λ j. with_lines j ((if job_of_event e == job then line.Entry (entry_for c.args.number outcome.judged outcome.reply) ∷ [] else []) ++ notes_for c.args.number (inputs_noted outcome.notes) job)) first_is
+
+pub returns-clause-few : goal.returns-clause-few
+returns-clause-few c = λ job.
+    let e = c.args.event.now in
+    let outcome = c.in_ok-outcome.outcome in
+    let some = subst (λ (ts : List JobNo). length ts < most_lines) (c.as_slice.ensures ∙ c.in_ok-takers.ensures.takers) (omega arith) in
+    all_few c.args.node.now.hands e outcome.reply c.args.number job outcome.notes (journal_of c.args.logs.now job) (journal_of c.add_notes.new.self job)
+    (line.Entry (entry_for c.args.number outcome.judged outcome.reply)) c.in_ok-outcome.ensures.takers some (returns-clause-logs c job)

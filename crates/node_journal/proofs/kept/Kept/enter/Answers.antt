@@ -11,5 +11,6 @@ invariant_of-self g c =
       blank = old.blank;
       named = entered_number _ old.node _ _ done.ok done.err ∙ old.named;
       numbered = old.numbered;
+      few = old.few;
       told = told_entered old.node _ _ done.views old.told;
     }

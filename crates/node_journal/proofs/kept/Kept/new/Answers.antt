@@ -1,16 +1,18 @@
-use Rattle.std.proofs.Common.{◌≡◌, ℕ, [], ap}
-use Rattle.node_journal.specs.Logs.{list_of}
+use Rattle.std.proofs.Common.{◌≡◌, ℕ, ap, subst, sym, length, ◌≤◌, arith}
+use Rattle.node_journal.specs.Journals.{Journal, fresh, most_lines}
+use Rattle.node_journal.specs.Logs.{journal_of}
 use Rattle.node_journal.proofs.Telling.{told_at_first}
 use Rattle.node_journal.proofs.Numbering.{none_numbered}
 use Rattle.node_journal.proofs.kept.Kept.new.Goals as goal
 
 pub invariant_of-result : goal.invariant_of-result
 invariant_of-result g c =
-    let none : (job : ℕ) → list_of c.new-2.result job ≡ [] = λ job. ap (λ logs. list_of logs job) c.new-2.ensures in
+    let none : (job : ℕ) → journal_of c.new-2.result job ≡ fresh job = λ job. ap (λ logs. journal_of logs job) c.new-2.ensures in
     record {
       seated = c.requires.seat.0;
       blank = c.requires.seat.1;
       named = c.new.ensures.number;
-      numbered = λ job. none_numbered 0 _ (none job);
+      numbered = λ job. none_numbered job _ (none job);
+      few = λ job. subst (λ (j : Journal). length j.list ≤ most_lines) (sym (none job)) (omega arith);
       told = told_at_first c.new.result _ c.new.ensures.shows none;
     }

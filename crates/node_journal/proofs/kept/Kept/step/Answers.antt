@@ -1,6 +1,7 @@
-use Rattle.std.proofs.Common.{◌+◌, ◌==◌, refl, sym, ap, subst, ◌∙◌}
+use Rattle.std.proofs.Common.{◌+◌, ◌==◌, ◌≤◌, length, refl, sym, ap, subst, ◌∙◌}
 use Rattle.node_core.specs.Steps.{job_of_event}
-use Rattle.node_journal.specs.Journals.{AreNumbered}
+use Rattle.node_journal.specs.Journals.{Journal, AreNumbered, is_folded_by, most_lines}
+use Rattle.node_journal.specs.Logs.{list_of}
 use Rattle.node_journal.proofs.Telling.{all_told, told_alike, call_never_wants, call_small}
 use Rattle.node_journal.proofs.Numbering.{all_numbered}
 use Rattle.node_journal.proofs.kept.Kept.step.Goals as goal
@@ -14,6 +15,7 @@ invariant_of-self g c =
       blank = old.blank;
       named = ap (λ n. n.number) left.err ∙ old.named;
       numbered = λ job. subst (AreNumbered old.count) (sym (left.unchanged job)) (old.numbered job);
+      few = λ job. subst (λ (j : Journal). length j.list ≤ most_lines) (sym (left.unchanged job)) (old.few job);
       told = told_alike old.node _ _ _ left.err left.unchanged old.told;
     }
 
@@ -26,15 +28,16 @@ invariant_of-self-2 g c =
       seated = old.seated;
       blank = old.blank;
       named = done.node.number ∙ old.named;
-      numbered = λ job. all_numbered old.count job (job_of_event e == job) _ _ _ _ refl (done.logs job) (old.numbered job);
-      told = all_told old.node _ e _ (old.count + 1) c.requires done.node _ done.judged _ _ done.logs old.told;
+      numbered = λ job. all_numbered old.count job (job_of_event e == job) (is_folded_by old.node.hands e job (list_of old.logs job)) _ _ _ _ refl (done.logs job) (old.numbered job);
+      few = done.few;
+      told = all_told old.node _ e _ (old.count + 1) done.node _ done.judged _ _ (λ job. is_folded_by old.node.hands e job (list_of old.logs job)) done.logs old.told;
     }
 
 pub returns-clause-answered : goal.returns-clause-answered
 returns-clause-answered g c = λ call.
     let old = c.args.self.now in
     let done = c.in_ok-outcome.ensures in
-    call_never_wants old.node _ c.args.event.now _ (old.count + 1) c.requires done.node _ done.judged _ call old.told
+    call_never_wants old.node _ c.args.event.now _ (old.count + 1) done.node _ done.judged _ call old.told
 
 pub returns-clause-small : goal.returns-clause-small
 returns-clause-small g c = λ call. call_small c.args.self.now.node c.args.event.now _ _ c.in_ok-outcome.ensures.small call c.args.self.now.told

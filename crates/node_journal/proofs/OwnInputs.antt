@@ -11,7 +11,6 @@ use Rattle.private_store.specs.declared.schedules.NodeEvent.TheVariants.{Own}
 use Rattle.private_store.specs.Answers.{wants_memory, brings_within}
 use Rattle.private_store.specs.Contents.{View, judge}
 use Rattle.private_store.specs.NodeInputs.{JobInput, Before, own_here, only_of}
-use Rattle.node_core.specs.Built.{is_built}
 use Rattle.node_core.specs.OneJob.{input_of}
 use Rattle.node_core.specs.Steps.{answered, stale_unless}
 use Rattle.node_core.proofs.AllJobs.{own_of, IsFinishAnswer}
@@ -21,16 +20,16 @@ use Rattle.node_core.proofs.AllJobs.{own_of, IsFinishAnswer}
 abbrev pub of_job : ℕ → Option Input → Option JobInput
 of_job job o = option_map (λ x. record { job = job; input = x }) o
 
-pub here_is : (before : Before) (e : Event) (told : Reply (List ℕ)) → is_built e ≡ true → IsFinishAnswer before e told → ((job : ℕ) (x : Input) → own_of e told ≡ Some (record { job = job; input = x }) → wants_memory told ≡ false) → own_here before (Own e) told ≡ own_of e told
-here_is before (event.Admit job quota key) reply.Ok built is never = refl
-here_is before (event.Admit job quota key) _ built is never = refl
-here_is before (event.JobEnd job) reply.Ok built is never = refl
-here_is before (event.JobEnd job) _ built is never = refl
-here_is before (event.Call job session c) told built is never = ap (λ t. cond t None (Some (record { job = job.0; input = input.Call session c }))) (never job.0 (input.Call session c) refl)
-here_is before (event.Requota job quota) reply.Ok built is never = refl
-here_is before (event.Requota job quota) _ built is never = refl
-here_is before event.Take told built is never = refl
-here_is before (event.Finish job number a) told built is never = by (before.out job.0 number) is
+pub here_is : (before : Before) (e : Event) (told : Reply (List ℕ)) → IsFinishAnswer before e told → ((job : ℕ) (x : Input) → own_of e told ≡ Some (record { job = job; input = x }) → wants_memory told ≡ false) → own_here before (Own e) told ≡ own_of e told
+here_is before (event.Admit job quota key) reply.Ok is never = refl
+here_is before (event.Admit job quota key) _ is never = refl
+here_is before (event.JobEnd job) reply.Ok is never = refl
+here_is before (event.JobEnd job) _ is never = refl
+here_is before (event.Call job session c) told is never = ap (λ t. cond t None (Some (record { job = job.0; input = input.Call session c }))) (never job.0 (input.Call session c) refl)
+here_is before (event.Requota job quota) reply.Ok is never = refl
+here_is before (event.Requota job quota) _ is never = refl
+here_is before event.Take told is never = refl
+here_is before (event.Finish job number a) told is never = by (before.out job.0 number) is
   where
     by : (out : Bool) → told ≡ answered (stale_unless out) → cond (wants_memory told) None (cond out (Some (record { job = job.0; input = input.Answer number a })) None) ≡ own_of (event.Finish job number a) told
     by true is = subst (λ t. cond (wants_memory t) None (Some (record { job = job.0; input = input.Answer number a })) ≡ own_of (event.Finish job number a) t) (sym is) refl

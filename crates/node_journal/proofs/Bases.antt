@@ -1,0 +1,65 @@
+-- The bases that lists are folded into, and what a fold leaves.
+use Rattle.std.proofs.Common.{◌≡◌, ℕ, ◌+◌, ◌-◌, Bool, true, false, ◌==◌, ◌||◌, List, [], ◌∷◌, ◌++◌, length, suc, None, Some, refl, sym, ap, ◌∙◌, arith}
+use Rattle.std.specs.Prelude.{slice_get}
+use Rattle.std.specs.List.{list_any}
+use Rattle.std.proofs.Math.Logic.{∥∥₁_elim}
+use base.Stored.{Coded-set}
+use Rattle.obj_id.specs.declared.ids.JobNo.{JobNo}
+use Rattle.private_store.specs.Contents.{View}
+use Rattle.private_store.specs.Replay.{Brief, brief_of}
+use Rattle.private_store.proofs.Tests.{none_some}
+use Rattle.plain_store.specs.contracts.store.PlainStore as plain
+use Rattle.plain_store.specs.Parts.{has_begun}
+use Rattle.node_core.specs.Hosted.{Hosted, Shows}
+use Rattle.node_journal.specs.declared.entries.Line.{Line}
+use Rattle.node_journal.specs.Journals.{Journal, Tells, begins, folded_if, last_of, step_of, store_of}
+use Rattle.node_journal.specs.Logs.{Bases, AreStores, has_base}
+use Rattle.node_journal.proofs.Lives.{replay_begins}
+
+-- the number of the last line
+pub last_is : (low : ℕ) (ls : List Line) (l : Line) → slice_get ls (length ls - 1) ≡ Some l → step_of l ≡ last_of low ls
+last_is low [] l e = none_some l e
+last_is low (x ∷ []) l e = sym (ap (λ o. elim o as (λ _. ℕ) [ None ↦ 0 | Some y ↦ step_of y ]) e)
+last_is low (x ∷ y ∷ ys) l e = last_is (step_of x) (y ∷ ys) l (sym (ap (slice_get (x ∷ y ∷ ys)) shift) ∙ e)
+  where
+    shift : length (x ∷ y ∷ ys) - 1 ≡ suc (length (y ∷ ys) - 1)
+    shift = omega arith
+
+-- ---- the base of one list
+
+Brief-set : IsSet Brief
+Brief-set = Coded-set plain.the_row.coded
+
+-- what the node shows is what the journal tells of
+pub base_is : (node : Hosted) (journals : ℕ → Journal) (job : ℕ) (base : Brief) → ∥ Tells node journals ∥₁
+    → ((view : View) → Shows node job view → has_begun view.shape.life ≡ (has_begun (journals job).base.shape.life || list_any begins (journals job).list) → base ≡ brief_of view) → base ≡ store_of (journals job)
+base_is node journals job base h is = ∥∥₁_elim h (Brief-set _ _) (λ t.
+    let told = t.told job in
+    is (t.views job) (t.shown job) (sym (ap (λ (b : Brief). has_begun b.shape.life) told.replays) ∙ replay_begins (journals job).list (journals job).base told.due) ∙ sym told.replays)
+
+-- ---- those of several
+
+store_folded : (b : Bool) (j : Journal) → store_of (folded_if b j) ≡ store_of j
+store_folded true j = refl
+store_folded false j = refl
+
+-- folded twice is folded
+folded_twice : (a b : Bool) (j : Journal) → folded_if b (folded_if a j) ≡ folded_if (a || b) j
+folded_twice true true j = refl
+folded_twice true false j = refl
+folded_twice false b j = refl
+
+stores_kept : (es : Bases) (before after : ℕ → Journal) → ((job : ℕ) → store_of (after job) ≡ store_of (before job)) → AreStores es before → AreStores es after
+stores_kept [] before after same h = tt
+stores_kept (e ∷ es) before after same h = (h.0 ∙ sym (same e.0.0), stores_kept es before after same h.1)
+
+pub stores_left : (e : JobNo × Brief) (es : Bases) (before after : ℕ → Journal) → ((job : ℕ) → after job ≡ folded_if (e.0.0 == job) (before job)) → AreStores (e ∷ es) before → AreStores es after
+stores_left e es before after is h = stores_kept es before after (λ job. ap store_of (is job) ∙ store_folded (e.0.0 == job) (before job)) h.1
+
+pub folds_left : (e : JobNo × Brief) (es : Bases) (before after : ℕ → Journal) → ((job : ℕ) → after job ≡ folded_if (e.0.0 == job) (before job))
+    → (job : ℕ) → folded_if (has_base job es) (after job) ≡ folded_if (has_base job (e ∷ es)) (before job)
+folds_left e es before after is job = ap (folded_if (has_base job es)) (is job) ∙ folded_twice (e.0.0 == job) (has_base job es) (before job)
+
+pub stores_push : (es : Bases) (e : JobNo × Brief) (journals : ℕ → Journal) → AreStores es journals → e.1 ≡ store_of (journals e.0.0) → AreStores (es ++ e ∷ []) journals
+stores_push [] e journals h is = (is, tt)
+stores_push (x ∷ es) e journals h is = (h.0, stores_push es e journals h.1 is)

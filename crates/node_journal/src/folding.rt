@@ -1,0 +1,94 @@
+//! Which lists a step folds, and the bases that they are folded into.
+ghost use Rattle.std.specs.Prelude.{◌≡◌, ℕ, ◌+◌, ◌<◌, ◌≤◌, ◌==◌, ◌&&◌, ◌||◌, length, IfOk, OnOk};
+ghost use Rattle.node_journal.specs.Journals.{Tells, most_lines, has_no_room as has_no_room_lem, lines_due as lines_due_lem, store_of};
+ghost use Rattle.node_journal.specs.Logs.{journal_of, list_of, AreStores, has_base as has_base_lem};
+
+use crate::logs::Logs;
+use node_core::Node;
+use obj_id::JobNo;
+use plain_store::PlainStore;
+use std::alloc::{AllocError, Global};
+
+/// The lines that a job's list has at most.
+pub const MOST_LINES: usize = 65_536;
+
+/// The base that the job's lines are folded into: its store at the node, without contents.
+pub(crate) fn base_of(node: &Node, logs: &Logs, job: JobNo) -> Result<PlainStore, AllocError>
+    requires { ∥ Tells node.now (journal_of logs.now) ∥₁ }
+    ensures { IfOk result (λ base. base ≡ store_of (journal_of logs.now job.0)) }
+{
+    Ok(node.plain(job, logs.has_begun(job))?)
+}
+
+/// The bases of those lists that might have no room for what a step makes of this job that tells these takers of hands, one
+/// for each.
+pub(crate) fn bases_of(
+    alloc: Global,
+    node: &Node,
+    logs: &Logs,
+    own: JobNo,
+    takers: &[JobNo],
+) -> Result<Vec<(JobNo, PlainStore)>, AllocError>
+    requires told { ∥ Tells node.now (journal_of logs.now) ∥₁ }
+    requires few { (job : ℕ) → length (list_of logs.now job) ≤ most_lines }
+    requires some { length takers.now < most_lines }
+    ensures stores { IfOk result (λ bases. AreStores bases.items (journal_of logs.now)) }
+    ensures full { IfOk result (λ bases. (job : ℕ) → has_base_lem job bases.items ≡ has_no_room_lem own.0 takers.now job (length (list_of logs.now job))) }
+{
+    let mut bases = Vec::new(alloc);
+    add_base(node, logs, own, takers, own, &mut bases)?;
+    for taker in takers {
+        add_base(node, logs, own, takers, *taker, &mut bases)?;
+    }
+    Ok(bases)
+}
+
+/// Adds the base of the job's list, if it might have no room and none is there yet.
+fn add_base(
+    node: &Node,
+    logs: &Logs,
+    own: JobNo,
+    takers: &[JobNo],
+    job: JobNo,
+    bases: &mut Vec<(JobNo, PlainStore)>,
+) -> Result<(), AllocError>
+    requires told { ∥ Tells node.now (journal_of logs.now) ∥₁ }
+    requires few { (job : ℕ) → length (list_of logs.now job) ≤ most_lines }
+    requires some { length takers.now < most_lines }
+    requires stores { AreStores bases.old.items (journal_of logs.now) }
+    ensures stores { OnOk result (AreStores bases.new.items (journal_of logs.now)) }
+    ensures full { OnOk result ((other : ℕ) → has_base_lem other bases.new.items ≡ (has_base_lem other bases.old.items || (job.0 == other && has_no_room_lem own.0 takers.now other (length (list_of logs.now other))))) }
+{
+    if has_base(bases, job) || !has_no_room(own, takers, job, logs.list(job).len()) {
+        return Ok(());
+    }
+    let base = base_of(node, logs, job)?;
+    bases.push((job, base))?;
+    Ok(())
+}
+
+/// Whether one of the bases is the job's.
+fn has_base(bases: &[(JobNo, PlainStore)], job: JobNo) -> bool
+    ensures { result ≡ has_base_lem job.0 bases.now }
+{
+    bases.iter().any(|entry| entry.0.0 == job.0)
+}
+
+/// Whether a list of the job with so many lines might have no room for what the step makes.
+fn has_no_room(own: JobNo, takers: &[JobNo], job: JobNo, lines: usize) -> bool
+    requires few { lines ≤ most_lines }
+    requires some { length takers.now < most_lines }
+    ensures { result ≡ has_no_room_lem own.0 takers.now job.0 lines }
+{
+    lines + lines_due(own, takers, job) > MOST_LINES
+}
+
+/// How many lines of the job the step makes at most.
+fn lines_due(own: JobNo, takers: &[JobNo], job: JobNo) -> usize
+    requires { length takers.now < most_lines }
+    ensures due { result ≡ lines_due_lem own.0 takers.now job.0 }
+    ensures few { result ≤ length takers.now + 1 }
+{
+    let notes = takers.iter().filter(|taker| taker.0 == job.0).count();
+    if own.0 == job.0 { notes + 1 } else { notes }
+}
