@@ -20,7 +20,7 @@ use Rattle.owner_directory.specs.Locations.{Rows, locations_of}
 use Rattle.world_core.specs.Logs.{sent_of}
 use Rattle.node_core.specs.Hosted.{Hosted, Shows}
 use Rattle.node_core.specs.Steps.{is_taken}
-use Rattle.world_core.specs.Worlds.{Hosting, untaken, is_built_step, IsNodeAfter, IsAfter, IsNew, AreNew}
+use Rattle.world_core.specs.Worlds.{Hosting, untaken, is_within, IsNodeAfter, IsAfter, IsNew, AreNew}
 use Rattle.world_core.specs.Moves.{Turns}
 use Rattle.world_core.specs.Runs.{is_replied, all_replied}
 use Rattle.world_core.proofs.Places.{slice_get-push}
@@ -66,7 +66,7 @@ new_world nodes memory hosted tables messages h empty nothing = record {
 
 pub data IsRunTo (nodes : ℕ) (start : Hosting) : Hosting → List Traced → Type 0 where
   begun : IsRunTo nodes start start []
-  stepped : (old new : Hosting) (history : List Traced) (step : Step) (told : StepAnswer) → IsRunTo nodes start old history → is_built_step nodes step ≡ true → Turns old new step told
+  stepped : (old new : Hosting) (history : List Traced) (step : Step) (told : StepAnswer) → IsRunTo nodes start old history → is_within nodes step ≡ true → Turns old new step told
       → IsRunTo nodes start new (record { step = step; answer = told } ∷ history)
 
 pub after_run : (nodes memory : ℕ) (start world : Hosting) (history : List Traced) → IsAfter nodes memory start [] → IsRunTo nodes start world history → IsAfter nodes memory world history
@@ -117,8 +117,8 @@ pub all_taken : (trace : List Traced) (left schedule : List Step) (n : ℕ) → 
 all_taken trace left schedule n many none so_far =
     sym (append-nil (map (λ (entry : Traced). entry.step) trace)) ∙ ap (λ l. map (λ (entry : Traced). entry.step) trace ++ l) (sym (nothing_left left n many none)) ∙ so_far
 
-pub inside_rest : (nodes : ℕ) (left rest : List Step) (step : Step) → list_all (is_built_step nodes) left ≡ true → left ≡ step ∷ rest → list_all (is_built_step nodes) rest ≡ true
-inside_rest nodes left rest step inside next = both_right (is_built_step nodes step) (list_all (is_built_step nodes) rest) (ap (list_all (is_built_step nodes)) (sym next) ∙ inside)
+pub inside_rest : (nodes : ℕ) (left rest : List Step) (step : Step) → list_all (is_within nodes) left ≡ true → left ≡ step ∷ rest → list_all (is_within nodes) rest ≡ true
+inside_rest nodes left rest step inside next = both_right (is_within nodes step) (list_all (is_within nodes) rest) (ap (list_all (is_within nodes)) (sym next) ∙ inside)
 
 pub left_rest : (left rest : List Step) (step : Step) (n m : ℕ) → n ≡ length left → left ≡ step ∷ rest → m + 1 ≡ n → m ≡ length rest
 left_rest left rest step n m many next one = let e : n ≡ suc (length rest) = many ∙ ap length next in omega (arith, e, one)

@@ -1,6 +1,5 @@
--- A world after one step more, of any kind that is built.
+-- A world after one step more, of any kind.
 use Rattle.std.proofs.Common.{◌≡◌, ℕ, true, false, ◌<◌, List, ◌∷◌, length, refl, sym, ap, subst, ◌∙◌}
-use Rattle.std.specs.Prelude.{nat_lt}
 use Rattle.obj_id.specs.declared.ids.JobNo.{JobNo}
 use Rattle.obj_id.specs.declared.messages.Message.{Message}
 use Rattle.obj_id.specs.declared.messages.Place.{Place}
@@ -18,9 +17,9 @@ use Rattle.private_store.specs.NodeInputs.{before_at, own_due}
 use Rattle.private_store.specs.Private.{Store}
 use Rattle.private_store.specs.Trace.{is_no_memory}
 use Rattle.private_store.proofs.StepInputs.{want_same}
-use Rattle.private_store.proofs.Tests.{both_left, true_false}
+use Rattle.private_store.proofs.Tests.{true_false}
 use Rattle.node_core.specs.Steps.{Given, IsGiven, StepsFrom}
-use Rattle.world_core.specs.Worlds.{Hosting, IsNodeAfter, IsAfter, is_built_step}
+use Rattle.world_core.specs.Worlds.{Hosting, IsNodeAfter, IsAfter, is_within}
 use Rattle.world_core.specs.Moves.{Moves, as_damaged, Hands, to_directory, past_directory, to_node, past_node, nothing, hands, Turns, at, delivers, wants, Happens}
 use Rattle.world_core.proofs.Numbers.{is_less}
 use Rattle.world_core.proofs.Places.{length-slice_set}
@@ -64,8 +63,8 @@ module _ (nodes memory place : ℕ) (e : Event) (given : Given) (old new : Hosti
 
 -- what a step does leaves the world after a history with one step more
 pub after_turn : (nodes memory : ℕ) (history : List Traced) (old new : Hosting) (step : Step) (told : StepAnswer)
-    → IsAfter nodes memory old history → is_built_step nodes step ≡ true → Turns old new step told → IsAfter nodes memory new (record { step = step; answer = told } ∷ history)
-after_turn nodes memory history old new step told h inside (at place e given moves) = after_at nodes memory place e given old new history h (is_less place nodes (both_left (nat_lt place nodes) _ inside)) moves
+    → IsAfter nodes memory old history → is_within nodes step ≡ true → Turns old new step told → IsAfter nodes memory new (record { step = step; answer = told } ∷ history)
+after_turn nodes memory history old new step told h inside (at place e given moves) = after_at nodes memory place e given old new history h (is_less place nodes inside) moves
 after_turn nodes memory history old new step told h inside (wants s same) =
     subst (λ w. IsAfter nodes memory w (record { step = s; answer = Told (reply.Refused NoMemory) } ∷ history)) (sym same) (after_wanting nodes memory history s old h)
 after_turn nodes memory history old new step told h inside (delivers job from to m damage answer (nothing none same)) =
@@ -76,8 +75,8 @@ after_turn nodes memory history old new step told h inside (delivers job from to
 
 -- an answer that is out of memory is a step that did nothing
 pub turn_wants : (nodes memory : ℕ) (history : List Traced) (old new : Hosting) (step : Step) (told : StepAnswer)
-    → IsAfter nodes memory old history → is_built_step nodes step ≡ true → Turns old new step told → is_no_memory told ≡ true → new ≡ old
-turn_wants nodes memory history old new step told h inside (at place e given moves) n = true_false (sym (event_answered nodes memory place e given old new history h (is_less place nodes (both_left (nat_lt place nodes) _ inside)) moves) ∙ n)
+    → IsAfter nodes memory old history → is_within nodes step ≡ true → Turns old new step told → is_no_memory told ≡ true → new ≡ old
+turn_wants nodes memory history old new step told h inside (at place e given moves) n = true_false (sym (event_answered nodes memory place e given old new history h (is_less place nodes inside) moves) ∙ n)
 turn_wants nodes memory history old new step told h inside (wants s same) n = same
 turn_wants nodes memory history old new step told h inside (delivers job from to m damage answer (nothing none same)) n = same
 turn_wants nodes memory history old new step told h inside (delivers job from to m damage answer (hands sent t some k)) n = handed_wants_none nodes memory history old new job from to (as_damaged damage sent) t h inside k n
@@ -102,9 +101,9 @@ turned_by old new place e told k =
     subst (λ r. Turns old new (At place e) (Told r)) k.reply
     (at place e k.given (record { before = k.before; after = k.after; found = k.found; steps = k.steps; nodes = k.nodes; tables = k.tables; sent = k.sent }))
 
-module _ (nodes memory : ℕ) (history : List Traced) (old new : Hosting) (step : Step) (h : IsAfter nodes memory old history) (inside : is_built_step (length old.nodes) step ≡ true) where
-  within_nodes : is_built_step nodes step ≡ true
-  within_nodes = subst (λ n. is_built_step n step ≡ true) h.count inside
+module _ (nodes memory : ℕ) (history : List Traced) (old new : Hosting) (step : Step) (h : IsAfter nodes memory old history) (inside : is_within (length old.nodes) step ≡ true) where
+  within_nodes : is_within nodes step ≡ true
+  within_nodes = subst (λ n. is_within n step ≡ true) h.count inside
 
   pub world_after : (told : StepAnswer) (s : Step) → step ≡ s → Turns old new s told → IsAfter nodes memory new (record { step = step; answer = told } ∷ history)
   world_after told s is t = after_turn nodes memory history old new step told h within_nodes (subst (λ s. Turns old new s told) (sym is) t)

@@ -17,7 +17,6 @@ use Rattle.world_core.specs.declared.Shape.{Shape}
 use Rattle.owner_directory.specs.Locations.{Rows, Locations, locations_of}
 use Rattle.world_core.specs.Logs.{sent_of}
 use Rattle.node_core.specs.Hosted.{Hosted, Shows}
-use Rattle.node_core.specs.Built.{is_built}
 use Rattle.node_core.specs.Steps.{is_taken}
 
 -- what a contract sees of a world
@@ -34,10 +33,10 @@ abbrev pub is_place : ℕ → Place → Bool
 is_place nodes (Node place) = nat_lt place nodes
 is_place nodes Directory = true
 
--- the steps that are built: an event that is built, at one of the nodes, and each delivery to a place that is there
-abbrev pub is_built_step : ℕ → Step → Bool
-is_built_step nodes (At place e) = nat_lt place nodes && is_built e
-is_built_step nodes (Deliver job from to m damage) = is_place nodes to
+-- an event at one of the nodes, or a delivery to a place that is there
+abbrev pub is_within : ℕ → Step → Bool
+is_within nodes (At place e) = nat_lt place nodes
+is_within nodes (Deliver job from to m damage) = is_place nodes to
 
 -- ---- a node's line of works, as the trace tells it
 

@@ -7,19 +7,17 @@ ghost use Rattle.obj_id.specs.declared.refusals.Refusal.{Refusal};
 ghost use Rattle.obj_id.specs.declared.refusals.Refusal.TheVariants.{NoMemory};
 ghost use Rattle.private_store.specs.declared.schedules.Traced.{Traced};
 ghost use Rattle.private_store.specs.Trace.{is_no_memory};
-ghost use Rattle.node_core.specs.Built.{is_built};
 ghost use Rattle.node_core.specs.Steps.{job_of_event};
-ghost use Rattle.world_core.specs.Worlds.{is_shape, is_built_step as is_built_step_lem, AreNew, IsAfter};
+ghost use Rattle.world_core.specs.Worlds.{is_shape, is_within as is_within_lem, AreNew, IsAfter};
 ghost use Rattle.world_core.specs.Moves.{Happens};
 ghost use Rattle.world_core.specs.Runs.{is_replied};
 
-mod built;
 mod handing;
 mod messages;
 mod on_the_way;
 mod runs;
+mod within;
 
-pub use built::is_built_step;
 use bytes::Bytes;
 use messages::Messages;
 use node_core::{Node, Outcome};
@@ -29,6 +27,7 @@ use private_store::{Event, Step, StepAnswer};
 pub use runs::{Trace, run, run_two};
 use std::alloc::{AllocError, Global};
 use std::marker::Model;
+pub use within::is_within;
 
 /// How many nodes a world has, 1 to 8, and the bytes of each one's memory, 0 to 17,179,869,184.
 #[derive(Clone, Copy, Debug, PartialEq, Eq)]
@@ -74,7 +73,7 @@ impl World {
     /// Takes one step and gives its answer. Want of memory is the answer `NoMemory`, and then nothing has
     /// changed.
     pub fn step(&mut self, step: &Step) -> StepAnswer
-        requires { is_built_step_lem (length self.old.nodes) step.now ≡ true }
+        requires { is_within_lem (length self.old.nodes) step.now ≡ true }
         ensures after { (nodes memory : ℕ) (history : List Traced) → IsAfter nodes memory self.old history
             → IsAfter nodes memory self.new (record { step = step.now; answer = result } ∷ history) }
         ensures memory { (nodes memory : ℕ) (history : List Traced) → IsAfter nodes memory self.old history → is_no_memory result ≡ true → self.new ≡ self.old }
@@ -101,8 +100,7 @@ impl World {
 
     /// An event at the node of the place. `NoMemory` alone, and then nothing has changed.
     fn apply(&mut self, place: u32, event: &Event) -> Result<Reply<Bytes>, Refusal>
-        requires place { place < length self.old.nodes }
-        requires built { is_built event.now ≡ true }
+        requires { place < length self.old.nodes }
         ensures ok { IfOk result (λ reply. Happens self.old place event.now reply self.new) }
         ensures err { OnErr result (self.new ≡ self.old) }
     {

@@ -5,7 +5,7 @@ ghost use Rattle.obj_id.specs.declared.refusals.Refusal.{Refusal};
 ghost use Rattle.obj_id.specs.declared.refusals.Refusal.TheVariants.{NoMemory};
 ghost use Rattle.private_store.specs.Trace.{replies_of, is_answered, Agree, IsPrivate};
 ghost use Rattle.private_store.specs.Shared.{AreSharedAnswers};
-ghost use Rattle.world_core.specs.Worlds.{is_shape, is_built_step};
+ghost use Rattle.world_core.specs.Worlds.{is_shape, is_within};
 ghost use Rattle.world_core.specs.Runs.{IsRun, all_replied};
 
 use crate::{Shape, World};
@@ -64,7 +64,7 @@ impl Trace {
 /// answered so.
 pub fn run(alloc: Global, shape: Shape, schedule: Vec<Step>) -> Result<Trace, Refusal>
     requires shape { is_shape shape ≡ true }
-    requires built { list_all (is_built_step shape.nodes) schedule.items ≡ true }
+    requires places { list_all (is_within shape.nodes) schedule.items ≡ true }
     ensures steps { IfOk result (λ trace. map (λ entry. entry.step) trace ≡ schedule.items) }
     ensures replied { IfOk result (λ trace. all_replied trace ≡ true) }
     ensures shared { IfOk result (λ trace. AreSharedAnswers shape.nodes shape.memory trace) }
@@ -89,8 +89,8 @@ pub fn run_two(
     second: Vec<Step>,
 ) -> Result<(Trace, Trace), Refusal>
     requires shape { is_shape shape ≡ true }
-    requires first { list_all (is_built_step shape.nodes) first.items ≡ true }
-    requires second { list_all (is_built_step shape.nodes) second.items ≡ true }
+    requires first { list_all (is_within shape.nodes) first.items ≡ true }
+    requires second { list_all (is_within shape.nodes) second.items ≡ true }
     ensures first { IfOk result (λ traces. IsRun shape.nodes shape.memory first.items traces.0) }
     ensures second { IfOk result (λ traces. IsRun shape.nodes shape.memory second.items traces.1) }
     ensures replies { IfOk result (λ traces. (job : ℕ) → Agree shape.nodes job traces.0 traces.1

@@ -1,17 +1,16 @@
-//! Which steps are built.
+//! Which places a world has.
 ghost use Rattle.std.specs.Prelude.{◌≡◌};
-ghost use Rattle.world_core.specs.Worlds.{is_built_step as is_built_step_lem, is_place as is_place_lem};
+ghost use Rattle.world_core.specs.Worlds.{is_within as is_within_lem, is_place as is_place_lem};
 
-use node_core::is_built;
 use obj_id::Place;
 use private_store::Step;
 
-/// Whether the step is built, in a world of so many nodes.
-pub fn is_built_step(nodes: u32, step: &Step) -> bool
-    ensures { result ≡ is_built_step_lem nodes step.now }
+/// Whether a world of so many nodes has the node of an event, or the place to which a message is delivered.
+pub fn is_within(nodes: u32, step: &Step) -> bool
+    ensures { result ≡ is_within_lem nodes step.now }
 {
     match step {
-        Step::At(place, event) => *place < nodes && is_built(event),
+        Step::At(place, _) => *place < nodes,
         Step::Deliver { to, .. } => is_place(nodes, *to),
     }
 }
