@@ -58,7 +58,7 @@ use Rattle.hand_laws.proofs.Moving.{Stand, Moved, Answers, still_moves, node_mov
 
 -- ---- commands and their answers
 
-if_same : {X : Type 0} (b : Bool) (x : X) → (if b then x else x) ≡ x
+pub if_same : {X : Type 0} (b : Bool) (x : X) → (if b then x else x) ≡ x
 if_same true x = refl
 if_same false x = refl
 

@@ -221,7 +221,7 @@ module _ (store : Shape) where
         ]
       ]
 
-  leave_one_still : (session : ℕ) (id : ObjectId) → IsStill store (leave_one session store id)
+  pub leave_one_still : (session : ℕ) (id : ObjectId) → IsStill store (leave_one session store id)
   leave_one_still session id =
       elim (at store.copies id) as (λ o. IsStill store (option_map_or (λ copy. done (settled (set_copy store id (with_holds copy session 0)) id)) o (done store))) [
         | None ↦ stays _ (same_hands store)

@@ -85,7 +85,7 @@ abbrev AreQuiet : List Given → Type 0
 AreQuiet [] = Unit {0}
 AreQuiet (g ∷ gs) = IsQuiet g.input × AreQuiet gs
 
-quiet_all : (j : ℕ) (gs : List Given) → AreQuiet gs → (E : Cluster) → told_from E (for_job j gs) ≡ []
+pub quiet_all : (j : ℕ) (gs : List Given) → AreQuiet gs → (E : Cluster) → told_from E (for_job j gs) ≡ []
 quiet_all j [] q E = refl
 quiet_all j (g ∷ gs) q E =
     elim (g.job == j) as (λ t. told_from E (map (λ g. g.input) (cond t (g ∷ filter (λ g. g.job == j) gs) (filter (λ g. g.job == j) gs))) ≡ []) [
@@ -97,7 +97,7 @@ ends_quiet : (m : ℕ) (gone : List Hand) → AreQuiet (map (withdrawn_note m) g
 ends_quiet m [] = tt
 ends_quiet m (h ∷ gone) = (λ E. refl, ends_quiet m gone)
 
-notes_quiet : (nodes : ℕ) (inputs : ℕ → List ClusterInput) (before : List Traced) (s : Step) (a : StepAnswer) → AreQuiet (notes nodes inputs before s a)
+pub notes_quiet : (nodes : ℕ) (inputs : ℕ → List ClusterInput) (before : List Traced) (s : Step) (a : StepAnswer) → AreQuiet (notes nodes inputs before s a)
 notes_quiet nodes inputs before (steps.At m (event.Call k session (command.Grant id target))) (answer.Told reply.Ok) = (λ E. refl, tt)
 notes_quiet nodes inputs before (steps.At m (event.Call k session (command.Withdraw id target))) (answer.Told reply.Ok) = ends_quiet m _
 notes_quiet nodes inputs before (steps.At m (event.Call k session (command.EndTask task))) (answer.Told reply.Ok) = ends_quiet m _
@@ -197,7 +197,7 @@ answered_more j entry before =
     ap (filter is_answered) (ap (replies_of j) (reverse-append (entry ∷ []) before) ∙ filter_map-append (λ e. reply_of j e.step e.answer) (reverse before) (entry ∷ []) ∙ ap (λ l. replies_of j (reverse before) ++ l) (one_reply (reply_of j entry.step entry.answer)))
     ∙ filter-append is_answered (replies_of j (reverse before)) (option_to_list (reply_of j entry.step entry.answer))
 
-abbrev all_told : List Traced → Bool
+abbrev pub all_told : List Traced → Bool
 all_told history = list_all (λ entry. is_told entry.step entry.answer) history
 
 sum_less : (a b c d x y : ℕ) → a ≤ b → c ≤ d → x ≡ a + c → y ≡ b + d → x ≤ y
@@ -233,7 +233,7 @@ and_turned true false = refl
 and_turned false true = refl
 and_turned false false = refl
 
-told_back : (trace : List Traced) → all_told (reverse trace) ≡ all_told trace
+pub told_back : (trace : List Traced) → all_told (reverse trace) ≡ all_told trace
 told_back [] = refl
 told_back (entry ∷ trace) =
     ap all_told (reverse-append (entry ∷ []) trace) ∙ list_all-append (λ e. is_told e.step e.answer) (reverse trace) (entry ∷ [])

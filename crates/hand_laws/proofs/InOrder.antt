@@ -1,10 +1,10 @@
 -- Ends are told in order of depth, object, giver and taker.
-use Rattle.std.proofs.Common.{◌≡◌, true, false, not, cond, ◌&&◌, List, [], ◌∷◌, refl, ap, ◌∙◌}
+use Rattle.std.proofs.Common.{◌≡◌, true, false, not, cond, ◌&&◌, Bool, List, [], ◌∷◌, filter, refl, sym, ap, ◌∙◌}
 use Rattle.std.specs.Cmp.{IsTotalOrder}
 use Rattle.std.specs.Ordering.{is_lt, ordering_reverse}
 use Rattle.std.specs.declared.cmp.Ordering.{Ordering}
 use Rattle.std.specs.declared.cmp.Ordering.TheVariants.{Less, Equal, Greater}
-use Rattle.std.proofs.lemmas.Cmp.{nat_cmp_total, on_total, then_total}
+use Rattle.std.proofs.lemmas.Cmp.{nat_cmp_total, on_total, then_total, alike_right}
 use Rattle.obj_id.proofs.SameIds.{id_cmp-IsTotalOrder}
 use Rattle.private_store.specs.Hands.{Hand, hand_cmp, hand_placed, hands_sorted}
 use Rattle.private_store.proofs.Tests.{true_false, both, both_left, both_right}
@@ -44,3 +44,65 @@ placed_rises x (y ∷ ys) r =
 pub sorted_rises : (hands : List Hand) → rises (hands_sorted hands) ≡ true
 sorted_rises [] = refl
 sorted_rises (x ∷ xs) = placed_rises x (hands_sorted xs) (sorted_rises xs)
+
+-- ---- the order of some of them
+
+less : (r : Ordering) → is_lt r ≡ true → r ≡ Less
+less Less e = refl
+less Equal e = true_false e
+less Greater e = true_false e
+
+-- what comes before one hand comes before all that don't come before that
+less_through : (x y z : Hand) → is_lt (hand_cmp x y) ≡ true → not (is_lt (hand_cmp z y)) ≡ true → is_lt (hand_cmp x z) ≡ true
+less_through x y z e f = by (hand_cmp y z) refl
+  where
+    back : (r : Ordering) → not (is_lt (ordering_reverse r)) ≡ true → r ≡ Greater → is_lt (hand_cmp x z) ≡ true
+    back r n is = true_false (sym (ap (λ r. not (is_lt (ordering_reverse r))) is) ∙ n)
+
+    by : (r : Ordering) → hand_cmp y z ≡ r → is_lt (hand_cmp x z) ≡ true
+    by Less is = ap is_lt (hand_cmp_total.trans x y z (less (hand_cmp x y) e) is)
+    by Equal is = ap is_lt (sym (alike_right hand_cmp_total y z x is)) ∙ e
+    by Greater is = back (hand_cmp y z) (ap (λ r. not (is_lt r)) (sym (hand_cmp_total.antisymm z y)) ∙ f) is
+
+module _ (q : Hand → Bool) where
+  first_stays : (x y : Hand) (ys : List Hand) → is_lt (hand_cmp x y) ≡ true → rises_from y ys ≡ true → hand_placed x (filter q (y ∷ ys)) ≡ x ∷ filter q (y ∷ ys)
+  first_stays x y [] e r =
+      elim (q y) as (λ t. hand_placed x (cond t (y ∷ []) []) ≡ x ∷ cond t (y ∷ []) []) [
+        | true ↦ ap (λ t. cond t (x ∷ y ∷ []) (y ∷ x ∷ [])) e
+        | false ↦ refl
+      ]
+  first_stays x y (z ∷ zs) e r =
+      let some = filter q (z ∷ zs) in
+      elim (q y) as (λ t. hand_placed x (cond t (y ∷ some) some) ≡ x ∷ cond t (y ∷ some) some) [
+        | true ↦ ap (λ t. cond t (x ∷ y ∷ some) (y ∷ hand_placed x some)) e
+        | false ↦ first_stays x z zs (less_through x y z e (both_left (not (is_lt (hand_cmp z y))) (rises_from z zs) r)) (both_right (not (is_lt (hand_cmp z y))) (rises_from z zs) r)
+      ]
+
+  rises_later : (y : Hand) (ys : List Hand) → rises_from y ys ≡ true → rises ys ≡ true
+  rises_later y [] r = refl
+  rises_later y (z ∷ zs) r = both_right (not (is_lt (hand_cmp z y))) (rises_from z zs) r
+
+  filter_placed : (x : Hand) (ys : List Hand) → rises ys ≡ true → filter q (hand_placed x ys) ≡ cond (q x) (hand_placed x (filter q ys)) (filter q ys)
+  filter_placed x [] r = refl
+  filter_placed x (y ∷ ys) r =
+      let some = filter q (y ∷ ys) in
+      elim (is_lt (hand_cmp x y)) as (λ t. is_lt (hand_cmp x y) ≡ t → filter q (cond t (x ∷ y ∷ ys) (y ∷ hand_placed x ys)) ≡ cond (q x) (hand_placed x some) some) [
+        | true ↦ λ t. ap (λ l. cond (q x) l some) (sym (first_stays x y ys t r))
+        | false ↦ λ t.
+            ap (λ l. cond (q y) (y ∷ l) l) (filter_placed x ys (rises_later y ys r))
+            ∙ elim (q y) as (λ u. cond u (y ∷ cond (q x) (hand_placed x (filter q ys)) (filter q ys)) (cond (q x) (hand_placed x (filter q ys)) (filter q ys)) ≡ cond (q x) (hand_placed x (cond u (y ∷ filter q ys) (filter q ys))) (cond u (y ∷ filter q ys) (filter q ys))) [
+              | true ↦ elim (q x) as (λ v. y ∷ cond v (hand_placed x (filter q ys)) (filter q ys) ≡ cond v (hand_placed x (y ∷ filter q ys)) (y ∷ filter q ys)) [
+                | true ↦ sym (ap (λ b. cond b (x ∷ y ∷ filter q ys) (y ∷ hand_placed x (filter q ys))) t)
+                | false ↦ refl
+              ]
+              | false ↦ refl
+            ]
+      ] refl
+
+  -- some of the hands in order are in order as if they were all
+  pub filter_sorted : (hands : List Hand) → filter q (hands_sorted hands) ≡ hands_sorted (filter q hands)
+  filter_sorted [] = refl
+  filter_sorted (x ∷ xs) =
+      filter_placed x (hands_sorted xs) (sorted_rises xs)
+      ∙ ap (λ l. cond (q x) (hand_placed x l) l) (filter_sorted xs)
+      ∙ elim (q x) as (λ t. cond t (hand_placed x (hands_sorted (filter q xs))) (hands_sorted (filter q xs)) ≡ hands_sorted (cond t (x ∷ filter q xs) (filter q xs))) [ true ↦ refl | false ↦ refl ]

@@ -17,4 +17,15 @@ mod HeldOnTo
 mod TakenBytes
 mod ShownBytes
 mod Lengths
+mod OwnParts
+mod OwnSteps
+mod AsideSteps
+mod SettledViews
+mod OwnViews
+mod OwnClusters
+mod OtherTables
+mod Telling
+mod Withdrawals
+mod SharedAlike
+pub mod Agreeing
 pub mod Moments

@@ -30,6 +30,10 @@ use Rattle.hand_laws.proofs.Halves.{given_half, HasHalves}
 use Rattle.hand_laws.proofs.AfterEnds.{end_told, told_to, ended_fits}
 use Rattle.hand_laws.proofs.ClusterInputs.{elsewhere, here, some_of_map, StillInput}
 
+pub filter_true : {X : Type 0} (xs : List X) → filter (λ x. true) xs ≡ xs
+filter_true [] = refl
+filter_true (x ∷ xs) = ap (λ r. x ∷ r) (filter_true xs)
+
 -- each node has a table, and each job's store its halves
 pub record Stand (nodes : ℕ) (before : List Traced) : Type 0 where
   pub table : (n : ℕ) → AreHands (hands_at n before)
@@ -131,10 +135,6 @@ module _ (nodes : ℕ) (before : List Traced) (stand : Stand nodes before) where
     pub job : after.job ≡ store.job
     pub given : after.given ≡ map as_given (filter (λ h. not (test h)) (given_by k hands))
     pub received : after.received ≡ store.received
-
-  filter_true : (xs : List Hand) → filter (λ x. true) xs ≡ xs
-  filter_true [] = refl
-  filter_true (x ∷ xs) = ap (λ r. x ∷ r) (filter_true xs)
 
   module _ (m k : ℕ) (test : Hand → Bool) (theirs : (h : Hand) → test h ≡ true → h.giver ≡ k) where
     others_keep : (j : ℕ) (hands : List Hand) → (k == j) ≡ false → given_half j hands ≡ map as_given (filter (λ h. not (test h)) (given_by j hands))

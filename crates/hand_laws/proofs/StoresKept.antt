@@ -10,8 +10,10 @@ use Rattle.obj_id.specs.declared.messages.Message.TheVariants as message
 use Rattle.private_store.specs.declared.inputs.Input.{Input}
 use Rattle.private_store.specs.declared.inputs.Input.TheVariants.{Arrive}
 use Rattle.private_store.specs.Private.{Store, private_step, store_from, view_of, no_store}
+use Rattle.private_store.specs.Contents.{judge}
 use Rattle.private_store.specs.Cluster.{Cluster, ClusterInput, at_node, deliver, cluster_step, cluster_from, input_at, unmoved, handed_over, handed_to_directory, message_at, damaged, arrival_of, no_cluster}
 use Rattle.private_store.specs.Kept.{IsViewKept}
+use Rattle.private_store.proofs.OwnJob.{step_keeps_job}
 use Rattle.private_store.proofs.StepsKept.{run_keeps}
 use Rattle.hand_laws.proofs.ClusterInputs.{input_stores, some_of_map, no_stores}
 
@@ -22,7 +24,7 @@ one_more n s (y ∷ xs) x = one_more n (private_step n s y) xs x
 abbrev pub HasCome : ℕ → ℕ → Store → Type 0
 HasCome job n s = (xs : List Input) × (s ≡ store_from n (no_store job) xs)
 
-abbrev AllHaveCome : ℕ → Cluster → Type 0
+abbrev pub AllHaveCome : ℕ → Cluster → Type 0
 AllHaveCome job C = (n : ℕ) (s : Store) → slice_get C.stores n ≡ Some s → HasCome job n s
 
 input_comes : (job : ℕ) (C : Cluster) (m : ℕ) (x : Input) → AllHaveCome job C → AllHaveCome job (input_at C m x).cluster
@@ -48,7 +50,7 @@ handed_comes job C from (Node node) m all =
       | Some a ↦ input_comes job C node (Arrive a) all
     ]
 
-step_comes : (job : ℕ) (C : Cluster) (x : ClusterInput) → AllHaveCome job C → AllHaveCome job (cluster_step C x).cluster
+pub step_comes : (job : ℕ) (C : Cluster) (x : ClusterInput) → AllHaveCome job C → AllHaveCome job (cluster_step C x).cluster
 step_comes job C (at_node m x) all = input_comes job C m x all
 step_comes job C (deliver from to k damage) all =
     elim (message_at C from to k) as (λ o. AllHaveCome job (option_map_or (λ message. handed_over C from to (if damage then damaged message else message)) o (unmoved C)).cluster) [
@@ -56,7 +58,7 @@ step_comes job C (deliver from to k damage) all =
       | Some m ↦ handed_comes job C from to (if damage then damaged m else m) all
     ]
 
-from_comes : (job : ℕ) (C : Cluster) (xs : List ClusterInput) → AllHaveCome job C → AllHaveCome job (cluster_from C xs)
+pub from_comes : (job : ℕ) (C : Cluster) (xs : List ClusterInput) → AllHaveCome job C → AllHaveCome job (cluster_from C xs)
 from_comes job C [] all = all
 from_comes job C (x ∷ xs) all = from_comes job (cluster_step C x).cluster xs (step_comes job C x all)
 
@@ -73,3 +75,10 @@ come_kept job n s c = subst (λ x. IsViewKept (view_of x)) (sym c.1) (run_keeps 
 
 pub all_come : (job nodes : ℕ) (xs : List ClusterInput) (n : ℕ) (s : Store) → slice_get (cluster_from (no_cluster job nodes) xs).stores n ≡ Some s → HasCome job n s
 all_come job nodes xs n s e = from_comes job (no_cluster job nodes) xs (λ n s e. ([], no_stores job nodes n s e)) n s e
+
+from_job : (n : ℕ) (s : Store) (xs : List Input) → (store_from n s xs).shape.job ≡ s.shape.job
+from_job n s [] = refl
+from_job n s (x ∷ xs) = from_job n (private_step n s x) xs ∙ step_keeps_job (view_of s).order s.shape (judge n (view_of s) x)
+
+pub come_job : (job n : ℕ) (s : Store) → HasCome job n s → s.shape.job ≡ job
+come_job job n s c = ap (λ x. x.shape.job) c.1 ∙ from_job n (no_store job) c.0

@@ -114,7 +114,7 @@ pub data Hung (all : List Hand) (h : Hand) : Type 0 where
   on_nothing : h.giver ≡ h.id.job.0 → h.depth ≡ 1 → ((b : Hand) → hangs_on h b ≡ false) → Hung all h
   on : (b : Hand) → stands b all → hangs_on h b ≡ true → h.depth ≡ suc b.depth → nat_le h.depth greatest_depth ≡ true → Hung all h
 
-and_no : (b : Bool) → (b && false) ≡ false
+pub and_no : (b : Bool) → (b && false) ≡ false
 and_no true = refl
 and_no false = refl
 

@@ -67,7 +67,7 @@ ends_there nodes node trace e test h is =
 -- ---- who sees what
 
 -- nobody gives an object to its own job
-not_home : (before hs : List Hand) → all_stand before hs ≡ true → (h : Hand) → stands h hs → (h.taker == h.id.job.0) ≡ false
+pub not_home : (before hs : List Hand) → all_stand before hs ≡ true → (h : Hand) → stands h hs → (h.taker == h.id.job.0) ≡ false
 not_home before [] s h a = absurd a
 not_home before (x ∷ hs) s h a =
     let taker = not (is_no_taker x.id x.giver x.taker) in

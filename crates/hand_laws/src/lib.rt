@@ -10,6 +10,7 @@ ghost use Rattle.private_store.specs.Trace.{ends};
 ghost use Rattle.hand_laws.specs.Held.{HoldsOn, ShowsWhatIs, BytesStay};
 ghost use Rattle.hand_laws.specs.Ending.{EndsThere};
 ghost use Rattle.hand_laws.specs.Moments.{AtEachMoment};
+ghost use Rattle.hand_laws.specs.Telling.{OthersDontShow, OthersDontShowWhereDue};
 ghost use Rattle.hand_laws.specs.Standing.{ArePrivate, HaveHands, SeesWhatIsLed};
 
 /// A trace that is answered privately was so at each moment before, so the other laws hold at every moment.
@@ -51,4 +52,14 @@ pub fn a_hand_holds_on_to_its_object()
 /// All these laws between each two steps of a trace and over each step.
 pub fn laws_hold_at_every_moment()
     ensures { (nodes : ℕ) (trace : List Traced) → ArePrivate nodes trace → AtEachMoment nodes trace }
+{}
+
+/// What other jobs do with the hands of a job's objects doesn't show to it. If two traces are equal but for other jobs'
+/// Grants, Withdraws and Peeks of its objects, and for what commands are answered, the job has the same inputs in both and is
+/// told the same. Of the answers to commands these count: those to other jobs' other Grants, since a giver has only so many
+/// hands, and whether there was memory. Where the shared answers are due, they follow from the rest, and only whether there
+/// was memory counts of them.
+pub fn others_hands_dont_show()
+    ensures any { (nodes job : ℕ) (first second : List Traced) → OthersDontShow nodes job first second }
+    ensures due { (nodes memory job : ℕ) (first second : List Traced) → OthersDontShowWhereDue nodes memory job first second }
 {}

@@ -10,7 +10,9 @@ use Rattle.private_store.specs.declared.schedules.Traced.{Traced}
 use Rattle.private_store.proofs.Tests.{both, both_left, both_right}
 use Rattle.hand_laws.specs.Standing.{is_told, ArePrivate}
 use Rattle.hand_laws.specs.Moments.{AtEachMoment}
+use Rattle.hand_laws.specs.Telling.{heard_where_due, counting, ShowsAlike}
 use Rattle.hand_laws.proofs.Moments.{each_moment}
+use Rattle.hand_laws.proofs.Agreeing.{others_dont_show_where_due}
 use Rattle.world_core.specs.Runs.{is_replied, all_replied, IsRun}
 
 -- a command is an event at a node
@@ -27,8 +29,12 @@ all_told (entry ∷ trace) e =
     (one_told entry.step entry.answer (both_left (is_replied entry.step entry.answer) (all_replied trace) e))
     (all_told trace (both_right (is_replied entry.step entry.answer) (all_replied trace) e))
 
+private_run : (nodes memory : ℕ) (schedule : List Step) (trace : List Traced) → IsRun nodes memory schedule trace → ArePrivate nodes trace
+private_run nodes memory schedule trace run = record { told = all_told trace run.replied; replies = run.private }
+
 pub hands_of_run : (nodes memory : ℕ) (schedule : List Step) (trace : List Traced) → IsRun nodes memory schedule trace → AtEachMoment nodes trace
-hands_of_run nodes memory schedule trace run = each_moment nodes trace private_run
-  where
-    private_run : ArePrivate nodes trace
-    private_run = record { told = all_told trace run.replied; replies = run.private }
+hands_of_run nodes memory schedule trace run = each_moment nodes trace (private_run nodes memory schedule trace run)
+
+pub others_dont_show_in_runs : (nodes memory job : ℕ) (first second : List Step) (a b : List Traced) → IsRun nodes memory first a → IsRun nodes memory second b → counting (heard_where_due job) job a ≡ counting (heard_where_due job) job b → ShowsAlike nodes job a b
+others_dont_show_in_runs nodes memory job first second a b one other same =
+    others_dont_show_where_due nodes memory job a b (private_run nodes memory first a one) (private_run nodes memory second b other) one.shared other.shared same
