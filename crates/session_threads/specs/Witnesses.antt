@@ -5,12 +5,11 @@ use Rattle.obj_id.specs.declared.commands.Command.{Command}
 use Rattle.obj_id.specs.declared.commands.Command.TheVariants as command
 use Rattle.obj_id.specs.declared.commands.Reply.{Reply}
 use Rattle.obj_id.specs.declared.commands.Reply.TheVariants as reply
-use Rattle.obj_id.specs.declared.refusals.Refusal.TheVariants.{Malformed, NoMemory}
+use Rattle.obj_id.specs.declared.refusals.Refusal.TheVariants.{NoMemory}
 use Rattle.private_store.specs.declared.frames.Awaited.{Awaited}
 use Rattle.private_store.specs.declared.frames.Awaited.TheVariants as awaited
 use Rattle.private_store.specs.declared.inputs.Judged.TheVariants as judged
 use Rattle.private_store.specs.Contents.{brief}
-use Rattle.node_core.specs.Built.{is_built_command}
 use Rattle.node_journal.specs.declared.entries.Entry.{Entry}
 use Rattle.node_journal.specs.Replies.{kept_reply}
 use Rattle.session_engine.specs.Calls.{Asked, to_call, to_wait, Answered, replied}
@@ -31,14 +30,9 @@ abbrev pub tried : Awaited → Command (List ℕ)
 tried (awaited.Get id) = command.Get id
 tried (awaited.Create id kind n) = command.Create id kind n
 
--- a command that isn't built is no frame here
-pub record IsUnbuilt (c : Command (List ℕ)) (told : Reply (List ℕ)) : Type 0 where
-  pub unbuilt : is_built_command c ≡ false
-  pub answer : told ≡ reply.Refused Malformed
-
--- the last receipt is of this job, session, command and answer, or there was no memory, or the command isn't built
+-- the last receipt is of this job, session, command and answer, or there was no memory
 abbrev pub IsStepped : JobNo → ℕ → Command (List ℕ) → Reply (List ℕ) → Option Witness → Type 0
-IsStepped job session c told last = IsSomeAnd last (IsCalled job session c told) ⊎ ((told ≡ reply.Refused NoMemory) ⊎ IsUnbuilt c told)
+IsStepped job session c told last = IsSomeAnd last (IsCalled job session c told) ⊎ (told ≡ reply.Refused NoMemory)
 
 abbrev pub IsWitnessed : Asked → Answered → Option Witness → Type 0
 IsWitnessed (to_call job session c) (replied told) last = IsStepped job session c told last

@@ -1,6 +1,5 @@
 //! What a worker asks of its device, and what it then hands in.
 ghost use Rattle.std.specs.Prelude.{◌≡◌, true};
-ghost use Rattle.node_core.specs.Built.{is_built};
 ghost use Rattle.session_threads.specs.DeviceCalls.{IsAsked, IsCarriedOut, written_key};
 
 use bytes::Bytes;
@@ -13,7 +12,6 @@ use spill_device::SpillDevice;
 pub(crate) struct Finishing {
     pub event: Event,
     pub written: Option<DeviceKey>,
-    pub ghost built: { is_built event ≡ true },
 }
 
 /// The place of a node for a Finish that found no memory. It is there before a work is taken.

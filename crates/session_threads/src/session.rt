@@ -3,7 +3,6 @@
 use crate::SharedNode;
 use crate::frames::framed;
 use bytes::Bytes;
-use node_core::is_built_command;
 use node_journal::Receipt;
 use obj_id::{Command, JobKey, JobNo, Refusal, Reply};
 use private_store::Awaited;
@@ -37,8 +36,7 @@ impl<'a, L: Ledger, R: Wait> Session<'a, L, R> {
     }
 }
 
-/// After each answer the last receipt is of this job, session, command and reply, or the reply is `NoMemory`. A command that
-/// isn't built is answered `Malformed`, and makes no step.
+/// After each answer the last receipt is of this job, session, command and reply, or the reply is `NoMemory`.
 impl<'a, L: Ledger, R: Wait> Gate for Session<'a, L, R> {
     ghost use Rattle.std.specs.Prelude.{option_map};
     ghost use Rattle.session_threads.specs.Witnesses.{IsWitnessed};
@@ -50,9 +48,6 @@ impl<'a, L: Ledger, R: Wait> Gate for Session<'a, L, R> {
     }
 
     fn call(&mut self, job: JobNo, session: u32, command: Command<Bytes>) -> Reply<Bytes> {
-        if !is_built_command(&command) {
-            return Reply::Refused(Refusal::Malformed);
-        }
         let (reply, receipt) = self.node.call(self.rt, job, session, command);
         if let Some(receipt) = receipt {
             self.last = Some(receipt);

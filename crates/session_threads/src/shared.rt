@@ -4,7 +4,6 @@ ghost use Rattle.obj_id.specs.declared.commands.Reply.TheVariants as reply;
 ghost use Rattle.obj_id.specs.declared.refusals.Refusal.TheVariants.{NoMemory};
 ghost use Rattle.private_store.specs.Answers.{wants_memory, is_small_reply};
 ghost use Rattle.job_admission.specs.Admissions.{largest_memory};
-ghost use Rattle.node_core.specs.Built.{is_built, is_built_command};
 ghost use Rattle.node_core.specs.Steps.{job_of_event};
 ghost use Rattle.node_journal.specs.Replies.{kept_reply};
 ghost use Rattle.session_engine.specs.Calls.{IsEntryRefusal};
@@ -13,7 +12,7 @@ ghost use Rattle.session_threads.specs.Witnesses.{IsCalled, tried};
 use crate::device_calls::Place;
 use bytes::Bytes;
 use node_core::{Erase, Outcome};
-use node_journal::{Kept, Receipt};
+use node_journal::{Agreement, Kept, Receipt};
 use obj_id::{Command, DeviceKey, JobKey, JobNo, Quota, Refusal, Reply};
 use private_store::{Awaited, Event};
 use std::alloc::Global;
@@ -102,7 +101,6 @@ impl<L: Ledger> SharedNode<L> {
         session: u32,
         command: Command<Bytes>,
     ) -> (Reply<Bytes>, Option<Receipt<L>>)
-        requires { is_built_command command ≡ true }
         ensures called { MatchOption result.1 (result.0 ≡ reply.Refused NoMemory) (λ r. (wants_memory result.0 ≡ false) × IsCalled job session command result.0 (record { job = r.job; entry = r.entry })) }
         ensures small { is_small_reply result.0 ≡ true }
     {
@@ -174,7 +172,6 @@ impl<L: Ledger> SharedNode<L> {
 
     /// An event of the operator's, with the receipt of its entry.
     fn operate<R: Wait>(&self, rt: &R, event: &Event) -> (Reply<Bytes>, Option<Receipt<L>>)
-        requires { is_built event.now ≡ true }
         ensures { MatchOption result.1 (result.0 ≡ reply.Refused NoMemory) (λ r. (r.job.0 ≡ job_of_event event.now) × (r.entry.reply ≡ kept_reply result.0)) }
     {
         let mut kept = self.kept.lock(rt);
@@ -240,10 +237,11 @@ impl<L: Ledger> SharedNode<L> {
         mem::replace(&mut *self.keys.lock(rt), Vec::new(self.alloc))
     }
 
-    /// Looks for the entry of a receipt that was given by this node, and counts it if the journal doesn't have it.
+    /// Looks for the entry of a receipt that was given by this node, and counts it if the journal says that it isn't there. One
+    /// that was folded isn't counted.
     pub fn check<R: Wait>(&self, rt: &R, receipt: &Receipt<L>) {
-        let stands = self.kept.lock(rt).stands(receipt);
-        if !stands {
+        let agreement = self.kept.lock(rt).agrees(receipt);
+        if agreement == Agreement::No {
             let mut tally = self.tally.lock(rt);
             let counts = &mut *tally;
             counts.disagreeing = counts.disagreeing.saturating_add(1);
@@ -315,8 +313,7 @@ impl<L: Ledger> SharedNode<L> {
 
 /// The command that is tried again.
 fn command_of(awaited: &Awaited) -> Command<Bytes>
-    ensures command { result ≡ tried awaited.now }
-    ensures built { is_built_command result ≡ true }
+    ensures { result ≡ tried awaited.now }
 {
     match awaited {
         Awaited::Get(id) => Command::Get(*id),
@@ -331,7 +328,6 @@ fn step_call<L: Ledger>(
     session: u32,
     command: Command<Bytes>,
 ) -> Stepped<L>
-    requires { is_built_command command ≡ true }
     ensures called { MatchOption result.receipt (result.reply ≡ reply.Refused NoMemory) (λ r. (wants_memory result.reply ≡ false) × IsCalled job session command result.reply (record { job = r.job; entry = r.entry })) }
     ensures small { is_small_reply result.reply ≡ true }
 {
@@ -344,7 +340,6 @@ fn step_call<L: Ledger>(
 
 /// An event of the operator's or of a worker at a journaled node.
 pub(crate) fn step_event<L: Ledger>(kept: &mut Kept<L>, event: &Event) -> Stepped<L>
-    requires { is_built event.now ≡ true }
     ensures { MatchOption result.receipt (result.reply ≡ reply.Refused NoMemory) (λ r. (r.job.0 ≡ job_of_event event.now) × (r.entry.reply ≡ kept_reply result.reply)) }
 {
     match kept.step(event) {
