@@ -1,3 +1,5 @@
 pub mod BytesFields
 pub mod LineForms
 pub mod WordTables
+pub mod PlainCommands
+pub mod Within

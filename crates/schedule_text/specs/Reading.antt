@@ -25,26 +25,31 @@ use Rattle.schedule_text.specs.Words.{word_text, verb_text, outcome_text}
 
 -- ---- commands
 
--- the command that a word and the fields after it spell, for the job that speaks
+-- the command that a word and the fields after it spell, for the job that speaks, unless it carries bytes
+abbrev pub IsPlainCommand : {P : Type 0} → ℕ → Word → List (List ℕ) → Command P → Type 0
+IsPlainCommand job word.Create fields c = IsMade (IsIdNumber job fields) (λ x. command.Create x.0 Primary x.1) c
+IsPlainCommand job word.Copy fields c = IsMade (IsIdNumber job fields) (λ x. command.Create x.0 Secondary x.1) c
+IsPlainCommand job word.Write fields c = ⊥
+IsPlainCommand job word.Seal fields c = IsMade (IsId1 job fields) (λ x. command.Seal x) c
+IsPlainCommand job word.Get fields c = IsMade (IsId1 job fields) (λ x. command.Get x) c
+IsPlainCommand job word.Read fields c = IsMade (IsIdSpan job fields) (λ x. command.Read x.0.0 x.0.1 x.1) c
+IsPlainCommand job word.Release fields c = IsMade (IsId1 job fields) (λ x. command.Release x) c
+IsPlainCommand job word.Unpin fields c = IsMade (IsIdTask job fields) (λ x. command.Unpin x.0 x.1) c
+IsPlainCommand job word.Borrow fields c = IsMade (IsIdTask job fields) (λ x. command.Borrow x.0 x.1) c
+IsPlainCommand job word.GiveUp fields c = IsMade (IsIdTask job fields) (λ x. command.GiveUp x.0 x.1) c
+IsPlainCommand job word.Delete fields c = IsMade (IsId1 job fields) (λ x. command.Delete x) c
+IsPlainCommand job word.EndTask fields c = IsMade (IsTask1 fields) (λ x. command.EndTask x) c
+IsPlainCommand job word.Grant fields c = IsMade (IsIdJob job fields) (λ x. command.Grant x.0 x.1) c
+IsPlainCommand job word.Withdraw fields c = IsMade (IsIdJob job fields) (λ x. command.Withdraw x.0 x.1) c
+IsPlainCommand job word.Peek fields c = IsMade (IsIdSpan job fields) (λ x. command.Peek x.0.0 x.0.1 x.1) c
+IsPlainCommand job word.List fields c = IsAlone fields command.List c
+IsPlainCommand job word.Usage fields c = IsAlone fields command.Usage c
+IsPlainCommand job word.Leave fields c = IsAlone fields command.Leave c
+
+-- and also if it carries bytes
 abbrev pub IsCommand : ℕ → Word → List (List ℕ) → Command (List ℕ) → Type 0
-IsCommand job word.Create fields c = IsMade (IsIdNumber job fields) (λ x. command.Create x.0 Primary x.1) c
-IsCommand job word.Copy fields c = IsMade (IsIdNumber job fields) (λ x. command.Create x.0 Secondary x.1) c
 IsCommand job word.Write fields c = IsMade (IsIdBytes job fields) (λ x. command.Write x.0.0 x.0.1 x.1) c
-IsCommand job word.Seal fields c = IsMade (IsId1 job fields) (λ x. command.Seal x) c
-IsCommand job word.Get fields c = IsMade (IsId1 job fields) (λ x. command.Get x) c
-IsCommand job word.Read fields c = IsMade (IsIdSpan job fields) (λ x. command.Read x.0.0 x.0.1 x.1) c
-IsCommand job word.Release fields c = IsMade (IsId1 job fields) (λ x. command.Release x) c
-IsCommand job word.Unpin fields c = IsMade (IsIdTask job fields) (λ x. command.Unpin x.0 x.1) c
-IsCommand job word.Borrow fields c = IsMade (IsIdTask job fields) (λ x. command.Borrow x.0 x.1) c
-IsCommand job word.GiveUp fields c = IsMade (IsIdTask job fields) (λ x. command.GiveUp x.0 x.1) c
-IsCommand job word.Delete fields c = IsMade (IsId1 job fields) (λ x. command.Delete x) c
-IsCommand job word.EndTask fields c = IsMade (IsTask1 fields) (λ x. command.EndTask x) c
-IsCommand job word.Grant fields c = IsMade (IsIdJob job fields) (λ x. command.Grant x.0 x.1) c
-IsCommand job word.Withdraw fields c = IsMade (IsIdJob job fields) (λ x. command.Withdraw x.0 x.1) c
-IsCommand job word.Peek fields c = IsMade (IsIdSpan job fields) (λ x. command.Peek x.0.0 x.0.1 x.1) c
-IsCommand job word.List fields c = IsAlone fields command.List c
-IsCommand job word.Usage fields c = IsAlone fields command.Usage c
-IsCommand job word.Leave fields c = IsAlone fields command.Leave c
+IsCommand job word fields c = IsPlainCommand job word fields c
 
 -- the same, with the word's field
 pub record IsCommandText (job : ℕ) (field : List ℕ) (fields : List (List ℕ)) (c : Command (List ℕ)) : Type 0 where

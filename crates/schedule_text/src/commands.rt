@@ -1,7 +1,7 @@
 //! The commands of sessions.
 ghost use Rattle.std.specs.Prelude.{IfOk, map};
 ghost use Rattle.schedule_text.specs.Fields.{Reads};
-ghost use Rattle.schedule_text.specs.Reading.{IsCommand, IsCommandText};
+ghost use Rattle.schedule_text.specs.Reading.{IsCommand, IsCommandText, IsPlainCommand};
 
 use crate::fields::{alone, id, id_bytes, id_job, id_number, id_span, id_task, one_task};
 use crate::words::Word;
@@ -36,37 +36,63 @@ fn command_of(
         (IsCommand job.0 word (map (λ field. field.now) fields.now))) }
 {
     match word {
-        Word::Create => Ok(id_number(fields, job).map(|(id, length)| Command::Create(
-            id,
-            Kind::Primary,
-            length,
-        ))),
-        Word::Copy => Ok(id_number(fields, job).map(|(id, length)| Command::Create(
-            id,
-            Kind::Secondary,
-            length,
-        ))),
         Word::Write => Ok(id_bytes(alloc, fields, job)?.map(|((id, offset), bytes)| Command::Write(
             id, offset, bytes,
         ))),
-        Word::Seal => Ok(id(fields, job).map(Command::Seal)),
-        Word::Get => Ok(id(fields, job).map(Command::Get)),
-        Word::Read => Ok(id_span(fields, job).map(|((id, offset), count)| Command::Read(
-            id, offset, count,
-        ))),
-        Word::Release => Ok(id(fields, job).map(Command::Release)),
-        Word::Unpin => Ok(id_task(fields, job).map(|(id, task)| Command::Unpin(id, task))),
-        Word::Borrow => Ok(id_task(fields, job).map(|(id, task)| Command::Borrow(id, task))),
-        Word::GiveUp => Ok(id_task(fields, job).map(|(id, task)| Command::GiveUp(id, task))),
-        Word::Delete => Ok(id(fields, job).map(Command::Delete)),
-        Word::EndTask => Ok(one_task(fields).map(Command::EndTask)),
-        Word::Grant => Ok(id_job(fields, job).map(|(id, target)| Command::Grant(id, target))),
-        Word::Withdraw => Ok(id_job(fields, job).map(|(id, target)| Command::Withdraw(id, target))),
-        Word::Peek => Ok(id_span(fields, job).map(|((id, offset), count)| Command::Peek(
-            id, offset, count,
-        ))),
-        Word::List => Ok(alone(fields, Command::List)),
-        Word::Usage => Ok(alone(fields, Command::Usage)),
-        Word::Leave => Ok(alone(fields, Command::Leave)),
+        _ => Ok(plain_command(word, fields, job)),
+    }
+}
+
+/// The command that a word and the fields after it spell, where the job speaks, unless it carries
+/// bytes: `None` at `write`, whose last field is spelled differently in different texts.
+pub fn plain_command<P: Drop>(word: Word, fields: &[&str], job: JobNo) -> Option<Command<P>>
+    ensures { Reads result (IsPlainCommand job.0 word (map (λ field. field.now) fields.now)) }
+{
+    match word {
+        Word::Create => {
+            let (id, length) = id_number(fields, job)?;
+            Some(Command::Create(id, Kind::Primary, length))
+        }
+        Word::Copy => {
+            let (id, length) = id_number(fields, job)?;
+            Some(Command::Create(id, Kind::Secondary, length))
+        }
+        Word::Write => None,
+        Word::Seal => Some(Command::Seal(id(fields, job)?)),
+        Word::Get => Some(Command::Get(id(fields, job)?)),
+        Word::Read => {
+            let ((id, offset), count) = id_span(fields, job)?;
+            Some(Command::Read(id, offset, count))
+        }
+        Word::Release => Some(Command::Release(id(fields, job)?)),
+        Word::Unpin => {
+            let (id, task) = id_task(fields, job)?;
+            Some(Command::Unpin(id, task))
+        }
+        Word::Borrow => {
+            let (id, task) = id_task(fields, job)?;
+            Some(Command::Borrow(id, task))
+        }
+        Word::GiveUp => {
+            let (id, task) = id_task(fields, job)?;
+            Some(Command::GiveUp(id, task))
+        }
+        Word::Delete => Some(Command::Delete(id(fields, job)?)),
+        Word::EndTask => Some(Command::EndTask(one_task(fields)?)),
+        Word::Grant => {
+            let (id, target) = id_job(fields, job)?;
+            Some(Command::Grant(id, target))
+        }
+        Word::Withdraw => {
+            let (id, target) = id_job(fields, job)?;
+            Some(Command::Withdraw(id, target))
+        }
+        Word::Peek => {
+            let ((id, offset), count) = id_span(fields, job)?;
+            Some(Command::Peek(id, offset, count))
+        }
+        Word::List => alone(fields, Command::List),
+        Word::Usage => alone(fields, Command::Usage),
+        Word::Leave => alone(fields, Command::Leave),
     }
 }

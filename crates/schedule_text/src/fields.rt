@@ -9,21 +9,21 @@ use obj_id::{JobNo, ObjectId, TaskNo};
 use std::alloc::{AllocError, Global};
 
 /// A number of 32 bits.
-pub(crate) fn number(field: &str) -> Option<u32>
+pub fn number(field: &str) -> Option<u32>
     ensures { Reads result (IsNumber field.now) }
 {
     read_u32(field)
 }
 
 /// A number of 64 bits.
-pub(crate) fn long_number(field: &str) -> Option<u64>
+pub fn long_number(field: &str) -> Option<u64>
     ensures { Reads result (IsLongNumber field.now) }
 {
     read_u64(field)
 }
 
 /// The number of a node, below the number of nodes.
-pub(crate) fn node(field: &str, nodes: u32) -> Option<u32>
+pub fn node(field: &str, nodes: u32) -> Option<u32>
     ensures { Reads result (IsNode nodes field.now) }
 {
     let node = number(field)?;
@@ -31,27 +31,28 @@ pub(crate) fn node(field: &str, nodes: u32) -> Option<u32>
 }
 
 /// A job's number, or 0.
-pub(crate) fn job(field: &str) -> Option<JobNo>
+pub fn job(field: &str) -> Option<JobNo>
     ensures { Reads result (IsJob field.now) }
 {
     number(field).map(JobNo)
 }
 
 /// An object, as the job that speaks names it.
-fn object(field: &str, job: JobNo) -> Option<ObjectId>
+pub fn object(field: &str, job: JobNo) -> Option<ObjectId>
     ensures { Reads result (IsObject job.0 field.now) }
 {
     ObjectId::read(field, job).ok()
 }
 
-fn task(field: &str) -> Option<TaskNo>
+/// A task, by its short text or its digits.
+pub fn task(field: &str) -> Option<TaskNo>
     ensures { Reads result (IsTaskField field.now) }
 {
     TaskNo::read(field).ok()
 }
 
 /// Bytes as digits in lower case, and `-` for none.
-pub(crate) fn bytes(alloc: Global, field: &str) -> Result<Option<Bytes>, AllocError>
+pub fn bytes(alloc: Global, field: &str) -> Result<Option<Bytes>, AllocError>
     ensures { IfOk result (λ bytes. Reads bytes (IsBytesField field.now)) }
 {
     if field == "-" {
@@ -61,7 +62,7 @@ pub(crate) fn bytes(alloc: Global, field: &str) -> Result<Option<Bytes>, AllocEr
 }
 
 /// `ID`.
-pub(crate) fn id(fields: &[&str], job: JobNo) -> Option<ObjectId>
+pub fn id(fields: &[&str], job: JobNo) -> Option<ObjectId>
     ensures { Reads result (IsId1 job.0 (map (λ field. field.now) fields.now)) }
 {
     let [id] = fields else { return None };
@@ -69,7 +70,7 @@ pub(crate) fn id(fields: &[&str], job: JobNo) -> Option<ObjectId>
 }
 
 /// `ID NUMBER`.
-pub(crate) fn id_number(fields: &[&str], job: JobNo) -> Option<(ObjectId, u32)>
+pub fn id_number(fields: &[&str], job: JobNo) -> Option<(ObjectId, u32)>
     ensures { Reads result (IsIdNumber job.0 (map (λ field. field.now) fields.now)) }
 {
     let [id, other] = fields else { return None };
@@ -77,14 +78,14 @@ pub(crate) fn id_number(fields: &[&str], job: JobNo) -> Option<(ObjectId, u32)>
 }
 
 /// An object and a number, each in its field.
-fn target(id: &str, other: &str, job: JobNo) -> Option<(ObjectId, u32)>
+pub fn target(id: &str, other: &str, job: JobNo) -> Option<(ObjectId, u32)>
     ensures { Reads result (IsTarget job.0 id.now other.now) }
 {
     Some((object(id, job)?, number(other)?))
 }
 
 /// `ID JOB`.
-pub(crate) fn id_job(fields: &[&str], speaker: JobNo) -> Option<(ObjectId, JobNo)>
+pub fn id_job(fields: &[&str], speaker: JobNo) -> Option<(ObjectId, JobNo)>
     ensures { Reads result (IsIdJob speaker.0 (map (λ field. field.now) fields.now)) }
 {
     let [id, other] = fields else { return None };
@@ -92,7 +93,7 @@ pub(crate) fn id_job(fields: &[&str], speaker: JobNo) -> Option<(ObjectId, JobNo
 }
 
 /// `ID TASK`.
-pub(crate) fn id_task(fields: &[&str], job: JobNo) -> Option<(ObjectId, TaskNo)>
+pub fn id_task(fields: &[&str], job: JobNo) -> Option<(ObjectId, TaskNo)>
     ensures { Reads result (IsIdTask job.0 (map (λ field. field.now) fields.now)) }
 {
     let [id, other] = fields else { return None };
@@ -100,7 +101,7 @@ pub(crate) fn id_task(fields: &[&str], job: JobNo) -> Option<(ObjectId, TaskNo)>
 }
 
 /// `ID OFF N`.
-pub(crate) fn id_span(fields: &[&str], job: JobNo) -> Option<((ObjectId, u32), u32)>
+pub fn id_span(fields: &[&str], job: JobNo) -> Option<((ObjectId, u32), u32)>
     ensures { Reads result (IsIdSpan job.0 (map (λ field. field.now) fields.now)) }
 {
     let [id, offset, count] = fields else {
@@ -110,7 +111,7 @@ pub(crate) fn id_span(fields: &[&str], job: JobNo) -> Option<((ObjectId, u32), u
 }
 
 /// `ID OFF HEX`.
-pub(crate) fn id_bytes(
+pub fn id_bytes(
     alloc: Global,
     fields: &[&str],
     job: JobNo,
@@ -131,7 +132,7 @@ pub(crate) fn id_bytes(
 }
 
 /// `TASK`.
-pub(crate) fn one_task(fields: &[&str]) -> Option<TaskNo>
+pub fn one_task(fields: &[&str]) -> Option<TaskNo>
     ensures { Reads result (IsTask1 (map (λ field. field.now) fields.now)) }
 {
     let [other] = fields else { return None };
@@ -139,7 +140,7 @@ pub(crate) fn one_task(fields: &[&str]) -> Option<TaskNo>
 }
 
 /// No field: the one thing that is meant.
-pub(crate) fn alone<X: Drop>(fields: &[&str], meant: X) -> Option<X>
+pub fn alone<X: Drop>(fields: &[&str], meant: X) -> Option<X>
     ensures { Reads result (IsAlone (map (λ field. field.now) fields.now) meant) }
 {
     if fields.is_empty() { Some(meant) } else { None }

@@ -7,7 +7,7 @@ use obj_id::{CopyState, GrantedItem, JobNo, Kind, OwnItem};
 use std::alloc::{AllocError, Global};
 
 /// `list`, then each item after a space, with ids as the job names them.
-pub(crate) fn list_text(
+pub fn list_text(
     alloc: Global,
     job: JobNo,
     own: &[OwnItem],

@@ -3,16 +3,17 @@
 //! reading, that what is read is what the line spells, and that nothing that is spelled is missed.
 #![tactic(auto)]
 
-mod commands;
-mod fields;
+pub mod commands;
+pub mod fields;
 mod items;
 mod line;
 mod lines;
 mod prefixes;
 mod printing;
-mod words;
+pub mod words;
 
+pub use items::list_text;
 pub use line::{Line, Outcome};
-pub use lines::{is_skipped, read_line};
+pub use lines::{fields_of, is_skipped, quota, read_line};
 pub use prefixes::Prefix;
-pub use printing::{answer_line, answer_text};
+pub use printing::{answer_line, answer_text, placed_text, refusal_text, usage_text};

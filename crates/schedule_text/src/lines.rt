@@ -45,8 +45,8 @@ pub fn is_skipped(line: &[u8]) -> bool
     matches!(line, [] | [b'#', ..])
 }
 
-/// What stands between the spaces.
-fn fields_of(alloc: Global, text: &str) -> Result<Vec<&str>, AllocError>
+/// What stands between the spaces of a line, in order: one field at least.
+pub fn fields_of(alloc: Global, text: &str) -> Result<Vec<&str>, AllocError>
     ensures { IfOk result (λ fields.
         map (λ field. field.now) fields.items ≡ fields_of_lem text.now) }
 {
@@ -126,8 +126,8 @@ fn job_at(at: &str, name: &str, nodes: u32) -> Option<JobAt>
     Some(JobAt { node, job })
 }
 
-/// `WINDOW DEVICE`.
-fn quota(window: &str, device: &str) -> Option<Quota>
+/// `WINDOW DEVICE`, in bytes.
+pub fn quota(window: &str, device: &str) -> Option<Quota>
     ensures { Reads result (IsQuota window.now device.now) }
 {
     let window = long_number(window)?;

@@ -49,7 +49,7 @@ fn reply_text(alloc: Global, job: JobNo, reply: &Reply<Bytes>) -> Result<String,
 }
 
 /// `placed OFF EXT`.
-fn placed_text(alloc: Global, offset: u32, extent: u32) -> Result<String, AllocError>
+pub fn placed_text(alloc: Global, offset: u32, extent: u32) -> Result<String, AllocError>
     ensures { IfOk result (λ text. string_bytes text
         ≡ codes "placed " ++ decimal offset ++ codes " " ++ decimal extent) }
 {
@@ -57,7 +57,7 @@ fn placed_text(alloc: Global, offset: u32, extent: u32) -> Result<String, AllocE
 }
 
 /// `refused N Name`.
-fn refusal_text(alloc: Global, refusal: Refusal) -> Result<String, AllocError>
+pub fn refusal_text(alloc: Global, refusal: Refusal) -> Result<String, AllocError>
     ensures { IfOk result (λ text. string_bytes text ≡ refusal_text_lem refusal) }
 {
     let number = refusal.number();
@@ -77,7 +77,7 @@ fn bytes_reply(alloc: Global, bytes: &Bytes) -> Result<String, AllocError>
 }
 
 /// `usage` and the six numbers.
-fn usage_text(alloc: Global, usage: Usage) -> Result<String, AllocError>
+pub fn usage_text(alloc: Global, usage: Usage) -> Result<String, AllocError>
     ensures { IfOk result (λ text. string_bytes text ≡ usage_text_lem usage) }
 {
     let Usage {

@@ -19,7 +19,7 @@ pub(crate) enum Verb {
 
 /// What a command begins with.
 #[derive(Clone, Copy, Debug, PartialEq, Eq)]
-pub(crate) enum Word {
+pub enum Word {
     Create,
     Copy,
     Write,
@@ -95,7 +95,8 @@ impl Verb {
 }
 
 impl Word {
-    fn text(self) -> &'static str
+    /// The word as a line has it.
+    pub fn text(self) -> &'static str
         ensures { result.now ≡ word_text self }
     {
         match self {
@@ -121,7 +122,7 @@ impl Word {
     }
 
     /// The word that the field is.
-    pub(crate) fn read(field: &str) -> Option<Word>
+    pub fn read(field: &str) -> Option<Word>
         ensures { Reads result (λ word. word_text word ≡ field.now) }
     {
         WORDS.iter().find(|word| word.text() == field).copied()
