@@ -1,0 +1,10 @@
+pub mod Words
+pub mod Fields
+pub mod Each
+pub mod Calls
+pub mod Locations
+pub mod Inputs
+pub mod Items
+pub mod Replies
+pub mod Reading
+pub mod Printing

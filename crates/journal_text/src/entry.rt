@@ -1,0 +1,63 @@
+//! What a line of a saved journal says.
+use obj_id::{Command, Items, JobNo, Location, ObjectId, Quota, Reply};
+use private_store::{ChunkVerdict, WorkVerdict};
+
+/// The form of a saved journal: the number in its first line.
+#[derive(Clone, Copy, Debug, PartialEq, Eq)]
+pub enum Version {
+    /// Without changes of quotas; hands without giver and depth, which are the object's job and 1.
+    One,
+    /// Without changes of quotas.
+    Two,
+    /// The form that is written.
+    Three,
+}
+
+/// Where a line stands.
+#[derive(Clone, Copy, Debug, PartialEq, Eq)]
+pub struct Address {
+    /// From 0 to 7.
+    pub node: u32,
+    /// At least 1.
+    pub job: JobNo,
+    /// The line's number among those of the job at the node, from 1.
+    pub number: u32,
+}
+
+/// What a line says of an input, without contents: written bytes are there as their number.
+#[derive(Debug, Drop)]
+pub enum LineInput {
+    Begin(Quota),
+    Requota(Quota),
+    End,
+    /// Session, and its command.
+    Call(u32, Command<u64>),
+    /// The number of a work, and what the device's answer was to it.
+    Answer(u64, WorkVerdict),
+    /// Fetch number, and all entries of the directory, as listed.
+    Located(ObjectId, u64, Items<Location>),
+    /// Fetch number, chunk index, the node that sent it, and what the chunk was to the fetch.
+    Chunk(ObjectId, u64, u32, u32, ChunkVerdict),
+    /// Fetch number, and whether a copy here had the length and the digest that were asked for.
+    Pull(ObjectId, u64, bool),
+    /// Fetch number, and the node that had no such copy.
+    NotHere(ObjectId, u64, u32),
+    /// Another job granted an object: its length, the giver, and the depth of the hand.
+    Received {
+        id: ObjectId,
+        length: u32,
+        giver: JobNo,
+        depth: u32,
+    },
+    /// A hand to this job ended: the object, the giver and the depth.
+    Withdrawn(ObjectId, JobNo, u32),
+}
+
+/// A line of a saved journal.
+#[derive(Debug, Drop)]
+pub struct Entry {
+    pub address: Address,
+    pub input: LineInput,
+    /// The answer without contents: bytes as their number.
+    pub reply: Reply<u64>,
+}
