@@ -1,3 +1,4 @@
 pub mod Hearing
 mod Running
 mod Serves
+mod Within

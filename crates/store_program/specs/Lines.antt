@@ -14,7 +14,6 @@ use Rattle.schedule_text.specs.declared.line.Outcome.TheVariants as outcome
 use Rattle.schedule_text.specs.Prefixes.{prefix_of}
 use Rattle.schedule_text.specs.Printing.{line_text}
 use Rattle.schedule_text.specs.Reading.{IsLine, is_skipped}
-use Rattle.world_core.specs.Worlds.{is_built_step}
 use Rattle.store_program.specs.declared.lines.Said.{Said}
 use Rattle.store_program.specs.declared.lines.Said.TheVariants as said
 
@@ -30,22 +29,20 @@ pub data IsSpelled (nodes : ℕ) (text : List ℕ) : Step → Type 0 where
   finishes : (node : ℕ) (job : JobNo) (number : ℕ) (outcome : Outcome) (answer : DeviceAnswer) → IsLine nodes text (line.Finish node job number outcome) → IsHandedIn outcome answer
       → IsSpelled nodes text (At node (event.Finish job number answer))
 
--- the text spells a step that is built
+-- the text spells a step
 pub record Spells (nodes : ℕ) (text : List ℕ) (step : Step) : Type 0 where
   pub speaks : is_skipped text ≡ false
   pub spelled : IsSpelled nodes text step
-  pub built : is_built_step nodes step ≡ true
 
--- the text says that a work ends, and that is built, whatever is handed in
+-- the text says that a work ends
 pub record SpellsFinish (nodes : ℕ) (text : List ℕ) (node : ℕ) (job : JobNo) (number : ℕ) (outcome : Outcome) : Type 0 where
   pub speaks : is_skipped text ≡ false
   pub spelled : IsLine nodes text (line.Finish node job number outcome)
-  pub built : (answer : DeviceAnswer) → is_built_step nodes (At node (event.Finish job number answer)) ≡ true
 
--- it says something, but no step that is built
+-- it says something, but no step
 pub record SpellsNone (nodes : ℕ) (text : List ℕ) : Type 0 where
   pub speaks : is_skipped text ≡ false
-  pub none : IsUtf8 text → (step : Step) → IsSpelled nodes text step → is_built_step nodes step ≡ false
+  pub none : IsUtf8 text → (step : Step) → IsSpelled nodes text step → ⊥
 
 -- what is made of a text is what it says
 abbrev pub IsSaid : ℕ → List ℕ → Said → Type 0

@@ -9,7 +9,7 @@ use std::fmt::{Display, Formatter};
 /// What ends a run before its input does.
 #[derive(Clone, Copy, Debug, PartialEq, Eq)]
 pub enum Fault {
-    /// The line of this number, counted from 1, isn't a step that is built, or lacks its line feed.
+    /// The line of this number, counted from 1, isn't a step, or lacks its line feed.
     NotAStep(u64),
     /// The input can't be read.
     Input,

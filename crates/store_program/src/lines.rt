@@ -1,8 +1,5 @@
 //! What a line says to the program.
-ghost use Rattle.std.specs.Prelude.{◌≡◌, ℕ, List, Some, false, IfOk};
-ghost use Rattle.schedule_text.specs.declared.line.Line.TheVariants as LineSaid;
-ghost use Rattle.schedule_text.specs.Fields.{Reads};
-ghost use Rattle.schedule_text.specs.Reading.{IsLine, is_skipped as is_skipped_lem};
+ghost use Rattle.std.specs.Prelude.{◌≡◌, IfOk};
 ghost use Rattle.private_store.specs.declared.schedules.Event.{Event};
 ghost use Rattle.private_store.specs.declared.schedules.Step.{Step};
 ghost use Rattle.store_program.specs.Lines.{IsSaid};
@@ -12,14 +9,13 @@ use private_store::{Event, Step};
 use schedule_text::{Line, Outcome, is_skipped, read_line};
 use std::alloc::{AllocError, Global};
 use std::str;
-use world_core::is_built_step;
 
 /// What a line says to the program.
 #[derive(Debug, Drop)]
 pub enum Said {
     /// Nothing: the line is empty, or a comment.
     Nothing,
-    /// A step that is built.
+    /// A step.
     Step(Step),
     /// A device worker finishes the job's work of this number at the node: the step is known once the device was
     /// called, or wasn't.
@@ -29,7 +25,7 @@ pub enum Said {
         number: u64,
         outcome: Outcome,
     },
-    /// Something else.
+    /// Nothing that is a step.
     NoStep,
 }
 
@@ -45,7 +41,7 @@ pub fn hear(alloc: Global, text: &[u8], nodes: u32) -> Result<Said, AllocError>
         return Ok(Said::NoStep)
     };
     match read_line(alloc, text, nodes)? {
-        Some(Line::Step(step)) => Ok(step_said(nodes, step)),
+        Some(Line::Step(step)) => Ok(Said::Step(step)),
         Some(
             Line::Finish {
                 node,
@@ -53,36 +49,13 @@ pub fn hear(alloc: Global, text: &[u8], nodes: u32) -> Result<Said, AllocError>
                 number,
                 outcome,
             },
-        ) => Ok(finish_said(nodes, node, job, number, outcome)),
-        Some(Line::Skipped) => Ok(Said::NoStep),
-        None => Ok(Said::NoStep),
-    }
-}
-
-/// What a line says that spells the step.
-fn step_said(nodes: u32, step: Step) -> Said
-    ensures { (text : List ℕ) → is_skipped_lem text ≡ false → Reads (Some (LineSaid.Step step)) (IsLine nodes text) → IsSaid nodes text result }
-{
-    if is_built_step(nodes, &step) {
-        Said::Step(step)
-    } else {
-        Said::NoStep
-    }
-}
-
-/// What a line says that finishes the work.
-fn finish_said(nodes: u32, node: u32, job: JobNo, number: u64, outcome: Outcome) -> Said
-    ensures { (text : List ℕ) → is_skipped_lem text ≡ false → Reads (Some (LineSaid.Finish node job number outcome)) (IsLine nodes text) → IsSaid nodes text result }
-{
-    if is_built_step(nodes, &finish(node, job, number, DeviceAnswer::Failed)) {
-        Said::Finish {
+        ) => Ok(Said::Finish {
             node,
             job,
             number,
             outcome,
-        }
-    } else {
-        Said::NoStep
+        }),
+        Some(Line::Skipped) | None => Ok(Said::NoStep),
     }
 }
 

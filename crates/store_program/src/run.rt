@@ -3,7 +3,7 @@ ghost use Rattle.std.specs.Prelude.{◌≡◌, true, false, length, IfOk, OnOk, 
 ghost use Rattle.std.specs.Io.{StopsAt};
 ghost use Rattle.std.specs.Io.KnownBytes.{Consumes, IsAtEnd};
 ghost use Rattle.std.specs.String.{string_bytes};
-ghost use Rattle.world_core.specs.Worlds.{is_shape, is_built_step};
+ghost use Rattle.world_core.specs.Worlds.{is_shape, is_within};
 ghost use Rattle.store_program.specs.Runs.{Answers, IsReadingFault, Ran, RunsLine, RunsStep, StopsRun, StopsStep};
 
 use crate::Fault;
@@ -20,7 +20,7 @@ use world_core::{Shape, World};
 /// The steps are those that the lines spell, in order; the world took them one after another, and
 /// what is written is the lines of its answers, whatever ends the run but a failure of the output.
 /// Empty lines and comments are skipped, and counted. `NotAStep` has the number of the first line
-/// that isn't a step which is built, or that lacks its line feed.
+/// that isn't a step, or that lacks its line feed.
 pub fn run_text<R: BufRead, W: Write>(
     alloc: Global,
     shape: Shape,
@@ -145,7 +145,7 @@ fn run_step<W: Write>(
     step: &Step,
     writer: &mut W,
 ) -> Result<(), Fault>
-    requires { is_built_step (length world.old.nodes) step.now ≡ true }
+    requires { is_within (length world.old.nodes) step.now ≡ true }
     ensures ok { OnOk result (RunsStep world.old step.now world.new (W.contents writer.old) (W.contents writer.new)) }
     ensures err { IfErr result (λ fault. StopsStep (W.contents writer.old) (W.contents writer.new) fault) }
 {
@@ -165,7 +165,7 @@ fn answered(
     workers: &mut Workers,
     step: &Step,
 ) -> Result<String, AllocError>
-    requires { is_built_step (length world.old.nodes) step.now ≡ true }
+    requires { is_within (length world.old.nodes) step.now ≡ true }
     ensures { IfOk result (λ line. Answers world.old step.now (string_bytes line) world.new) }
 {
     workers.reserve()?;
