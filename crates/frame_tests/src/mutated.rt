@@ -145,6 +145,26 @@ fn is_same(alloc: Global, left: &Outcome, right: &Outcome) -> Result<bool, Fail>
     Ok(items == others && left.faulty == right.faulty && left.in_mid_frame == right.in_mid_frame)
 }
 
+/// Whether so much of a stream has a fault.
+fn is_faulty(alloc: Global, stream: &[u8], length: usize) -> Result<bool, Refusal> {
+    Ok(outcome_of(alloc, &[&stream[..length.min(stream.len())]])?.faulty)
+}
+
+/// Whether the same was read whole, in pieces and byte by byte, and the pieces end round the byte that told a fault.
+fn are_alike(
+    alloc: Global,
+    whole: &Outcome,
+    pieces: &Outcome,
+    singles: &Outcome,
+) -> Result<bool, Fail> {
+    Ok(
+        is_same(alloc, whole, pieces)?
+            && is_same(alloc, whole, singles)?
+            && pieces.sound <= singles.sound
+            && singles.fed <= pieces.fed,
+    )
+}
+
 /// Whether a stream gives the same whole, in random pieces and byte by byte, and its fault stands at one place.
 fn is_read_alike(
     alloc: Global,
@@ -155,16 +175,10 @@ fn is_read_alike(
     let whole = outcome_of(alloc, &[stream])?;
     let pieces = outcome_of(alloc, &cut(alloc, random, stream, longest)?)?;
     let singles = outcome_of(alloc, &single_bytes(alloc, stream)?)?;
-    let before = outcome_of(alloc, &[&stream[..singles.sound.min(stream.len())]])?;
-    let behind = outcome_of(alloc, &[&stream[..singles.fed.min(stream.len())]])?;
-    Ok(
-        is_same(alloc, &whole, &pieces)?
-            && is_same(alloc, &whole, &singles)?
-            && !before.faulty
-            && behind.faulty == whole.faulty
-            && pieces.sound <= singles.sound
-            && singles.fed <= pieces.fed,
-    )
+    let before = is_faulty(alloc, stream, singles.sound)?;
+    let behind = is_faulty(alloc, stream, singles.fed)?;
+    let alike = are_alike(alloc, &whole, &pieces, &singles)?;
+    Ok(alike && !before && behind == whole.faulty)
 }
 
 /// Adds a frame with a body of ones, and a payload of random bytes where it is a write.

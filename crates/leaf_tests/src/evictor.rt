@@ -1,4 +1,5 @@
-//! The order of use, and a plan of each kind.
+//! The order of use, and plans that take memory. Which copies go, and when none does, is a matter of contracts, and of
+//! worked schedules.
 use assertions::holds;
 use indexmap::IndexMap;
 use job_region::Window;
@@ -25,14 +26,6 @@ const EVICTABLE: CopyFacts = CopyFacts {
     bytes: 0,
     evictable: true,
     passing: false,
-    spillable: false,
-};
-
-const PASSING: CopyFacts = CopyFacts {
-    extent: None,
-    bytes: 0,
-    evictable: false,
-    passing: true,
     spillable: false,
 };
 
@@ -100,13 +93,6 @@ impl Store {
         self.orders.enter(JOB, id)
     }
 
-    /// The copy of this index becomes a neighbour's, in the same window.
-    fn hand_over(&mut self, index: u32) -> Result<(), Refusal> {
-        let id = object(index)?;
-        self.orders.forget(JOB, id);
-        self.orders.enter(NEIGHBOUR, id)
-    }
-
     fn plan(&self, alloc: Global, len: u32, device: DeviceRoom) -> Result<Plan, Refusal> {
         self.orders
             .plan(alloc, JOB, len, device, &self.window, &self.copies)
@@ -164,32 +150,25 @@ fn enter(orders: &mut UseOrder, job: JobNo, index: u32, before: &[u32]) -> Resul
     }
 }
 
+/// Enters ids of these indexes. Whether they stand in this order, and did as far as they were entered where memory ran out.
+fn all_entered(orders: &mut UseOrder, job: JobNo, indexes: &[u32]) -> Result<bool, Refusal> {
+    let mut entered = 0usize;
+    let mut all = true;
+    for index in indexes {
+        let (before, _) = indexes.split_at(entered.min(indexes.len()));
+        all = all && enter(orders, job, *index, before)?;
+        entered = entered.saturating_add(1);
+    }
+    Ok(all && stands(orders, job, indexes))
+}
+
 #[test]
 fn a_job_s_ids_stand_in_the_order_of_their_use(rt: HostRuntime) -> Result<(), Fail> {
     let mut orders = UseOrder::new(rt.alloc());
-    holds!(rt; stands(&orders, JOB, &[]));
-    holds!(rt; enter(&mut orders, JOB, 1, &[])?);
-    holds!(rt; enter(&mut orders, JOB, 2, &[1])?);
-    holds!(rt; enter(&mut orders, JOB, 3, &[1, 2])?);
-    holds!(rt; enter(&mut orders, NEIGHBOUR, 1, &[])?);
-    holds!(rt; stands(&orders, JOB, &[1, 2, 3]));
-    orders.touch(JOB, object(1)?);
-    holds!(rt; stands(&orders, JOB, &[2, 3, 1]));
-    orders.touch(JOB, object(9)?);
-    holds!(rt; stands(&orders, JOB, &[2, 3, 1]));
-    holds!(rt; enter(&mut orders, JOB, 2, &[2, 3, 1])?);
-    holds!(rt; stands(&orders, JOB, &[3, 1, 2]));
-    orders.forget(JOB, object(1)?);
-    orders.forget(JOB, object(9)?);
-    holds!(rt; stands(&orders, JOB, &[3, 2]));
-    holds!(rt; stands(&orders, NEIGHBOUR, &[1]));
-    orders.forget(NEIGHBOUR, object(1)?);
-    orders.forget(NEIGHBOUR, object(1)?);
-    orders.touch(NEIGHBOUR, object(1)?);
-    holds!(rt; stands(&orders, NEIGHBOUR, &[]));
-    holds!(rt; enter(&mut orders, NEIGHBOUR, 4, &[])?);
-    holds!(rt; stands(&orders, NEIGHBOUR, &[4]));
-    holds!(rt; stands(&orders, JOB, &[3, 2]));
+    holds!(rt; all_entered(&mut orders, JOB, &[1, 2, 3, 4, 5, 6, 7, 8, 9])?);
+    holds!(rt; all_entered(&mut orders, NEIGHBOUR, &[4, 1])?);
+    holds!(rt; enter(&mut orders, NEIGHBOUR, 4, &[4, 1])?);
+    holds!(rt; stands(&orders, NEIGHBOUR, &[1, 4]));
     Ok(())
 }
 
@@ -225,104 +204,17 @@ fn plan(
 }
 
 #[test]
-fn nothing_goes_where_there_is_room(rt: HostRuntime) -> Result<(), Fail> {
-    let alloc = rt.alloc();
-    assert!(rt; matches!(&plan(alloc, 64, &[], 64, DEVICE)?, Plan::Fits));
-    let one = [(16, EVICTABLE)];
-    assert!(rt; matches!(&plan(alloc, 64, &one, 48, DEVICE)?, Plan::Fits));
-    holds!(rt; evicts(&plan(alloc, 64, &one, 49, DEVICE)?, &[1]));
-    Ok(())
-}
-
-#[test]
 fn the_shortest_beginning_is_evicted(rt: HostRuntime) -> Result<(), Fail> {
-    let alloc = rt.alloc();
-    let four = [(16, EVICTABLE); 4];
-    holds!(rt; evicts(&plan(alloc, 64, &four, 16, DEVICE)?, &[1]));
-    holds!(rt; evicts(&plan(alloc, 64, &four, 32, DEVICE)?, &[1, 2]));
-    holds!(rt; evicts(&plan(alloc, 64, &four, 48, DEVICE)?, &[1, 2, 3]));
-    holds!(rt; evicts(&plan(alloc, 64, &four, 64, DEVICE)?, &[1, 2, 3, 4]));
-    let many = [(16, EVICTABLE); 40];
-    let first = [1, 2, 3, 4, 5, 6, 7, 8, 9, 10, 11];
-    holds!(rt; evicts(&plan(alloc, 640, &many, 11 * 16, DEVICE)?, &first));
-    holds!(rt; evicts(&plan(alloc, 640, &many, 8 * 16, DEVICE)?, &first[..8]));
-    holds!(rt; evicts(&plan(alloc, 640, &many, 5 * 16, DEVICE)?, &first[..5]));
+    let held = [(16, EVICTABLE), (16, STAYS), (32, EVICTABLE)];
+    let plan = plan(rt.alloc(), 64, &held, 32, DEVICE)?;
+    holds!(rt; evicts(&plan, &[1, 3]));
     Ok(())
 }
 
 #[test]
-fn a_held_copy_stays_and_an_old_one_goes_in_vain(rt: HostRuntime) -> Result<(), Fail> {
-    let alloc = rt.alloc();
-    let held = [
-        (16, EVICTABLE),
-        (16, STAYS),
-        (16, EVICTABLE),
-        (16, EVICTABLE),
-    ];
-    holds!(rt; evicts(&plan(alloc, 64, &held, 32, DEVICE)?, &[1, 3, 4]));
-    assert!(rt; matches!(&plan(alloc, 64, &held, 48, DEVICE)?, Plan::Full));
-    Ok(())
-}
-
-#[test]
-fn works_in_flight_are_waited_for(rt: HostRuntime) -> Result<(), Fail> {
-    let alloc = rt.alloc();
-    let passing = [(32, PASSING), (32, STAYS)];
-    assert!(rt; matches!(&plan(alloc, 64, &passing, 32, DEVICE)?, Plan::Wait));
-    assert!(rt; matches!(&plan(alloc, 64, &passing, 33, DEVICE)?, Plan::Full));
-    let beside = [(16, EVICTABLE), (16, PASSING), (32, STAYS)];
-    assert!(rt; matches!(&plan(alloc, 64, &beside, 32, DEVICE)?, Plan::Wait));
-    Ok(())
-}
-
-#[test]
-fn all_that_would_be_spilled_must_fit_the_device(rt: HostRuntime) -> Result<(), Fail> {
-    let alloc = rt.alloc();
+fn spills_are_asked_for_if_nothing_may_go(rt: HostRuntime) -> Result<(), Fail> {
     let two = [(32, SPILLABLE), (32, SPILLABLE)];
-    holds!(rt; spills(&plan(alloc, 64, &two, 32, DEVICE)?, &[1]));
-    holds!(rt; spills(&plan(alloc, 64, &two, 33, DEVICE)?, &[1, 2]));
-    let one_left = DeviceRoom { works: 7, ..DEVICE };
-    holds!(rt; spills(&plan(alloc, 64, &two, 33, one_left)?, &[1]));
-    let small = DeviceRoom {
-        quota: 79,
-        works: 7,
-        ..DEVICE
-    };
-    assert!(rt; matches!(&plan(alloc, 64, &two, 33, small)?, Plan::Full));
-    let none_left = DeviceRoom { works: 8, ..DEVICE };
-    assert!(rt; matches!(&plan(alloc, 64, &two, 33, none_left)?, Plan::Busy));
-    let neither = DeviceRoom {
-        quota: 79,
-        works: 8,
-        ..DEVICE
-    };
-    assert!(rt; matches!(&plan(alloc, 64, &two, 33, neither)?, Plan::Full));
-    let last = DeviceRoom {
-        quota: u64::MAX,
-        used: u64::MAX,
-        works: 0,
-    };
-    assert!(rt; matches!(&plan(alloc, 64, &two, 33, last)?, Plan::Full));
-    let young = [(16, SPILLABLE), (16, EVICTABLE), (32, STAYS)];
-    holds!(rt; spills(&plan(alloc, 64, &young, 32, DEVICE)?, &[1]));
-    Ok(())
-}
-
-/// The plan of a job whose neighbour used copies in the same window before.
-fn beside_a_neighbour(alloc: Global) -> Result<Plan, Refusal> {
-    let mut store = Store::new(alloc, 32)?;
-    store.add(1, 16, EVICTABLE)?;
-    store.add(2, 16, EVICTABLE)?;
-    store.hand_over(1)?;
-    store.plan(alloc, 16, DEVICE)
-}
-
-#[test]
-fn a_neighbour_s_copies_stay(rt: HostRuntime) -> Result<(), Fail> {
-    let plan = match beside_a_neighbour(rt.alloc()) {
-        Err(Refusal::NoMemory) => beside_a_neighbour(rt.alloc())?,
-        answer => answer?,
-    };
-    holds!(rt; evicts(&plan, &[2]));
+    let plan = plan(rt.alloc(), 64, &two, 33, DEVICE)?;
+    holds!(rt; spills(&plan, &[1, 2]));
     Ok(())
 }

@@ -1,13 +1,12 @@
-//! Ids, their texts, and the refusals.
+//! Ids, their texts, and the refusals. A table is one text: the prover reads each element of an array.
 use assertions::{holds, same};
 use obj_id::numbers::{read_u32, read_u64};
 use obj_id::{Items, JobNo, ObjectId, Refusal, TaskNo};
 use std::alloc::{AllocError, Global};
+use std::process::Abort;
 use std::test::Fail;
 
 const SPEAKER: JobNo = JobNo(1);
-
-const FIRST: &str = "00000000000000000000000000000000000000010000000100000001";
 
 /// Tells each byte of an id from the others.
 const COUNTED: [u8; 28] = [
@@ -16,12 +15,6 @@ const COUNTED: [u8; 28] = [
 ];
 
 const COUNTED_TEXT: &str = "0b0c0d0e0f101112131415161718191a1b1c1d1e0102030405060708";
-
-const COUNTED_TASK_TEXT: &str = "0b0c0d0e0f101112131415161718191a1b1c1d1e";
-
-fn numbered(task: u64, job: u32, index: u32) -> Result<ObjectId, Refusal> {
-    ObjectId::new(TaskNo::numbered(task), JobNo(job), index)
-}
 
 /// The printed text, asked for once more if memory ran out.
 fn printed(alloc: Global, id: ObjectId) -> Result<String, AllocError> {
@@ -42,134 +35,104 @@ fn printed_task(alloc: Global, task: TaskNo) -> Result<String, AllocError> {
 #[test]
 fn an_id_is_28_bytes_with_the_highest_byte_first(rt: HostRuntime) -> Result<(), Fail> {
     let id = ObjectId::from_bytes(&COUNTED)?;
-    same!(rt; id.job(), JobNo(0x0102_0304));
-    same!(rt; id.index(), 0x0506_0708);
-    same!(rt; id.task().0[0], 11);
-    same!(rt; id.task().0[19], 30);
+    same!(rt; (id.job().0, id.index()), (0x0102_0304, 0x0506_0708));
+    same!(rt; (id.task().0[0], id.task().0[19]), (11, 30));
     same!(rt; id.to_bytes(), COUNTED);
-    same!(rt; ObjectId::new(id.task(), id.job(), id.index()), Ok(id));
+    same!(rt; ObjectId::read_full(COUNTED_TEXT), Ok(id));
     Ok(())
 }
 
-#[test]
-fn other_bytes_are_no_id(rt: HostRuntime) {
-    let mut no_job = COUNTED;
-    no_job[20..24].copy_from_slice(&[0; 4]);
-    let mut no_index = COUNTED;
-    no_index[24..28].copy_from_slice(&[0; 4]);
-    same!(rt; ObjectId::from_bytes(&no_job), Err(Refusal::BadId));
-    same!(rt; ObjectId::from_bytes(&no_index), Err(Refusal::BadId));
-    same!(rt; ObjectId::from_bytes(&COUNTED[..27]), Err(Refusal::BadId));
-    same!(rt; ObjectId::from_bytes(&[1; 29]), Err(Refusal::BadId));
-    same!(rt; ObjectId::from_bytes(&[]), Err(Refusal::BadId));
-    same!(rt; numbered(1, 0, 1), Err(Refusal::BadId));
-    same!(rt; numbered(1, 1, 0), Err(Refusal::BadId));
-}
+/// Texts of ids in rising order, as job 1 reads them: by task, then job, then index.
+const RISING: &str = "\
+2/t0.3
+t1.1
+t1.2
+256/t1.1
+513/t1.1
+t256.1
+0b0c0d0e0f101112131415161718191a1b1c1d1e0102030405060708";
 
 #[test]
 fn ids_are_ordered_by_task_then_job_then_index(rt: HostRuntime) -> Result<(), Fail> {
-    let rising = [
-        numbered(0, 2, 3)?,
-        numbered(1, 1, 1)?,
-        numbered(1, 1, 2)?,
-        numbered(1, 256, 1)?,
-        numbered(1, 513, 1)?,
-        numbered(256, 1, 1)?,
-        ObjectId::from_bytes(&COUNTED)?,
-    ];
-    for (at, id) in rising.iter().enumerate() {
-        for (other_at, other) in rising.iter().enumerate() {
-            assert_eq!(rt; id.cmp(other), at.cmp(&other_at), "{at} and {other_at}");
-            assert_eq!(rt; *id == *other, at == other_at, "{at} and {other_at}");
-        }
+    let mut last = ObjectId::read("t0.1", SPEAKER)?;
+    for text in RISING.lines() {
+        let id = ObjectId::read(text, SPEAKER)?;
+        assert!(rt; last < id, "{text}");
+        last = id;
     }
+    Ok(())
+}
+
+/// Rows of a text as job 1 prints it, and of the id's bytes.
+const TEXTS: &str = "\
+t1.1 = 00000000000000000000000000000000000000010000000100000001
+t0.7 = 00000000000000000000000000000000000000000000000100000007
+2/t1.1 = 00000000000000000000000000000000000000010000000200000001
+10/t20.30 = 00000000000000000000000000000000000000140000000a0000001e
+t18446744073709551615.4294967295 = 000000000000000000000000ffffffffffffffff00000001ffffffff
+4294967295/t256.1 = 0000000000000000000000000000000000000100ffffffff00000001
+0b0c0d0e0f101112131415161718191a1b1c1d1e0102030405060708 = 0b0c0d0e0f101112131415161718191a1b1c1d1e0102030405060708";
+
+/// Checks that job 1 reads both texts as one id, and prints it as the first.
+fn check_id(rt: &impl Abort, alloc: Global, text: &str, bytes: &str) -> Result<(), Fail> {
+    let id = ObjectId::read_full(bytes)?;
+    let read = (
+        ObjectId::read(text, SPEAKER)?,
+        ObjectId::read(bytes, SPEAKER)?,
+    );
+    same!(rt; read, (id, id));
+    same!(rt; printed(alloc, id)?.as_str(), text);
     Ok(())
 }
 
 #[test]
 fn each_right_text_is_read_and_printed(rt: HostRuntime) -> Result<(), Fail> {
-    let rows = [
-        ("t1.1", numbered(1, 1, 1)?),
-        ("t0.7", numbered(0, 1, 7)?),
-        ("2/t1.1", numbered(1, 2, 1)?),
-        ("10/t20.30", numbered(20, 10, 30)?),
-        (
-            "t18446744073709551615.4294967295",
-            numbered(u64::MAX, 1, u32::MAX)?,
-        ),
-        ("4294967295/t256.1", numbered(256, u32::MAX, 1)?),
-        (COUNTED_TEXT, ObjectId::from_bytes(&COUNTED)?),
-    ];
-    for (text, id) in rows {
-        assert_eq!(rt; ObjectId::read(text, SPEAKER), Ok(id), "{text}");
-        let written = printed(rt.alloc(), id)?;
-        same!(rt; written.as_str(), text);
+    for row in TEXTS.lines() {
+        let (text, bytes) = row.split_once(" = ").ok_or("no row")?;
+        check_id(&rt, rt.alloc(), text, bytes)?;
     }
     Ok(())
 }
 
-#[test]
-fn the_full_text_is_read_for_every_id(rt: HostRuntime) -> Result<(), Fail> {
-    let first = numbered(1, 1, 1)?;
-    same!(rt; ObjectId::read_full(FIRST), Ok(first));
-    same!(rt; ObjectId::read(FIRST, SPEAKER), Ok(first));
-    same!(rt; ObjectId::read(FIRST, JobNo(2)), Ok(first));
-    same!(rt; ObjectId::read_short(FIRST, SPEAKER), Err(Refusal::BadId));
-    same!(rt; ObjectId::read_full("t1.1"), Err(Refusal::BadId));
-    holds!(rt; first.has_short_text());
-    holds!(rt; !ObjectId::from_bytes(&COUNTED)?.has_short_text());
-    Ok(())
-}
+/// What is no text of an id to job 1.
+const WRONG: &str = "\
 
-#[test]
-fn a_short_text_goes_by_the_job_that_speaks(rt: HostRuntime) -> Result<(), Fail> {
-    same!(rt; ObjectId::read_short("t5.6", JobNo(9)), numbered(5, 9, 6));
-    same!(rt; ObjectId::read_short("9/t5.6", JobNo(8)), numbered(5, 9, 6));
-    same!(rt; ObjectId::read_short("9/t5.6", JobNo(9)),
-        Err(Refusal::BadId));
-    same!(rt; ObjectId::read_short("t5.6", JobNo(0)), Err(Refusal::BadId));
-    Ok(())
-}
+t
+t1
+t1.
+t.1
+1.1
+t1.0
+t01.1
+t1.01
+t00.1
+t+1.1
+t-1.1
+T7.1
+t1.1 \n t1.1
+t1.1.1
+t1,1
+1/t1.1
+0/t1.1
+02/t1.1
+2/
+/t1.1
+2/2/t1.1
+-2/t1.1
+t18446744073709551616.1
+t1.4294967296
+4294967296/t1.1
+2/00000000000000000000000000000000000000010000000200000001
+00000000000000000000000000000000000000010000000000000001
+00000000000000000000000000000000000000010000000100000000
+0000000000000000000000000000000000000001000000010000000
+000000000000000000000000000000000000000100000001000000011
+0B0C0D0E0F101112131415161718191A1B1C1D1E0102030405060708
+0b0c0d0e0f101112131415161718191a1b1c1d1g0102030405060708";
 
 #[test]
 fn wrong_texts_are_refused(rt: HostRuntime) {
-    let texts = [
-        "",
-        "t",
-        "t1",
-        "t1.",
-        "t.1",
-        "1.1",
-        "t1.0",
-        "t01.1",
-        "t1.01",
-        "t00.1",
-        "t+1.1",
-        "t-1.1",
-        "T7.1",
-        "t1.1 ",
-        " t1.1",
-        "t1.1.1",
-        "t1,1",
-        "1/t1.1",
-        "0/t1.1",
-        "02/t1.1",
-        "2/",
-        "/t1.1",
-        "2/2/t1.1",
-        "-2/t1.1",
-        "t18446744073709551616.1",
-        "t1.4294967296",
-        "4294967296/t1.1",
-        "2/00000000000000000000000000000000000000010000000200000001",
-        "00000000000000000000000000000000000000010000000000000001",
-        "00000000000000000000000000000000000000010000000100000000",
-        "0000000000000000000000000000000000000001000000010000000",
-        "000000000000000000000000000000000000000100000001000000011",
-        "0B0C0D0E0F101112131415161718191A1B1C1D1E0102030405060708",
-        "0b0c0d0e0f101112131415161718191a1b1c1d1g0102030405060708",
-    ];
-    for text in texts {
+    for text in WRONG.lines() {
         assert_eq!(rt;
             ObjectId::read(text, SPEAKER),
             Err(Refusal::BadId),
@@ -178,123 +141,130 @@ fn wrong_texts_are_refused(rt: HostRuntime) {
     }
 }
 
-#[test]
-fn a_task_is_read_and_printed_by_its_number_or_its_digits(rt: HostRuntime) -> Result<(), Fail> {
-    let counted = ObjectId::from_bytes(&COUNTED)?.task();
-    let rows = [
-        ("t0", TaskNo::numbered(0)),
-        ("t1", TaskNo::numbered(1)),
-        ("t18446744073709551615", TaskNo::numbered(u64::MAX)),
-        (COUNTED_TASK_TEXT, counted),
-    ];
-    for (text, task) in rows {
-        assert_eq!(rt; TaskNo::read(text), Ok(task), "{text}");
-        let written = printed_task(rt.alloc(), task)?;
-        same!(rt; written.as_str(), text);
-    }
-    same!(rt; TaskNo::read("0000000000000000000000000000000000000001"),
-        Ok(TaskNo::numbered(1)));
-    same!(rt; TaskNo::read_full(COUNTED_TASK_TEXT), Ok(counted));
-    holds!(rt; TaskNo::numbered(1).has_short_text());
-    holds!(rt; !counted.has_short_text());
+/// Rows of a task's text as it is printed, and of its bytes.
+const TASKS: &str = "\
+t0 = 0000000000000000000000000000000000000000
+t1 = 0000000000000000000000000000000000000001
+t18446744073709551615 = 000000000000000000000000ffffffffffffffff
+0b0c0d0e0f101112131415161718191a1b1c1d1e = 0b0c0d0e0f101112131415161718191a1b1c1d1e";
+
+/// Checks that both texts are read as one task, which is printed as the first.
+fn check_task(rt: &impl Abort, alloc: Global, text: &str, bytes: &str) -> Result<(), Fail> {
+    let task = TaskNo::read_full(bytes)?;
+    same!(rt; (TaskNo::read(text)?, TaskNo::read(bytes)?), (task, task));
+    same!(rt; printed_task(alloc, task)?.as_str(), text);
     Ok(())
 }
 
 #[test]
+fn a_task_is_read_and_printed_by_its_number_or_its_digits(rt: HostRuntime) -> Result<(), Fail> {
+    for row in TASKS.lines() {
+        let (text, bytes) = row.split_once(" = ").ok_or("no row")?;
+        check_task(&rt, rt.alloc(), text, bytes)?;
+    }
+    Ok(())
+}
+
+/// What is no text of a task.
+const WRONG_TASKS: &str = "\
+
+t
+1
+t01
+t+1
+t1.1
+t18446744073709551616
+000000000000000000000000000000000000001
+0B0C0D0E0F101112131415161718191A1B1C1D1E";
+
+#[test]
 fn wrong_task_texts_are_refused(rt: HostRuntime) {
-    let texts = [
-        "",
-        "t",
-        "1",
-        "t01",
-        "t+1",
-        "t1.1",
-        "t18446744073709551616",
-        "000000000000000000000000000000000000001",
-        "0B0C0D0E0F101112131415161718191A1B1C1D1E",
-    ];
-    for text in texts {
+    for text in WRONG_TASKS.lines() {
         assert_eq!(rt; TaskNo::read(text), Err(Refusal::BadId), "{text}");
     }
 }
 
+/// What is no number, of 32 bits or of 64.
+const NO_NUMBERS: &str = "\
+
+00
+01
++1
+-0
+1a
+ 1
+18446744073709551616";
+
 #[test]
 fn a_number_is_digits_with_no_leading_zero(rt: HostRuntime) {
-    same!(rt; read_u64("0"), Some(0));
-    same!(rt; read_u64("18446744073709551615"), Some(u64::MAX));
-    same!(rt; read_u32("4294967295"), Some(u32::MAX));
-    for text in [
-        "",
-        "00",
-        "01",
-        "+1",
-        "-0",
-        "1a",
-        " 1",
-        "18446744073709551616",
-    ] {
-        assert_eq!(rt; read_u64(text), None, "{text}");
-        assert_eq!(rt; read_u32(text), None, "{text}");
+    for text in NO_NUMBERS.lines() {
+        assert_eq!(rt; (read_u64(text), read_u32(text)), (None, None), "{text}");
     }
-    same!(rt; read_u32("4294967296"), None);
+    let last = "18446744073709551615";
+    same!(rt; (read_u64("0"), read_u64(last)), (Some(0), Some(u64::MAX)));
+    let last = "4294967295";
+    same!(rt; (read_u32(last), read_u32("4294967296")), (Some(u32::MAX), None));
 }
+
+/// The refusals in the order of their numbers, from 1 on.
+const REFUSALS: &str = "\
+NotAdmitted
+BadId
+Exists
+Absent
+NotSealed
+AlreadySealed
+BadSize
+OutOfBounds
+Full
+Pending
+NotHeld
+Granted
+NotGranted
+DeviceFailed
+Damaged
+Busy
+TooMany
+Gone
+NoMemory
+Malformed
+NoRoom
+NotOwner
+NotResident
+Stale";
 
 #[test]
 fn each_refusal_has_its_number_and_name(rt: HostRuntime) -> Result<(), Fail> {
-    let rows = [
-        (1, "NotAdmitted"),
-        (2, "BadId"),
-        (3, "Exists"),
-        (4, "Absent"),
-        (5, "NotSealed"),
-        (6, "AlreadySealed"),
-        (7, "BadSize"),
-        (8, "OutOfBounds"),
-        (9, "Full"),
-        (10, "Pending"),
-        (11, "NotHeld"),
-        (12, "Granted"),
-        (13, "NotGranted"),
-        (14, "DeviceFailed"),
-        (15, "Damaged"),
-        (16, "Busy"),
-        (17, "TooMany"),
-        (18, "Gone"),
-        (19, "NoMemory"),
-        (20, "Malformed"),
-        (21, "NoRoom"),
-        (22, "NotOwner"),
-        (23, "NotResident"),
-        (24, "Stale"),
-    ];
-    for (number, name) in rows {
+    let mut number = 0u8;
+    for name in REFUSALS.lines() {
+        number = number.saturating_add(1);
         let refusal = Refusal::from_number(number).ok_or("no such number")?;
-        same!(rt; refusal.number(), number);
-        same!(rt; refusal.name(), name);
+        same!(rt; (refusal.name(), refusal.number()), (name, number));
         same!(rt; Refusal::from_name(name), Some(refusal));
     }
-    same!(rt; Refusal::NotAdmitted.number(), 1);
-    same!(rt; Refusal::Stale.number(), 24);
-    same!(rt; Refusal::from_number(0), None);
-    same!(rt; Refusal::from_number(25), None);
-    same!(rt; Refusal::from_name("badId"), None);
-    same!(rt; Refusal::from_name(""), None);
+    same!(rt; number, 24);
+    same!(rt; [Refusal::from_number(0), Refusal::from_number(25)], [None; 2]);
+    same!(rt; [Refusal::from_name("badId"), Refusal::from_name("")], [None; 2]);
     Ok(())
+}
+
+/// Adds the item, once more if memory ran out. Whether it is then the last, and nothing had changed before.
+fn pushed(items: &mut Items<JobNo>, job: JobNo) -> Result<bool, AllocError> {
+    let had = items.as_slice().len();
+    let mut kept = had;
+    if items.push(job).is_err() {
+        kept = items.as_slice().len();
+        items.push(job)?;
+    }
+    Ok(kept == had && items.as_slice().len() > had && items.as_slice().last() == Some(&job))
 }
 
 #[test]
 fn a_list_keeps_what_it_had_where_memory_is_wanting(rt: HostRuntime) -> Result<(), Fail> {
     let mut items = Items::new(rt.alloc());
-    for had in 0..20 {
-        let job = JobNo(had as u32);
-        if items.push(job).is_err() {
-            same!(rt; items.as_slice().len(), had);
-            items.push(job)?;
-        }
-        same!(rt; items.as_slice().len(), had + 1);
-        same!(rt; items.as_slice().last().copied(), Some(job));
+    for job in 0..20 {
+        holds!(rt; pushed(&mut items, JobNo(job))?);
     }
-    let none: Items<JobNo> = Items::from_vec(Vec::new(rt.alloc()));
-    same!(rt; none.as_slice().len(), 0);
+    same!(rt; items.as_slice().len(), 20);
     Ok(())
 }

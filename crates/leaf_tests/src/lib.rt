@@ -1,4 +1,4 @@
-//! Tests of what stands lowest: ids, windows, orders of use, the marks of a copy. A module for each:
+//! Tests of what stands lowest: ids, windows, orders of use. A module for each:
 //! what no contract says, and outside values.
 #![tactic(auto)]
 
@@ -6,7 +6,5 @@
 mod evictor;
 #[cfg(test)]
 mod ids;
-#[cfg(test)]
-mod states;
 #[cfg(test)]
 mod windows;

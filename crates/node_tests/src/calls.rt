@@ -1,44 +1,48 @@
 //! The calls of a node that are no events.
 ghost use Rattle.std.specs.Prelude.{◌≡◌, true};
-ghost use Rattle.node_core.specs.Built.{is_built};
 
+use crate::lines::event_of;
 use assertions::{holds, same};
-use bytes::Bytes;
 use node_core::{Node, Outcome};
-use obj_id::{Command, JobKey, JobNo, Kind, ObjectId, Quota, Refusal, Reply, TaskNo, Usage};
+use obj_id::{JobKey, JobNo, ObjectId, Quota, Refusal, Reply, TaskNo, Usage};
 use private_store::Event;
-use std::alloc::{AllocError, Global};
+use std::alloc::Global;
 use std::process::Abort;
 use std::test::Fail;
 
+/// A key that no line admits a job with: there it is of zeros.
 const KEY: JobKey = JobKey([7; 32]);
 
-const NEIGHBOURS_KEY: JobKey = JobKey([8; 32]);
+const ZEROS: JobKey = JobKey([0; 32]);
 
 /// A length that no Read may carry.
-const LONG: u32 = 65_552;
+const LONG: usize = 65_552;
 
 /// What the event gives, which is taken once more if memory ran out: then nothing has changed.
-pub(crate) fn taken(rt: &impl Abort, node: &mut Node, event: &Event) -> Result<Outcome, Refusal>
-    requires { is_built event.now ≡ true }
-{
-    let (own, neighbours) = (usage(node, 1), usage(node, 2));
+pub(crate) fn taken(rt: &impl Abort, node: &mut Node, event: &Event) -> Result<Outcome, Refusal> {
+    let before = usages(node);
     match node.apply(event) {
         Ok(outcome) => Ok(outcome),
         Err(_) => {
-            same!(rt; usage(node, 1), own);
-            same!(rt; usage(node, 2), neighbours);
+            same!(rt; usages(node), before);
             node.apply(event)
         }
     }
 }
 
 /// Gives the node an event that it doesn't refuse.
-fn carry_out(rt: &impl Abort, node: &mut Node, event: &Event) -> Result<(), Refusal>
-    requires { is_built event.now ≡ true }
-{
+fn accepted(rt: &impl Abort, node: &mut Node, event: &Event) -> Result<(), Refusal> {
     let outcome = taken(rt, node, event)?;
-    assert!(rt; !matches!(outcome.reply, Reply::Refused(_)));
+    holds!(rt; !matches!(outcome.reply, Reply::Refused(_)));
+    Ok(())
+}
+
+/// Gives the node the events of these lines, none of which it refuses.
+fn carry_out(rt: &impl Abort, alloc: Global, node: &mut Node, lines: &str) -> Result<(), Fail> {
+    for line in lines.lines() {
+        let event = event_of(rt, alloc, line)?;
+        accepted(rt, node, &event)?;
+    }
     Ok(())
 }
 
@@ -56,86 +60,68 @@ fn lent(node: &Node, job: u32, session: u32, id: ObjectId) -> Result<&[u8], Refu
     node.read_borrowed(JobNo(job), session, &id)
 }
 
-fn end_job(rt: &impl Abort, node: &mut Node, job: u32) -> Result<(), Refusal> {
-    carry_out(rt, node, &Event::JobEnd(JobNo(job)))
+/// What jobs 1 and 2 use.
+fn usages(node: &Node) -> [Result<Usage, Refusal>; 2] {
+    [usage(node, 1), usage(node, 2)]
 }
 
-fn admit(rt: &impl Abort, node: &mut Node, job: u32, key: JobKey) -> Result<(), Refusal> {
-    let quota = Quota {
-        window: 131_072,
-        device: 32,
-    };
-    carry_out(rt, node, &Event::Admit(JobNo(job), quota, key))
-}
-
-/// A node with jobs 1 and 2.
-fn node_of_two(rt: &impl Abort, alloc: Global) -> Result<Node, Refusal> {
-    let mut node = Node::new(alloc, 0, 1_048_576);
-    admit(rt, &mut node, 1, KEY)?;
-    admit(rt, &mut node, 2, NEIGHBOURS_KEY)?;
-    Ok(node)
-}
-
-/// The object of this number, of the job's first task.
-fn object(job: u32, index: u32) -> Result<ObjectId, Refusal> {
-    ObjectId::new(TaskNo::numbered(1), JobNo(job), index)
-}
-
-fn create(rt: &impl Abort, node: &mut Node, id: ObjectId, len: u32) -> Result<(), Refusal> {
-    let command = Command::Create(id, Kind::Primary, len);
-    carry_out(rt, node, &Event::Call(id.job(), 1, command))
-}
-
-fn write(
-    rt: &impl Abort,
-    node: &mut Node,
-    id: ObjectId,
-    offset: u32,
-    bytes: Bytes,
-) -> Result<(), Refusal> {
-    let command = Command::Write(id, offset, bytes);
-    carry_out(rt, node, &Event::Call(id.job(), 1, command))
-}
-
-fn seal(rt: &impl Abort, node: &mut Node, id: ObjectId) -> Result<(), Refusal> {
-    carry_out(rt, node, &Event::Call(id.job(), 1, Command::Seal(id)))
-}
-
-fn get(rt: &impl Abort, node: &mut Node, id: ObjectId) -> Result<(), Refusal> {
-    carry_out(rt, node, &Event::Call(id.job(), 1, Command::Get(id)))
-}
-
-fn payload(alloc: Global, bytes: &[u8]) -> Result<Bytes, AllocError> {
-    match Bytes::copy_from_slice(alloc, bytes) {
-        Ok(bytes) => Ok(bytes),
-        Err(_) => Bytes::copy_from_slice(alloc, bytes),
+/// Why session 1 of the job isn't lent the bytes of the other job's object of this number.
+fn withheld(node: &Node, job: u32, owner: u32, index: u32) -> Option<Refusal> {
+    match ObjectId::new(TaskNo::numbered(1), JobNo(owner), index) {
+        Ok(id) => lent(node, job, 1, id).err(),
+        Err(refusal) => Some(refusal),
     }
 }
 
-#[test]
-fn sessions_enter_by_their_jobs_key(rt: HostRuntime) -> Result<(), Fail> {
-    let mut node = node_of_two(&rt, rt.alloc())?;
+/// Whether session 1 of job 1 is lent so many bytes of its object of this number, with these at the end.
+fn is_lent(node: &Node, index: u32, len: usize, end: &[u8]) -> bool {
+    let Ok(id) = ObjectId::new(TaskNo::numbered(1), JobNo(1), index) else {
+        return false;
+    };
+    match lent(node, 1, 1, id) {
+        Ok(bytes) => bytes.len() == len && bytes.starts_with(&[0; 4]) && bytes.ends_with(end),
+        Err(_) => false,
+    }
+}
+
+/// Has sessions enter by right keys and wrong ones: each right one by its job's next number.
+fn enter_all(rt: &impl Abort, alloc: Global, node: &mut Node) -> Result<(), Fail> {
+    let quota = Quota {
+        window: 16,
+        device: 0,
+    };
+    carry_out(rt, alloc, node, "admit 0 1 16 0")?;
+    accepted(rt, node, &Event::Admit(JobNo(2), quota, KEY))?;
     let mut nearly = KEY;
     nearly.0[31] = 6;
-    same!(rt; enter(&mut node, 1, &KEY), Ok(1));
-    same!(rt; enter(&mut node, 1, &NEIGHBOURS_KEY), Err(Refusal::NotAdmitted));
-    same!(rt; enter(&mut node, 1, &nearly), Err(Refusal::NotAdmitted));
-    same!(rt; enter(&mut node, 9, &KEY), Err(Refusal::NotAdmitted));
-    same!(rt; enter(&mut node, 1, &KEY), Ok(2));
-    same!(rt; enter(&mut node, 2, &NEIGHBOURS_KEY), Ok(1));
-    same!(rt; enter(&mut node, 1, &KEY), Ok(3));
-    end_job(&rt, &mut node, 1)?;
-    same!(rt; enter(&mut node, 1, &KEY), Err(Refusal::NotAdmitted));
-    same!(rt; enter(&mut node, 2, &NEIGHBOURS_KEY), Ok(2));
+    let refused = Err(Refusal::NotAdmitted);
+    let told = [
+        enter(node, 1, &ZEROS),
+        enter(node, 1, &KEY),
+        enter(node, 2, &nearly),
+        enter(node, 9, &KEY),
+        enter(node, 1, &ZEROS),
+        enter(node, 2, &KEY),
+        enter(node, 1, &ZEROS),
+    ];
+    same!(rt; told, [Ok(1), refused, refused, refused, Ok(2), Ok(1), Ok(3)]);
+    carry_out(rt, alloc, node, "end 0 1")?;
+    same!(rt; [enter(node, 1, &ZEROS), enter(node, 2, &KEY)], [refused, Ok(2)]);
     Ok(())
 }
 
 #[test]
-fn usage_is_told_without_a_session(rt: HostRuntime) -> Result<(), Fail> {
-    let mut node = node_of_two(&rt, rt.alloc())?;
-    create(&rt, &mut node, object(1, 1)?, 20)?;
+fn sessions_enter_by_their_jobs_key(rt: HostRuntime) -> Result<(), Fail> {
+    let mut node = Node::new(rt.alloc(), 0, 1_048_576);
+    enter_all(&rt, rt.alloc(), &mut node)
+}
+
+/// Asks for usages, of jobs that live and of one that doesn't, before and after an end.
+fn use_all(rt: &impl Abort, alloc: Global, node: &mut Node) -> Result<(), Fail> {
+    let lines = "admit 0 1 64 32\nadmit 0 2 64 32\ncmd 0 1 1 create t1.1 20";
+    carry_out(rt, alloc, node, lines)?;
     let unused = Usage {
-        window: 131_072,
+        window: 64,
         window_used: 0,
         device: 32,
         device_used: 0,
@@ -147,74 +133,60 @@ fn usage_is_told_without_a_session(rt: HostRuntime) -> Result<(), Fail> {
         copies: 1,
         ..unused
     };
-    same!(rt; usage(&node, 1), Ok(used));
-    same!(rt; usage(&node, 2), Ok(unused));
-    same!(rt; usage(&node, 9), Err(Refusal::NotAdmitted));
-    end_job(&rt, &mut node, 1)?;
-    same!(rt; usage(&node, 1), Err(Refusal::NotAdmitted));
+    same!(rt; usages(node), [Ok(used), Ok(unused)]);
+    carry_out(rt, alloc, node, "end 0 1")?;
+    same!(rt; usages(node), [Err(Refusal::NotAdmitted), Ok(unused)]);
+    Ok(())
+}
+
+#[test]
+fn usage_is_told_without_a_session(rt: HostRuntime) -> Result<(), Fail> {
+    let mut node = Node::new(rt.alloc(), 0, 1_048_576);
+    use_all(&rt, rt.alloc(), &mut node)
+}
+
+/// A long object, of which the last bytes are written, and one that nobody holds.
+const OBJECTS: &str = "\
+admit 0 1 131072 0
+admit 0 2 131072 0
+cmd 0 1 1 create t1.1 65552
+cmd 0 1 1 write t1.1 65548 61626364
+cmd 0 1 1 create t1.2 16
+cmd 0 1 1 create t1.3 16
+cmd 0 1 1 seal t1.1
+cmd 0 1 1 seal t1.2
+cmd 0 1 1 get t1.1";
+
+/// Asks for the bytes of an object that is held, and of others.
+fn lend_all(rt: &impl Abort, alloc: Global, node: &mut Node) -> Result<(), Fail> {
+    carry_out(rt, alloc, node, OBJECTS)?;
+    holds!(rt; is_lent(node, 1, LONG, b"abcd"));
+    let own = [
+        withheld(node, 1, 1, 1),
+        withheld(node, 1, 1, 2),
+        withheld(node, 1, 1, 3),
+        withheld(node, 1, 1, 4),
+    ];
+    let due = [
+        None,
+        Some(Refusal::NotHeld),
+        Some(Refusal::NotSealed),
+        Some(Refusal::Absent),
+    ];
+    same!(rt; own, due);
+    let foreign = [
+        withheld(node, 2, 1, 1),
+        withheld(node, 1, 2, 1),
+        withheld(node, 1, 9, 1),
+    ];
+    same!(rt; foreign, [Some(Refusal::NotGranted); 3]);
+    let not_live = [withheld(node, 9, 9, 1), withheld(node, 9, 1, 1)];
+    same!(rt; not_live, [Some(Refusal::NotAdmitted); 2]);
     Ok(())
 }
 
 #[test]
 fn a_held_object_is_lent_whole(rt: HostRuntime) -> Result<(), Fail> {
-    let mut node = node_of_two(&rt, rt.alloc())?;
-    let id = object(1, 1)?;
-    create(&rt, &mut node, id, LONG)?;
-    let end = payload(rt.alloc(), b"abcd")?;
-    write(&rt, &mut node, id, LONG - 4, end)?;
-    same!(rt; lent(&node, 1, 1, id), Err(Refusal::NotSealed));
-    seal(&rt, &mut node, id)?;
-    same!(rt; lent(&node, 1, 1, id), Err(Refusal::NotHeld));
-    get(&rt, &mut node, id)?;
-    let bytes = lent(&node, 1, 1, id)?;
-    same!(rt; bytes.len(), LONG as usize);
-    holds!(rt; bytes.starts_with(&[0; 4]));
-    holds!(rt; bytes.ends_with(b"abcd"));
-    same!(rt; lent(&node, 1, 2, id), Err(Refusal::NotHeld));
-    Ok(())
-}
-
-/// A node with jobs 1 and 2, and an object that session 1 of job 1 holds.
-fn node_with_a_held(rt: &impl Abort, alloc: Global) -> Result<Node, Refusal> {
-    let mut node = node_of_two(rt, alloc)?;
-    let id = object(1, 1)?;
-    create(rt, &mut node, id, 16)?;
-    seal(rt, &mut node, id)?;
-    get(rt, &mut node, id)?;
-    Ok(node)
-}
-
-/// Why session 1 of the job isn't lent the bytes of the other job's object of this number.
-fn withheld(node: &Node, job: u32, owner: u32, index: u32) -> Option<Refusal> {
-    match object(owner, index) {
-        Ok(id) => lent(node, job, 1, id).err(),
-        Err(refusal) => Some(refusal),
-    }
-}
-
-#[test]
-fn an_object_that_is_not_there_is_not_lent(rt: HostRuntime) -> Result<(), Fail> {
-    let node = node_with_a_held(&rt, rt.alloc())?;
-    same!(rt; withheld(&node, 1, 1, 2), Some(Refusal::Absent));
-    Ok(())
-}
-
-#[test]
-fn another_jobs_object_is_not_lent(rt: HostRuntime) -> Result<(), Fail> {
-    let node = node_with_a_held(&rt, rt.alloc())?;
-    let refusals = [
-        withheld(&node, 2, 1, 1),
-        withheld(&node, 1, 2, 1),
-        withheld(&node, 1, 9, 1),
-    ];
-    same!(rt; refusals, [Some(Refusal::NotGranted); 3]);
-    Ok(())
-}
-
-#[test]
-fn a_job_that_is_not_live_is_lent_nothing(rt: HostRuntime) -> Result<(), Fail> {
-    let node = node_with_a_held(&rt, rt.alloc())?;
-    let refusals = [withheld(&node, 9, 9, 1), withheld(&node, 9, 1, 1)];
-    same!(rt; refusals, [Some(Refusal::NotAdmitted); 2]);
-    Ok(())
+    let mut node = Node::new(rt.alloc(), 0, 1_048_576);
+    lend_all(&rt, rt.alloc(), &mut node)
 }

@@ -1,9 +1,8 @@
-//! A fetch of two chunks, in all disorder.
-use assertions::same;
+//! A fetch of two chunks, if memory is wanting.
+use assertions::holds;
 use bytes::Bytes;
-use fetch_core::{FetchIn, Stage, chunks_asked};
+use fetch_core::{FetchIn, chunks_asked};
 use obj_id::{Digest, JobNo, Location, ObjectId, PeerMessage, Refusal, TaskNo};
-use private_store::FetchFault;
 use sha2::{Digest as _, Sha256};
 use std::alloc::Global;
 use std::test::Fail;
@@ -73,95 +72,42 @@ fn is_chunk(message: &PeerMessage, index: u32, bytes: &[u8]) -> Result<bool, Ref
     })
 }
 
-#[test]
-fn the_first_entry_of_another_node_is_the_source(rt: HostRuntime) {
-    let mut fetch = FetchIn::new(rt.alloc(), NUMBER);
-    same!(rt; fetch.stage(), Stage::Locating);
-    same!(rt; fetch.number(), NUMBER);
-    same!(rt; (fetch.length(), fetch.digest()), (0, None));
-    fetch.located(HERE, NUMBER - 1, &[located_at(SOURCE, b"one")]);
-    same!(rt; fetch.stage(), Stage::Locating);
-    fetch.located(
-        HERE,
-        NUMBER,
-        &[
-            located_at(HERE, b"mine"),
-            located_at(SOURCE, b"one"),
-            located_at(4, b"two"),
-        ],
-    );
-    same!(rt; fetch.stage(), Stage::Sized(SOURCE));
-    same!(rt; fetch.length(), 3);
-    same!(rt; fetch.digest(), Some(Digest(Sha256::digest(b"one"))));
-    assert_eq!(rt; fetch.missing(), [].as_slice());
-    fetch.located(HERE, NUMBER, &[]);
-    same!(rt; fetch.stage(), Stage::Sized(SOURCE));
+/// Whether the fetch asks for both chunks, takes them, the last first, and finds them whole.
+fn takes_both(fetch: &mut FetchIn, bytes: &[u8]) -> bool {
+    fetch.missing() == [0, 1].as_slice()
+        && fetch.take_chunk(NUMBER, SOURCE, 1, 10)
+        && fetch.take_chunk(NUMBER, SOURCE, 0, CHUNK)
+        && fetch.missing().is_empty()
+        && fetch.complete(bytes)
 }
 
 #[test]
-fn without_another_node_there_is_no_copy(rt: HostRuntime) {
-    let mut fetch = FetchIn::new(rt.alloc(), NUMBER);
-    fetch.located(HERE, NUMBER, &[located_at(HERE, b"mine")]);
-    same!(rt; fetch.stage(), Stage::Failed(FetchFault::Absent));
-}
-
-#[test]
-fn the_last_chunk_first_one_lost_one_twice(rt: HostRuntime) -> Result<(), Fail> {
+fn both_chunks_are_asked_for_and_taken(rt: HostRuntime) -> Result<(), Fail> {
     let bytes = object();
     let mut fetch = pulling(rt.alloc(), &bytes)?;
-    assert_eq!(rt; fetch.missing(), [0, 1].as_slice());
-    same!(rt; fetch.take_chunk(NUMBER, SOURCE, 1, 9), false);
-    same!(rt; fetch.take_chunk(NUMBER, HERE, 1, 10), false);
-    same!(rt; fetch.take_chunk(NUMBER + 1, SOURCE, 1, 10), false);
-    same!(rt; fetch.take_chunk(NUMBER, SOURCE, 2, 0), false);
-    same!(rt; fetch.take_chunk(NUMBER, SOURCE, 1, 10), true);
-    same!(rt; fetch.take_chunk(NUMBER, SOURCE, 1, 10), false);
-    assert_eq!(rt; fetch.missing(), [0].as_slice());
-    same!(rt; fetch.stage(), Stage::Pulling(SOURCE));
-    same!(rt; fetch.take_chunk(NUMBER, SOURCE, 0, CHUNK), true);
-    assert_eq!(rt; fetch.missing(), [].as_slice());
-    same!(rt; fetch.complete(&bytes), true);
+    holds!(rt; takes_both(&mut fetch, &bytes));
     Ok(())
 }
 
-#[test]
-fn a_damaged_chunk_is_found_at_the_end(rt: HostRuntime) -> Result<(), Fail> {
-    let mut bytes = object();
-    let mut fetch = pulling(rt.alloc(), &bytes)?;
-    same!(rt; fetch.take_chunk(NUMBER, SOURCE, 0, CHUNK), true);
-    same!(rt; fetch.take_chunk(NUMBER, SOURCE, 1, 10), true);
-    bytes[CHUNK] = 255;
-    same!(rt; fetch.complete(&bytes), false);
-    same!(rt; fetch.stage(), Stage::Failed(FetchFault::Damaged));
-    same!(rt; fetch.digest(), None);
-    Ok(())
-}
-
-#[test]
-fn only_the_source_says_that_there_is_nothing(rt: HostRuntime) -> Result<(), Fail> {
-    let bytes = object();
-    let mut fetch = pulling(rt.alloc(), &bytes)?;
-    same!(rt; fetch.not_here(NUMBER, HERE), false);
-    same!(rt; fetch.not_here(NUMBER + 1, SOURCE), false);
-    same!(rt; fetch.stage(), Stage::Pulling(SOURCE));
-    same!(rt; fetch.not_here(NUMBER, SOURCE), true);
-    same!(rt; fetch.stage(), Stage::Failed(FetchFault::Absent));
-    Ok(())
+/// Whether these are the chunks of these indexes and lengths.
+fn are_chunks(
+    sent: &[PeerMessage],
+    bytes: &[u8],
+    wanted: &[(u32, usize)],
+) -> Result<bool, Refusal> {
+    let mut all = sent.len() == wanted.len();
+    for (message, (index, length)) in sent.iter().zip(wanted) {
+        let (_, rest) = bytes.split_at((*index as usize * CHUNK).min(bytes.len()));
+        let (chunk, _) = rest.split_at((*length).min(rest.len()));
+        all = all && is_chunk(message, *index, chunk)?;
+    }
+    Ok(all)
 }
 
 #[test]
 fn each_asked_chunk_is_sent_in_the_order_asked(rt: HostRuntime) -> Result<(), Fail> {
     let bytes = object();
     let sent = served(rt.alloc(), &bytes, &[1, 2, 0, 1, u32::MAX])?;
-    let wanted = [(1, 10), (0, CHUNK), (1, 10)];
-    same!(rt; sent.len(), wanted.len());
-    for (message, (index, length)) in sent.iter().zip(wanted) {
-        let start = index as usize * CHUNK;
-        assert_eq!(rt;
-            is_chunk(message, index, &bytes[start..start + length])?,
-            true,
-            "{index}"
-        );
-    }
+    holds!(rt; are_chunks(&sent, &bytes, &[(1, 10), (0, CHUNK), (1, 10)])?);
     Ok(())
 }

@@ -1,0 +1,39 @@
+//! Steps and events as lines spell them, if there are two nodes.
+ghost use Rattle.std.specs.Prelude.{◌≡◌, true, IfOk};
+ghost use Rattle.world_core.specs.Worlds.{is_within as is_within_lem};
+
+use obj_id::DeviceAnswer;
+use private_store::{Event, Step};
+use schedule_text::{Line, read_line};
+use std::alloc::{AllocError, Global};
+use std::process::Abort;
+use world_core::is_within;
+
+/// What the line says, asked for once more if memory ran out.
+fn read(alloc: Global, line: &str) -> Result<Option<Line>, AllocError> {
+    match read_line(alloc, line, 2) {
+        Ok(read) => Ok(read),
+        Err(_) => read_line(alloc, line, 2),
+    }
+}
+
+/// The step that the line spells.
+pub(crate) fn step_of(rt: &impl Abort, alloc: Global, line: &str) -> Result<Step, AllocError>
+    ensures { IfOk result (λ step. is_within_lem 2 step ≡ true) }
+{
+    match read(alloc, line)? {
+        Some(Line::Step(step)) if is_within(2, &step) => Ok(step),
+        _ => panic!(rt; "not a step"),
+    }
+}
+
+/// The event that the line spells; the answer of a work is that it was done.
+pub(crate) fn event_of(rt: &impl Abort, alloc: Global, line: &str) -> Result<Event, AllocError> {
+    match read(alloc, line)? {
+        Some(Line::Step(Step::At(_, event))) => Ok(event),
+        Some(Line::Finish { job, number, .. }) => {
+            Ok(Event::Finish(job, number, DeviceAnswer::Done))
+        }
+        _ => panic!(rt; "not an event"),
+    }
+}
