@@ -180,6 +180,37 @@ class Sessions(unittest.TestCase):
         self.assertEqual(granted, [])
         self.assertEqual(self.store.usage().window_used, 32)
 
+    def test_what_is_granted(self) -> None:
+        store, one = self.store, self.store.put(b"abcd", self.one)
+        with self.server.connect(2) as other:
+            self.refused(store_client.NotGranted, other.peek, one, 0, 1)
+            self.refused(store_client.BadId, store.grant, one, 1)
+            self.refused(store_client.Absent, store.grant, store.task(1).object(2), 2)
+            store.grant(one, 2)
+            self.refused(store_client.Exists, store.grant, one, 2)
+            self.refused(store_client.Granted, store.delete, one)
+            self.assertEqual(other.peek(one, 1, 2), b"bc")
+            self.refused(store_client.OutOfBounds, other.peek, one, 3, 2)
+            self.assertEqual([(item.id, item.length, item.depth) for item in other.list()[1]], [(one, 4, 1)])
+            # whether job 3 is there doesn't show
+            other.grant(one, 3)
+            self.refused(store_client.NotGranted, other.withdraw, one, 1)
+            store.withdraw(one, 2)
+            self.refused(store_client.NotGranted, other.peek, one, 0, 1)
+            self.refused(store_client.NotGranted, other.withdraw, one, 3)
+        store.delete(one)
+
+    def test_a_task_that_ends(self) -> None:
+        store, one = self.store, self.store.put(b"abcd", self.one)
+        with self.server.connect(2) as other:
+            store.grant(one, 2)
+            self.assertEqual(other.peek(one, 0, 4), b"abcd")
+            store.end_task(Task.numbered(1))
+            self.refused(store_client.NotGranted, other.peek, one, 0, 4)
+        self.assertEqual(store.usage().copies, 0)
+        self.refused(store_client.Gone, store.end_task, Task.numbered(1))
+        self.refused(store_client.Gone, store.create, self.store.task(1).object(2), 16)
+
     def test_a_get_waits_for_a_put(self) -> None:
         # of an object that nobody made a Get begins a fetch, so it waits for one that is being written
         self.store.create(self.one, 4)
@@ -254,6 +285,17 @@ class Sessions(unittest.TestCase):
         failed = subprocess.run(words + ["delete", "t1.1"], capture_output=True, env=place, check=False, timeout=60)
         self.assertEqual(failed.returncode, 1)
         self.assertTrue(failed.stderr.startswith(b"store_client: 4 Absent"))
+
+
+class Examples(unittest.TestCase):
+    def test_arrays_pass_along(self) -> None:
+        place = {**os.environ, "STORE_PROGRAM": PROGRAM}
+        done = subprocess.run([str(ROOT / "examples/pipeline.py")], capture_output=True, env=place, check=False, timeout=120, text=True)
+        self.assertEqual((done.returncode, done.stderr), (0, ""))
+        lines = done.stdout.splitlines()
+        totals = [sum(number * number for number in range(start, start + 100_000)) for start in (0, 100_000, 200_000)]
+        self.assertEqual(lines[:3], [f"the squares add up to {total}; the numbers themselves: refused 13 NotGranted" for total in totals])
+        self.assertEqual(lines[3:], ["job 2 has 0 copies of its own, and 3 objects were granted to it"])
 
 
 if __name__ == "__main__":
