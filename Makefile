@@ -1,7 +1,7 @@
 # The gate: every proof from nothing, the must-fail edits, the tests, and the programs with what they print. A crate has no
 # links, so the examples lie twice; that they are the same is looked at first.
 test:
-	diff -r examples crates/schedules/data/examples
+	diff -r -x pipeline.py examples crates/schedules/data/examples
 	cmp examples/first.schedule crates/store_server/stdin
 	cmp examples/first.expected crates/store_server/stdout
 	rt ci
@@ -40,8 +40,16 @@ sessions: build
 client-test: build
 	python3 clients/python/tests/test_client.py
 
+# Processes of two jobs that pass arrays along through a built program.
+pipeline: build
+	examples/pipeline.py
+
+# A built program and a plain model of it, on schedules drawn by lot (see bench/model --help).
+model: build
+	bench/model
+
 # Measures a built program (see bench/growth --help).
 bench: build
 	bench/growth
 
-.PHONY: test check build run sessions client-test faults bench
+.PHONY: test check build run sessions client-test pipeline model faults bench
