@@ -1,0 +1,15 @@
+pub mod Changing
+pub mod FirstFits
+pub mod Shortest
+pub mod Sums
+pub mod Changes
+pub mod SessionPuts
+pub mod RoomLeaves
+pub mod Restores
+pub mod Pulls
+pub mod Using
+pub mod Keyed
+pub mod Sorting
+pub mod Each
+pub mod HandsEnd
+pub mod Fields

@@ -9,7 +9,7 @@ use Rattle.plain_store.specs.declared.store.Life.TheVariants as life
 abbrev pub phase_of : FetchPhase → Phase
 phase_of phase.Locating = locating
 phase_of (phase.Sized source) = sized source
-phase_of (phase.Pulling source missing) = pulling source missing
+phase_of (phase.Pulling source missing) = pulling source missing.items
 phase_of (phase.Failed fault) = failed fault
 
 abbrev pub life_of : Life → StoreLife

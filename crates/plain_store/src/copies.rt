@@ -1,5 +1,5 @@
 //! The copies of a job, and the device works on them.
-use obj_id::{CopyState, Items, Kind, ObjectId, TaskNo};
+use obj_id::{CopyState, Kind, ObjectId, TaskNo};
 use private_store::{Fault, FetchFault};
 use std::marker::Model;
 
@@ -11,7 +11,7 @@ pub enum FetchPhase {
     /// The node that has the object, which isn't asked for its bytes yet.
     Sized(u32),
     /// The node that is asked, and the indexes of the chunks that are missing.
-    Pulling(u32, Items<u32>),
+    Pulling(u32, Vec<u32>),
     /// It is over without a copy, for the next Get to tell why.
     Failed(FetchFault),
 }
@@ -45,9 +45,9 @@ pub struct PlainCopy {
     /// Whether the owner task keeps it.
     pub pinned: bool,
     /// In the order in which they came.
-    pub borrowers: Items<TaskNo>,
+    pub borrowers: Vec<TaskNo>,
     /// How many holds each session has, by rising session.
-    pub holds: Items<(u32, u32)>,
+    pub holds: Vec<(u32, u32)>,
     /// The number of the write that put its bytes on the device.
     pub backed: Option<u64>,
     /// Whether it goes as soon as nothing keeps it.
@@ -62,7 +62,7 @@ impl Model for PlainCopy {
 
     ghost Value = { Copy };
 
-    ghost view = { λ c. record { state = c.state; kind = c.kind; length = c.length; offset = c.offset; pinned = c.pinned; borrowers = c.borrowers; holds = c.holds; backed = c.backed; doomed = c.doomed; fault = c.fault; fetch = c.fetch } };
+    ghost view = { λ c. record { state = c.state; kind = c.kind; length = c.length; offset = c.offset; pinned = c.pinned; borrowers = c.borrowers.items; holds = c.holds.items; backed = c.backed; doomed = c.doomed; fault = c.fault; fetch = c.fetch } };
 }
 
 /// A device work in flight. A contract sees the private store's.

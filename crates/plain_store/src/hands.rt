@@ -1,7 +1,7 @@
 //! The hands that a job gave and was given.
 ghost use Rattle.std.specs.Prelude.{◌≡◌, ◌++◌, ◌∷◌, [], OnOk};
 
-use obj_id::{Items, JobNo, ObjectId};
+use obj_id::{JobNo, ObjectId};
 use std::alloc::AllocError;
 use std::marker::Model;
 
@@ -45,7 +45,7 @@ pub struct SeenObject {
     /// In bytes.
     pub length: u32,
     /// The standing hands, oldest first.
-    pub hands: Items<TakenHand>,
+    pub hands: Vec<TakenHand>,
 }
 
 impl Model for SeenObject {
@@ -53,7 +53,7 @@ impl Model for SeenObject {
 
     ghost Value = { Seen };
 
-    ghost view = { λ s. record { length = s.length; hands = s.hands } };
+    ghost view = { λ s. record { length = s.length; hands = s.hands.items } };
 }
 
 impl SeenObject {

@@ -2,10 +2,36 @@
 //! it. A contract sees the store that the definitions of `private_store` step and replay.
 #![tactic(auto)]
 
+mod arriving;
+mod commands;
 mod copies;
+mod create;
+mod device;
+mod ending;
+mod events;
+mod fetching;
+mod first_fit;
+mod getting;
+mod granted;
+mod granting;
 mod hands;
+mod holds;
+mod keeping;
+mod leaving;
+mod listing;
+mod marks;
+mod order;
+mod planning;
+mod restore;
+mod room;
+mod step;
 mod store;
+mod tables;
+mod told;
+mod used;
+mod window;
 
 pub use copies::{FetchPhase, PlainCopy, PlainFetch, PlainWork};
 pub use hands::{GivenHand, SeenObject, TakenHand};
 pub use store::{Life, PlainStore};
+pub use tables::copies_by_id;

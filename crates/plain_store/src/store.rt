@@ -5,8 +5,9 @@ ghost use Rattle.plain_store.specs.Parts.{has_begun as has_begun_lem};
 
 use crate::copies::{PlainCopy, PlainWork};
 use crate::hands::{GivenHand, SeenObject};
-use obj_id::{Items, JobNo, ObjectId, Quota, TaskNo};
+use obj_id::{JobNo, ObjectId, Quota, TaskNo};
 use std::alloc::Global;
+use std::collections::BTreeMap;
 use std::marker::Model;
 
 /// How far a job is at a node.
@@ -24,12 +25,11 @@ pub struct PlainStore {
     pub job: JobNo,
     pub life: Life,
     pub quota: Quota,
-    /// By rising id.
-    pub copies: Items<(ObjectId, PlainCopy)>,
+    pub copies: BTreeMap<ObjectId, PlainCopy>,
     /// The copies that bytes were asked of, least recently used first.
-    pub order: Items<ObjectId>,
+    pub order: Vec<ObjectId>,
     /// In the order asked.
-    pub works: Items<PlainWork>,
+    pub works: Vec<PlainWork>,
     /// The last number that a work had.
     pub works_asked: u64,
     /// The last number that a fetch had.
@@ -37,11 +37,11 @@ pub struct PlainStore {
     /// Whether a spill failed since room was last refused for it.
     pub spill_failed: bool,
     /// In the order in which they ended.
-    pub ended_tasks: Items<TaskNo>,
+    pub ended_tasks: Vec<TaskNo>,
     /// In the order given.
-    pub given: Items<GivenHand>,
-    /// What others granted, by rising id.
-    pub received: Items<(ObjectId, SeenObject)>,
+    pub given: Vec<GivenHand>,
+    /// What others granted.
+    pub received: BTreeMap<ObjectId, SeenObject>,
 }
 
 impl Model for PlainStore {
@@ -51,7 +51,7 @@ impl Model for PlainStore {
 
     ghost use Rattle.plain_store.specs.Parts.{life_of};
 
-    ghost view = { λ s. record { shape = record { job = s.job.0; life = life_of s.life; quota = s.quota; copies = s.copies; works = s.works; works_asked = s.works_asked; fetches_begun = s.fetches_begun; spill_failed = s.spill_failed; ended_tasks = s.ended_tasks; given = s.given; received = s.received }; order = s.order } };
+    ghost view = { λ s. record { shape = record { job = s.job.0; life = life_of s.life; quota = s.quota; copies = s.copies.entries; works = s.works.items; works_asked = s.works_asked; fetches_begun = s.fetches_begun; spill_failed = s.spill_failed; ended_tasks = s.ended_tasks.items; given = s.given.items; received = s.received.entries }; order = s.order.items } };
 }
 
 impl PlainStore {
@@ -66,15 +66,15 @@ impl PlainStore {
                 window: 0,
                 device: 0,
             },
-            copies: Items::new(alloc),
-            order: Items::new(alloc),
-            works: Items::new(alloc),
+            copies: BTreeMap::new(alloc),
+            order: Vec::new(alloc),
+            works: Vec::new(alloc),
             works_asked: 0,
             fetches_begun: 0,
             spill_failed: false,
-            ended_tasks: Items::new(alloc),
-            given: Items::new(alloc),
-            received: Items::new(alloc),
+            ended_tasks: Vec::new(alloc),
+            given: Vec::new(alloc),
+            received: BTreeMap::new(alloc),
         }
     }
 

@@ -1,0 +1,16 @@
+-- A store with other copies, and what is lent of one.
+use Rattle.std.proofs.Common.{◌≡◌, ap, inl, inr, refl, Option, Some, None, MutBor}
+use Rattle.std.specs.Option.{ghost_name_of}
+use borrow.Follows.Closed.{read_of}
+use Rattle.private_store.specs.Tables.{ById}
+use Rattle.private_store.specs.Shape.{Copy}
+use Rattle.private_store.specs.Replay.{Brief}
+
+abbrev pub with_copies : Brief → ById Copy → Brief
+with_copies brief copies = record brief { shape = record brief.shape { copies = copies } }
+
+-- a lender that ends alike in both cases
+pub lent : {D E : Type 0} (o : Option (MutBor E)) (F G : E → D) (v u : D) → ((x : MutBor E) → o ≡ Some x → (w : E) → F w ≡ G w) → (o ≡ None → v ≡ u)
+    → read_of (ghost_name_of o) F v ≡ read_of (ghost_name_of o) G u
+lent None F G v u some none = ap inr (none refl)
+lent (Some x) F G v u some none = ap (λ H. inl (x.ghost_name, H)) (λ i w. some x refl w i)

@@ -1,0 +1,52 @@
+-- What making room leaves of copies that aren't sealed, and what it takes from what a store keeps.
+use Rattle.std.proofs.Common.{◌≡◌, ℕ, ◌+◌, ◌<◌, ◌≤◌, ◌^◌, true, false, List, [], ◌∷◌, cond, Some, Ok, is_ok, ap, ◌∙◌, arith}
+use Rattle.std.specs.Prelude.{nat_le, sum_by}
+use Rattle.std.specs.Option.{unwrap_or}
+use Rattle.std.specs.Ordering.{nat_cmp, is_eq}
+use Rattle.std.specs.FinMap.{find}
+use Rattle.std.proofs.lemmas.List.Sums.{sum_by-cons}
+use Rattle.std.proofs.lemmas.Bool.{leb-false}
+use Rattle.obj_id.specs.declared.ids.ObjectId.{ObjectId}
+use Rattle.private_store.specs.Tables.{at}
+use Rattle.private_store.specs.Limits.{is_quota, most_holds}
+use Rattle.private_store.specs.Shape.{Copy}
+use Rattle.private_store.specs.Replay.{Brief}
+use Rattle.private_store.specs.Listed.{IsBriefKept}
+use Rattle.private_store.specs.Copies.{is_sealed}
+use Rattle.private_store.specs.Events.{is_live}
+use Rattle.private_store.specs.Room.{make_room}
+use Rattle.private_store.specs.Commands.{holds_of, all_holds}
+use Rattle.private_store.proofs.BriefKept.{order_once}
+use Rattle.private_store.proofs.KeptRows.{to_live}
+use Rattle.private_store.proofs.KeptRoom.{IsMade}
+use Rattle.private_store.proofs.KeptPlan.{room_keeps}
+
+module _ (brief : Brief) (kept : IsBriefKept brief) (live : is_live brief.shape ≡ true) where
+  pub quota_kept : is_quota brief.shape.quota ≡ true
+  quota_kept = kept.shape.quota live
+
+  room_made : (n offset : ℕ) → (make_room brief.order brief.shape n).offset ≡ Ok offset → IsMade brief.shape (make_room brief.order brief.shape n).shape
+  room_made n offset e = (room_keeps brief.order (order_once brief.order brief.shape.copies kept.order) brief.shape (to_live brief.shape kept.shape live) n).made (ap is_ok e)
+
+  pub room_leaves : (n offset : ℕ) (id : ObjectId) (copy : Copy) → (make_room brief.order brief.shape n).offset ≡ Ok offset → at brief.shape.copies id ≡ Some copy → is_sealed copy.state ≡ false
+      → at (make_room brief.order brief.shape n).shape.copies id ≡ Some copy
+  room_leaves n offset id copy e there unsealed =
+      let m = room_made n offset e in
+      ap (λ s. at s.copies id) m.is ∙ m.others id copy there unsealed
+
+  pub room_numbers : (n offset : ℕ) → (make_room brief.order brief.shape n).offset ≡ Ok offset → (make_room brief.order brief.shape n).shape.works_asked ≡ brief.shape.works_asked
+  room_numbers n offset e = ap (λ s. s.works_asked) (room_made n offset e).is
+
+found-le : (session : ℕ) (holds : List (ℕ × ℕ)) → unwrap_or (find nat_cmp session holds) 0 ≤ sum_by (λ e. e.1) holds
+found-le session [] = omega arith
+found-le session (e ∷ es) =
+    let c = sum_by-cons (λ (x : ℕ × ℕ). x.1) e es in
+    let rest = found-le session es in
+    elim (is_eq (nat_cmp session e.0)) as (λ b. unwrap_or (cond b (Some e.1) (find nat_cmp session es)) 0 ≤ sum_by (λ (x : ℕ × ℕ). x.1) (e ∷ es)) [
+      | true ↦ omega (arith, c)
+      | false ↦ omega (arith, c, rest)
+    ]
+
+-- one hold more is a number of 32 bits
+pub holds_fit : (copy : Copy) (session : ℕ) → nat_le most_holds (all_holds copy) ≡ false → holds_of copy session + 1 < 2 ^ 32
+holds_fit copy session few = let le = found-le session copy.holds in let lt = leb-false most_holds (all_holds copy) few in omega (arith, le, lt)

@@ -1,0 +1,7 @@
+use Rattle.std.proofs.Common.{◌∙◌, sym, ap}
+use Rattle.private_store.specs.Tables.{at}
+use Rattle.private_store.proofs.ObjectMaps.{at-lookup}
+use Rattle.plain_store.proofs.store.PlainStore.copy.Goals as goal
+
+pub returns : goal.returns
+returns c = c.get.ensures.value ∙ sym (at-lookup c.args.id c.self.inside.copies.entries) ∙ ap (λ brief. at brief.shape.copies c.args.id) c.self.view_is

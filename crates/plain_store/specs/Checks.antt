@@ -1,0 +1,36 @@
+-- The checks of an input, in their order.
+use Rattle.std.specs.Prelude.{ℕ, ◌+◌, Bool, not, if◌then◌else◌, List, [], ◌∷◌, Option, Some, None, is_some, is_ok, ◌&&◌, ◌==◌}
+use Rattle.obj_id.specs.declared.ids.ObjectId.{ObjectId}
+use Rattle.obj_id.specs.declared.refusals.Refusal.{Refusal}
+use Rattle.obj_id.specs.declared.refusals.Refusal.TheVariants.{BadSize, Gone, Exists, TooMany, Busy}
+use Rattle.private_store.specs.Tables.{at}
+use Rattle.private_store.specs.Shape.{Shape}
+use Rattle.private_store.specs.Limits.{has_numbers}
+use Rattle.private_store.specs.Room.{make_room, works_left, set_copy}
+use Rattle.private_store.specs.Change.{has_ended}
+use Rattle.std.specs.Option.{option_map_or}
+use Rattle.private_store.specs.Commands.{is_length, is_full_of_copies, restoring, holds_of, with_holds}
+
+-- the refusal of the first test that holds
+abbrev pub first_of : List (Bool × Refusal) → Option Refusal
+first_of [] = None
+first_of (check ∷ checks) = if check.0 then Some check.1 else first_of checks
+
+abbrev pub create_checks : Shape → ObjectId → ℕ → List (Bool × Refusal)
+create_checks store id n =
+    (not (is_length store n), BadSize) ∷ (has_ended store id.task, Gone) ∷ (is_some (at store.copies id), Exists) ∷ (is_full_of_copies store, TooMany) ∷ []
+
+abbrev pub restore_checks : List ObjectId → Shape → ℕ → List (Bool × Refusal)
+restore_checks order store n = (works_left store == 0, Busy) ∷ (is_ok (make_room order store n).offset && not (has_numbers store.works_asked 1), TooMany) ∷ []
+
+-- the copy of the id, if there is one, is restored at the offset
+abbrev pub restored : Shape → ObjectId → ℕ → Shape
+restored store id offset = option_map_or (λ copy. (restoring id copy store offset).shape) (at store.copies id) store
+
+-- the session has one more hold on the copy of the id, if there is one
+abbrev pub held_more : Shape → ObjectId → ℕ → Shape
+held_more store id session = option_map_or (λ copy. set_copy store id (with_holds copy session (holds_of copy session + 1))) (at store.copies id) store
+
+-- the copy of the id, if there is one, has no fault
+abbrev pub fault_forgotten : Shape → ObjectId → Shape
+fault_forgotten store id = option_map_or (λ copy. set_copy store id (record copy { fault = None })) (at store.copies id) store

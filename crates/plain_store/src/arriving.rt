@@ -1,0 +1,229 @@
+//! What arrives for a fetch: its source, its chunks, or that its source has no copy.
+#![tactic(auto, unfolding(private_store::specs::Change::checked, private_store::specs::Change::needing, private_store::specs::Change::sending))]
+
+ghost use Rattle.std.specs.Prelude.{◌≡◌, ◌==◌, filter, not};
+ghost use Rattle.private_store.specs.Events.{chunk_arrived, is_missing as is_missing_lem, located, not_here_arrived};
+ghost use Rattle.plain_store.specs.Arrivals.{awaits, awaits_from, changed_if, chunked, filled, is_locating, located_under, lost};
+
+use crate::copies::{FetchPhase, PlainCopy, PlainFetch};
+use crate::store::PlainStore;
+use obj_id::{CopyState, ObjectId, Reply};
+use private_store::{ChunkVerdict, FetchFault, Source};
+
+impl PlainCopy {
+    /// Whether it is in the fetch of this number, whose source isn't known.
+    pub(crate) fn is_locating(&self, number: u64) -> bool
+        ensures { result ≡ is_locating number self.now }
+    {
+        match &self.fetch {
+            Some(fetch) => { fetch.number == number && matches!(fetch.phase, FetchPhase::Locating) }
+            None => false,
+        }
+    }
+
+    /// Whether it is in the fetch of this number, which pulls from this node.
+    pub(crate) fn awaits_from(&self, number: u64, from: u32) -> bool
+        ensures { result ≡ awaits_from number from self.now }
+    {
+        match &self.fetch {
+            Some(fetch) => match &fetch.phase {
+                FetchPhase::Pulling(source, _) => fetch.number == number && from == *source,
+                _ => false,
+            },
+            None => false,
+        }
+    }
+
+    /// Whether it is in the fetch of this number, which pulls from this node and lacks the chunk.
+    pub(crate) fn awaits(&self, number: u64, index: u32, from: u32) -> bool
+        ensures { result ≡ awaits number index from self.now }
+    {
+        match &self.fetch {
+            Some(fetch) => match &fetch.phase {
+                FetchPhase::Pulling(source, missing) => {
+                    fetch.number == number && from == *source && is_missing(missing, index)
+                }
+                _ => false,
+            },
+            None => false,
+        }
+    }
+
+    /// Its fetch, under this number, has a source and a length, or there is no copy anywhere.
+    pub(crate) fn locate(&mut self, number: u64, source: Option<Source>)
+        ensures { self.new ≡ located_under number source self.old }
+    {
+        let phase = match source {
+            Some(source) => {
+                self.length = source.length;
+                FetchPhase::Sized(source.node)
+            }
+            None => FetchPhase::Failed(FetchFault::Absent),
+        };
+        self.fetch = Some(PlainFetch { number, phase });
+    }
+
+    /// Its fetch, under this number, is over with this fault, and its extent is given back.
+    pub(crate) fn lose(&mut self, number: u64, fault: FetchFault)
+        ensures { self.new ≡ lost number fault self.old }
+    {
+        self.offset = None;
+        self.fetch = Some(PlainFetch {
+            number,
+            phase: FetchPhase::Failed(fault),
+        });
+    }
+
+    /// A chunk of its fetch, if it is pulled.
+    pub(crate) fn take_chunk(&mut self, index: u32, verdict: ChunkVerdict)
+        ensures { self.new ≡ chunked index verdict self.old }
+    {
+        let Some(PlainFetch { number, phase }) = self.fetch.take() else {
+            return;
+        };
+        match phase {
+            FetchPhase::Pulling(source, missing) => {
+                let left = without_chunk(missing, index);
+                self.fill(number, source, left, verdict);
+            }
+            phase => self.fetch = Some(PlainFetch { number, phase }),
+        }
+    }
+
+    /// Its fetch, under this number, has one chunk less to come; the last one seals the copy, or shows that it is
+    /// damaged. Takes no memory.
+    pub(crate) fn fill(
+        &mut self,
+        number: u64,
+        source: u32,
+        missing: Vec<u32>,
+        verdict: ChunkVerdict,
+    )
+        ensures { self.new ≡ filled number source missing.items verdict self.old }
+    {
+        if verdict == ChunkVerdict::Ignored {
+            return;
+        }
+        if !missing.is_empty() {
+            self.fetch = Some(PlainFetch {
+                number,
+                phase: FetchPhase::Pulling(source, missing),
+            });
+            return;
+        }
+        if verdict == ChunkVerdict::Damaged {
+            self.lose(number, FetchFault::Damaged);
+            return;
+        }
+        self.state = CopyState::Sealed;
+        self.fetch = None;
+    }
+}
+
+/// The chunks that are missing after this one came. Takes no memory.
+fn without_chunk(mut missing: Vec<u32>, index: u32) -> Vec<u32>
+    ensures { result.items ≡ filter (λ i. not (i == index)) missing.items }
+{
+    missing.retain(|gap| *gap != index);
+    missing
+}
+
+/// Whether the chunk is missing.
+fn is_missing(missing: &Vec<u32>, index: u32) -> bool
+    ensures { result ≡ is_missing_lem missing.now.items index }
+{
+    missing.iter().any(|gap| *gap == index)
+}
+
+impl PlainStore {
+    /// The copy's fetch under this number has a source, if its source isn't known. Takes no memory.
+    fn locate(&mut self, id: ObjectId, number: u64, source: Option<Source>)
+        ensures { self.new ≡ record self.old { shape = changed_if (is_locating number) (located_under number source) self.old.shape id } }
+    {
+        let Some(copy) = self.copy(id) else {
+            return;
+        };
+        if !copy.is_locating(number) {
+            return;
+        }
+        if let Some(copy) = self.copy_mut(id) {
+            copy.locate(number, source);
+        }
+    }
+
+    /// Located: the directory's answer, which counts while the source isn't known. Takes no memory.
+    pub(crate) fn located(
+        &mut self,
+        id: ObjectId,
+        number: u64,
+        source: Option<Source>,
+    ) -> Reply<u64>
+        ensures reply { result ≡ (located self.old.shape id number source).reply }
+        ensures store { self.new ≡ record self.old { shape = (located self.old.shape id number source).shape } }
+        ensures used { (located self.old.shape id number source).used ≡ None }
+    {
+        self.locate(id, number, source);
+        Reply::Ok
+    }
+
+    /// The copy's fetch under this number is lost, if it pulls from this node. Takes no memory.
+    fn lose(&mut self, id: ObjectId, number: u64, from: u32)
+        ensures { self.new ≡ record self.old { shape = changed_if (awaits_from number from) (lost number FetchFault.Absent) self.old.shape id } }
+    {
+        let Some(copy) = self.copy(id) else {
+            return;
+        };
+        if !copy.awaits_from(number, from) {
+            return;
+        }
+        if let Some(copy) = self.copy_mut(id) {
+            copy.lose(number, FetchFault::Absent);
+        }
+    }
+
+    /// NotHere: the source has no such copy, and the fetch is over. Takes no memory.
+    pub(crate) fn not_here_arrived(&mut self, id: ObjectId, number: u64, from: u32) -> Reply<u64>
+        ensures reply { result ≡ (not_here_arrived self.old.shape id number from).reply }
+        ensures store { self.new ≡ record self.old { shape = (not_here_arrived self.old.shape id number from).shape } }
+        ensures used { (not_here_arrived self.old.shape id number from).used ≡ None }
+    {
+        self.lose(id, number, from);
+        Reply::Ok
+    }
+
+    /// The copy's fetch under this number has one chunk less to come, if it lacks the chunk from this node. Takes no
+    /// memory.
+    fn fill(&mut self, id: ObjectId, number: u64, index: u32, from: u32, verdict: ChunkVerdict)
+        ensures { self.new ≡ record self.old { shape = changed_if (awaits number index from) (chunked index verdict) self.old.shape id } }
+    {
+        let Some(copy) = self.copy(id) else {
+            return;
+        };
+        if !copy.awaits(number, index, from) {
+            return;
+        }
+        if let Some(copy) = self.copy_mut(id) {
+            copy.take_chunk(index, verdict);
+        }
+    }
+
+    /// Chunk: it counts if the fetch lacks it and pulls from the node that sent it. Takes no memory.
+    pub(crate) fn chunk_arrived(
+        &mut self,
+        id: ObjectId,
+        number: u64,
+        index: u32,
+        from: u32,
+        verdict: ChunkVerdict,
+    ) -> Reply<u64>
+        ensures reply { result ≡ (chunk_arrived self.old.shape id number index from verdict).reply }
+        ensures store { self.new ≡ record self.old { shape = (chunk_arrived self.old.shape id number index from verdict).shape } }
+        ensures used { (chunk_arrived self.old.shape id number index from verdict).used ≡ None }
+    {
+        if verdict == ChunkVerdict::Ignored {
+            return Reply::Ok;
+        }
+        self.fill(id, number, index, from, verdict);
+        Reply::Ok
+    }
+}

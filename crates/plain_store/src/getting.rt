@@ -1,0 +1,179 @@
+//! Get: a hold on a copy that is here, and otherwise what brings it here.
+ghost use Rattle.std.specs.Prelude.{◌≡◌, ◌+◌, ◌<◌, ◌^◌, true, false, Some, IfOk, OnOk};
+ghost use Rattle.obj_id.specs.declared.refusals.Refusal.TheVariants.{Absent};
+ghost use Rattle.private_store.specs.Tables.{at};
+ghost use Rattle.private_store.specs.Limits.{has_numbers};
+ghost use Rattle.private_store.specs.Listed.{IsBriefKept};
+ghost use Rattle.private_store.specs.Shape.{Copy};
+ghost use Rattle.private_store.specs.Copies.{is_sealed};
+ghost use Rattle.private_store.specs.Events.{is_live};
+ghost use Rattle.private_store.specs.Change.{needing};
+ghost use Rattle.private_store.specs.Commands.{holds_of, fetched_copy as fetched_copy_lem, begin_fetch, get_sealed, get_away, get, refusal_of as refusal_of_lem};
+ghost use Rattle.plain_store.specs.Checks.{fault_forgotten, held_more};
+
+use crate::copies::{FetchPhase, PlainCopy, PlainFetch};
+use crate::store::PlainStore;
+use crate::told::Told;
+use obj_id::{CopyState, Kind, ObjectId, Refusal, Reply};
+use private_store::Fault;
+use std::alloc::{AllocError, Global};
+
+impl PlainStore {
+    /// Whether another number of a fetch is left.
+    fn has_fetch_number(&self) -> bool
+        ensures { result ≡ has_numbers self.now.shape.fetches_begun 1 }
+    {
+        self.fetches_begun < u64::MAX
+    }
+
+    /// A copy that isn't here is fetched: the answer is `Pending`. `TooMany` at 1,024 copies, and if no number of a fetch is
+    /// left. The error is out of memory.
+    #[tactic(auto, unfolding(private_store::specs::Change::checked, private_store::specs::Change::sending))]
+    fn begin_fetch(&mut self, alloc: Global, id: ObjectId) -> Result<Told, AllocError>
+        ensures reply { IfOk result (λ told. told.reply ≡ (begin_fetch self.old.shape id).reply) }
+        ensures used { IfOk result (λ told. told.used ≡ (begin_fetch self.old.shape id).used) }
+        ensures store { OnOk result (self.new ≡ record self.old { shape = (begin_fetch self.old.shape id).shape }) }
+    {
+        if self.is_full_of_copies() || !self.has_fetch_number() {
+            return Ok(Told::refused(Refusal::TooMany));
+        }
+        let number = self.fetches_begun + 1;
+        self.insert(id, fetched_copy(alloc, number))?;
+        self.fetches_begun = number;
+        Ok(Told {
+            reply: Reply::Refused(Refusal::Pending),
+            used: Some(id),
+        })
+    }
+
+    /// One more hold of the session on the copy, if there is one. The error is out of memory.
+    fn hold(&mut self, id: ObjectId, session: u32) -> Result<(), AllocError>
+        requires { (copy : Copy) → at self.old.shape.copies id ≡ Some copy → holds_of copy session + 1 < 2 ^ 32 }
+        ensures { OnOk result (self.new ≡ record self.old { shape = held_more self.old.shape id session }) }
+    {
+        let Some(copy) = self.copy_mut(id) else {
+            return Ok(());
+        };
+        copy.hold(session)
+    }
+
+    /// Get of a sealed copy: one more hold of the session, and the copy is the most recently used one. `TooMany` at 64 holds,
+    /// `Absent` if there is no copy. The error is out of memory.
+    #[tactic(auto, using(crate::proofs::RoomLeaves::holds_fit), unfolding(private_store::specs::Change::checked, private_store::specs::Change::needing, private_store::specs::Change::sending))]
+    fn get_sealed(&mut self, session: u32, id: ObjectId) -> Result<Told, AllocError>
+        ensures reply { IfOk result (λ told. told.reply ≡ (needing self.old.shape (at self.old.shape.copies id) Absent (get_sealed self.old.shape session id)).reply) }
+        ensures used { IfOk result (λ told. told.used ≡ (needing self.old.shape (at self.old.shape.copies id) Absent (get_sealed self.old.shape session id)).used) }
+        ensures store { OnOk result (self.new ≡ record self.old { shape = (needing self.old.shape (at self.old.shape.copies id) Absent (get_sealed self.old.shape session id)).shape }) }
+    {
+        let Some(copy) = self.copy(id) else {
+            return Ok(Told::refused(Refusal::Absent));
+        };
+        if copy.has_most_holds() {
+            return Ok(Told::refused(Refusal::TooMany));
+        }
+        let length = copy.length;
+        self.hold(id, session)?;
+        Ok(Told {
+            reply: Reply::Got(length),
+            used: Some(id),
+        })
+    }
+
+    /// The fault of the copy, if there is one, is forgotten.
+    fn forget_fault(&mut self, id: ObjectId)
+        ensures { self.new ≡ record self.old { shape = fault_forgotten self.old.shape id } }
+    {
+        let Some(copy) = self.copy_mut(id) else {
+            return;
+        };
+        copy.fault = None;
+    }
+
+    /// Get of a copy that is away: its fault is the answer, once; otherwise it is read back. `DeviceFailed`, `Damaged`, and as
+    /// `restore`. The error is out of memory.
+    #[tactic(auto, unfolding(private_store::specs::Change::needing))]
+    fn get_away(&mut self, alloc: Global, id: ObjectId) -> Result<Told, AllocError>
+        requires kept { IsBriefKept self.old }
+        requires live { is_live self.old.shape ≡ true }
+        requires unsealed { (copy : Copy) → at self.old.shape.copies id ≡ Some copy → is_sealed copy.state ≡ false }
+        ensures reply { IfOk result (λ told. told.reply ≡ (needing self.old.shape (at self.old.shape.copies id) Absent (get_away self.old.order self.old.shape id)).reply) }
+        ensures used { IfOk result (λ told. told.used ≡ (needing self.old.shape (at self.old.shape.copies id) Absent (get_away self.old.order self.old.shape id)).used) }
+        ensures store { OnOk result (self.new ≡ record self.old { shape = (needing self.old.shape (at self.old.shape.copies id) Absent (get_away self.old.order self.old.shape id)).shape }) }
+    {
+        let Some(copy) = self.copy(id) else {
+            return Ok(Told::refused(Refusal::Absent));
+        };
+        match copy.fault {
+            Some(fault) => {
+                self.forget_fault(id);
+                Ok(Told::refused(refusal_of(fault)))
+            }
+            None => self.restore(alloc, id),
+        }
+    }
+
+    /// Get: a hold on a copy that is here, and otherwise what brings it here. `Gone`, `Absent`, `NotSealed`, `Pending`,
+    /// `TooMany`, and as `get_fetching` and `get_away`. The error is out of memory.
+    #[tactic(auto, unfolding(private_store::specs::Change::checked, private_store::specs::Change::needing))]
+    pub(crate) fn get(
+        &mut self,
+        alloc: Global,
+        session: u32,
+        id: ObjectId,
+    ) -> Result<Told, AllocError>
+        requires kept { IsBriefKept self.old }
+        requires live { is_live self.old.shape ≡ true }
+        ensures reply { IfOk result (λ told. told.reply ≡ (get self.old.order self.old.shape session id).reply) }
+        ensures used { IfOk result (λ told. told.used ≡ (get self.old.order self.old.shape session id).used) }
+        ensures store { OnOk result (self.new ≡ record self.old { shape = (get self.old.order self.old.shape session id).shape }) }
+    {
+        if self.has_ended(id.task()) {
+            return Ok(Told::refused(Refusal::Gone));
+        }
+        let Some(copy) = self.copy(id) else {
+            return self.begin_fetch(alloc, id);
+        };
+        if copy.doomed {
+            return Ok(Told::refused(Refusal::Absent));
+        }
+        match copy.state {
+            CopyState::Created => Ok(Told::refused(Refusal::NotSealed)),
+            CopyState::Sealed => self.get_sealed(session, id),
+            CopyState::Restoring => Ok(Told::refused(Refusal::Pending)),
+            CopyState::Fetching => self.get_fetching(alloc, id),
+            CopyState::Away => self.get_away(alloc, id),
+        }
+    }
+}
+
+/// A copy that is on its way, its source not known yet. Takes no memory.
+fn fetched_copy(alloc: Global, number: u64) -> PlainCopy
+    ensures { result ≡ fetched_copy_lem number }
+{
+    PlainCopy {
+        state: CopyState::Fetching,
+        kind: Kind::Secondary,
+        length: 0,
+        offset: None,
+        pinned: false,
+        borrowers: Vec::new(alloc),
+        holds: Vec::new(alloc),
+        backed: None,
+        doomed: false,
+        fault: None,
+        fetch: Some(PlainFetch {
+            number,
+            phase: FetchPhase::Locating,
+        }),
+    }
+}
+
+/// The refusal that answers a fault.
+fn refusal_of(fault: Fault) -> Refusal
+    ensures { result ≡ refusal_of_lem fault }
+{
+    match fault {
+        Fault::DeviceFailed => Refusal::DeviceFailed,
+        Fault::Damaged => Refusal::Damaged,
+    }
+}

@@ -1,0 +1,169 @@
+//! What others granted to the job.
+#![tactic(auto, unfolding(private_store::specs::Change::checked, private_store::specs::Change::needing, private_store::specs::Change::sending))]
+
+ghost use Rattle.std.specs.Prelude.{◌≡◌, ◌&&◌, filter, not, is_some, true, IfOk, OnOk};
+ghost use Rattle.std.specs.Borrow.{sem};
+ghost use Rattle.std.specs.List.{list_any};
+ghost use Rattle.std.specs.Option.{option_copied, option_copied_mut};
+ghost use Rattle.private_store.specs.Tables.{at};
+ghost use Rattle.private_store.specs.Commands.{oldest};
+ghost use Rattle.private_store.specs.Events.{hangs_on, is_hand, received, withdrawn, without_hand};
+ghost use Rattle.plain_store.specs.Granted.{with_seen, without_seen, with_other_hands, without_hanging, forgotten};
+
+use crate::hands::{GivenHand, SeenObject, TakenHand};
+use crate::marks::same_id;
+use crate::store::PlainStore;
+use obj_id::{JobNo, ObjectId, Reply};
+use std::alloc::{AllocError, Global};
+
+impl TakenHand {
+    /// Whether the giver gave it at this depth.
+    pub(crate) fn is_hand(&self, giver: JobNo, depth: u32) -> bool
+        ensures { result ≡ is_hand giver.0 depth self.now }
+    {
+        self.giver.0 == giver.0 && self.depth == depth
+    }
+}
+
+impl SeenObject {
+    /// Whether the giver's hand at this depth stands.
+    pub(crate) fn has_hand(&self, giver: JobNo, depth: u32) -> bool
+        ensures { result ≡ list_any (is_hand giver.0 depth) self.now.hands }
+    {
+        self.hands.iter().any(|hand| hand.is_hand(giver, depth))
+    }
+
+    /// Whether another hand stands.
+    pub(crate) fn has_other_hand(&self, giver: JobNo, depth: u32) -> bool
+        ensures { result ≡ list_any (λ hand. not (is_hand giver.0 depth hand)) self.now.hands }
+    {
+        self.hands.iter().any(|hand| !hand.is_hand(giver, depth))
+    }
+
+    /// The giver's hands at this depth end. Takes no memory.
+    pub(crate) fn remove_hand(&mut self, giver: JobNo, depth: u32)
+        ensures { self.new ≡ with_other_hands self.old giver.0 depth }
+    {
+        self.hands.retain(|hand| !hand.is_hand(giver, depth));
+    }
+}
+
+impl GivenHand {
+    /// Whether it is a hand of the object that hangs on one by the giver.
+    pub(crate) fn hangs_on(&self, id: ObjectId, giver: JobNo) -> bool
+        ensures { result ≡ hangs_on id giver.0 self.now }
+    {
+        same_id(&id, &self.id)
+            && match self.hangs_on {
+                Some(job) => job.0 == giver.0,
+                None => false,
+            }
+    }
+}
+
+impl PlainStore {
+    ghost use Rattle.plain_store.specs.Lending.{LendsSeen};
+
+    /// What others granted of the object, if anything. Takes a look-up.
+    pub(crate) fn seen(&self, id: ObjectId) -> Option<&SeenObject>
+        ensures { option_copied result ≡ at self.now.shape.received id }
+    {
+        self.received.get(&id)
+    }
+
+    /// The oldest standing hand of the object that was given to the job.
+    pub(crate) fn oldest(&self, id: ObjectId) -> Option<&TakenHand>
+        ensures { option_copied result ≡ oldest self.now.shape id }
+    {
+        self.seen(id)?.hands.first()
+    }
+
+    /// What others granted of the object, to be changed. Takes a look-up.
+    pub(crate) fn seen_mut(&mut self, id: ObjectId) -> Option<&mut SeenObject>
+        ensures* writes_back { sem 𝓛 (LendsSeen self.entry id result) }
+        ensures value { option_copied_mut result ≡ at self.old.shape.received id }
+    {
+        self.received.get_mut(&id)
+    }
+
+    /// The object as it is seen, in place of what was seen of it. The error is out of memory.
+    pub(crate) fn insert_seen(&mut self, id: ObjectId, seen: SeenObject) -> Result<(), AllocError>
+        ensures { OnOk result (self.new ≡ with_seen self.old id seen) }
+    {
+        self.received.insert(id, seen)?;
+        Ok(())
+    }
+
+    /// The object is seen no longer. Takes no memory.
+    pub(crate) fn remove_seen(&mut self, id: ObjectId)
+        ensures { self.new ≡ without_seen self.old id }
+    {
+        // a map says of its `len` that its keys rise
+        let _count = self.received.len();
+        self.received.remove(&id);
+    }
+
+    /// Received: another hand of the object, the youngest, and the object's length. The error is out of memory.
+    pub(crate) fn received(
+        &mut self,
+        alloc: Global,
+        id: ObjectId,
+        length: u32,
+        giver: JobNo,
+        depth: u32,
+    ) -> Result<Reply<u64>, AllocError>
+        ensures reply { IfOk result (λ reply. reply ≡ (received self.old.shape id length giver.0 depth).reply) }
+        ensures store { OnOk result (self.new ≡ record self.old { shape = (received self.old.shape id length giver.0 depth).shape }) }
+        ensures used { (received self.old.shape id length giver.0 depth).used ≡ None }
+    {
+        let hand = TakenHand { giver, depth };
+        if let Some(seen) = self.seen_mut(id) {
+            seen.add(hand, length)?;
+            return Ok(Reply::Ok);
+        }
+        let mut hands = Vec::new(alloc);
+        hands.push(hand)?;
+        self.insert_seen(id, SeenObject { length, hands })?;
+        Ok(Reply::Ok)
+    }
+
+    /// The giver's hand of the object at this depth ends, if it stands. Takes no memory.
+    fn forget_hand(&mut self, id: ObjectId, giver: JobNo, depth: u32)
+        ensures { self.new ≡ forgotten self.old id giver.0 depth }
+    {
+        let Some(seen) = self.seen(id) else {
+            return;
+        };
+        if !seen.has_other_hand(giver, depth) {
+            self.remove_seen(id);
+            return;
+        }
+        if let Some(seen) = self.seen_mut(id) {
+            seen.remove_hand(giver, depth);
+        }
+    }
+
+    /// The given hands end that hang on the giver's hand of the object. Takes no memory.
+    fn drop_hanging(&mut self, id: ObjectId, giver: JobNo)
+        ensures { self.new ≡ without_hanging self.old id giver.0 }
+    {
+        self.given.retain(|hand| !hand.hangs_on(id, giver));
+    }
+
+    /// Withdrawn: a hand that stands ends, and with it those given here that hang on it. Takes no memory.
+    pub(crate) fn withdrawn(&mut self, id: ObjectId, giver: JobNo, depth: u32) -> Reply<u64>
+        ensures reply { result ≡ (withdrawn self.old.shape id giver.0 depth).reply }
+        ensures store { self.new ≡ record self.old { shape = (withdrawn self.old.shape id giver.0 depth).shape } }
+        ensures used { (withdrawn self.old.shape id giver.0 depth).used ≡ None }
+    {
+        let Some(seen) = self.seen(id) else {
+            return Reply::Ok;
+        };
+        if !seen.has_hand(giver, depth) {
+            return Reply::Ok;
+        }
+        self.forget_hand(id, giver, depth);
+        self.drop_hanging(id, giver);
+        Reply::Ok
+    }
+}

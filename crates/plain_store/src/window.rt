@@ -1,0 +1,106 @@
+//! Where an object goes in the window if some copies are not there.
+ghost use Rattle.std.specs.List.Sorted.{IsPermutation, IsNonDecreasingBy};
+ghost use Rattle.obj_id.specs.declared.works.Extent.{Extent};
+ghost use Rattle.std.specs.Prelude.{◌≡◌, ◌++◌, ◌≤◌, if◌then◌else◌, None, is_some, take, IfOk, OnOk};
+ghost use Rattle.std.specs.Option.{option_map};
+ghost use Rattle.obj_id.specs.declared.ids.ObjectId.{ObjectId};
+ghost use Rattle.private_store.specs.Tables.{is_among as is_among_lem};
+ghost use Rattle.private_store.specs.Copies.{extent_of as extent_of_lem};
+ghost use Rattle.private_store.specs.Limits.{widest_window};
+ghost use Rattle.private_store.specs.Room.{offset_without, shortest as shortest_lem};
+ghost use Rattle.plain_store.specs.Fits.{extents_left as extents_left_lem, is_room_without};
+
+use crate::copies::PlainCopy;
+use crate::first_fit::first;
+use crate::store::PlainStore;
+use obj_id::{Extent, ObjectId};
+use std::alloc::{AllocError, Global};
+use std::collections::BTreeMap;
+
+/// Whether the id is one of these.
+pub(crate) fn is_among(ids: &[ObjectId], id: ObjectId) -> bool
+    ensures { result ≡ is_among_lem ids.now id }
+{
+    ids.contains(&id)
+}
+
+/// The extent of a resident copy that is none of those that are out.
+fn extent_left(out: &[ObjectId], id: ObjectId, copy: &PlainCopy) -> Option<Extent>
+    ensures { result ≡ (if is_among_lem out.now id then None else extent_of_lem copy.now) }
+{
+    if is_among(out, id) {
+        return None;
+    }
+    copy.extent_of()
+}
+
+/// The extents of the copies but for those that are out, in order of id.
+fn extents_left(
+    alloc: Global,
+    copies: &BTreeMap<ObjectId, PlainCopy>,
+    out: &[ObjectId],
+) -> Result<Vec<Extent>, AllocError>
+    ensures { IfOk result (λ extents. extents.items ≡ extents_left_lem out.now copies.now.entries) }
+{
+    let mut extents = Vec::new(alloc);
+    for (id, copy) in copies {
+        if let Some(extent) = extent_left(out, *id, copy) {
+            extents.push(extent)?;
+        }
+    }
+    Ok(extents)
+}
+
+/// The extents by rising offset. The error is out of memory.
+fn sort_extents(extents: &mut Vec<Extent>) -> Result<(), AllocError>
+    ensures permutation { IsPermutation extents.old.items extents.new.items }
+    ensures rising { OnOk result (IsNonDecreasingBy (λ (e : Extent). e.offset) extents.new.items) }
+{
+    extents.sort_by_key(|extent| extent.offset)?;
+    Ok(())
+}
+
+impl PlainStore {
+    /// Where an object of `length` bytes would go if these copies were not there. Takes a walk over the copies with one
+    /// over `out` each, a sort, and memory for the extents. The error is out of memory.
+    pub(crate) fn offset_without(
+        &self,
+        alloc: Global,
+        length: u32,
+        out: &[ObjectId],
+    ) -> Result<Option<u32>, AllocError>
+        requires { self.now.shape.quota.window ≤ widest_window }
+        ensures { IfOk result (λ offset. offset ≡ offset_without self.now.shape length out.now) }
+    {
+        let mut extents = extents_left(alloc, &self.copies, out)?;
+        sort_extents(&mut extents)?;
+        Ok(first(&extents, self.quota.window, length))
+    }
+
+    /// The shortest beginning of the ids without which, and without those that are out already, an object of `length`
+    /// bytes has room. `None` if there is none. Takes `offset_without` for each beginning. The error is out of memory.
+    pub(crate) fn shortest(
+        &self,
+        alloc: Global,
+        length: u32,
+        out: &[ObjectId],
+        ids: &[ObjectId],
+    ) -> Result<Option<Vec<ObjectId>>, AllocError>
+        requires { self.now.shape.quota.window ≤ widest_window }
+        ensures { IfOk result (λ taken. option_map (λ v. v.items) taken ≡ shortest_lem (is_room_without self.now.shape length out.now) ids.now) }
+    {
+        let mut taken = Vec::new(alloc);
+        let mut gone = out.to_vec(alloc)?;
+        for id in ids {
+            if self.offset_without(alloc, length, &gone)?.is_some() {
+                return Ok(Some(taken));
+            }
+            taken.push(*id)?;
+            gone.push(*id)?;
+        }
+        if self.offset_without(alloc, length, &gone)?.is_some() {
+            return Ok(Some(taken));
+        }
+        Ok(None)
+    }
+}
