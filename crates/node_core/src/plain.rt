@@ -32,17 +32,16 @@ impl Node {
         Ok(row.plain(self.alloc, &self.works, given, received)?)
     }
 
-    /// What others granted to the job, by rising id.
-    fn received(&self, job: JobNo) -> Result<Items<(ObjectId, SeenObject)>, AllocError>
-        ensures { IfOk result (λ received. received ≡ received_by (bytes_here self.now.rows) self.now.hands job.0) }
+    /// What others granted to the job.
+    fn received(&self, job: JobNo) -> Result<BTreeMap<ObjectId, SeenObject>, AllocError>
+        ensures { IfOk result (λ received. received.entries ≡ received_by (bytes_here self.now.rows) self.now.hands job.0) }
     {
         let taken = self.hands.given_to(job)?;
         let mut seen = BTreeMap::new(self.alloc);
         for hand in taken.as_slice() {
             add_taken(self.alloc, &mut seen, hand, self.granted_length(&hand.id()))?;
         }
-        let received = seen.into_iter().collect(self.alloc)?;
-        Ok(Items::from_vec(received))
+        Ok(seen)
     }
 }
 
@@ -51,9 +50,9 @@ fn bare(
     alloc: Global,
     job: JobNo,
     begun: bool,
-    received: Items<(ObjectId, SeenObject)>,
+    received: BTreeMap<ObjectId, SeenObject>,
 ) -> PlainStore
-    ensures { result ≡ record { shape = record (unbegun job.0) { life = if begun then ended else not_begun; received = received }; order = [] } }
+    ensures { result ≡ record { shape = record (unbegun job.0) { life = if begun then ended else not_begun; received = received.entries }; order = [] } }
 {
     let mut plain = PlainStore::new(alloc, job);
     if begun {
@@ -96,7 +95,7 @@ fn add_taken(
         object.add(taken, length)?;
         return Ok(());
     }
-    let mut hands = Items::new(alloc);
+    let mut hands = Vec::new(alloc);
     hands.push(taken)?;
     seen.insert(id, SeenObject { length, hands })?;
     Ok(())

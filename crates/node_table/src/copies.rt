@@ -22,9 +22,10 @@ ghost use Rattle.node_table.specs.Arriving.{located, asks, fills, lacks_only, ga
 use crate::copy::{Awaited, RowCopy};
 use indexmap::IndexMap;
 use obj_id::{Digest, DirectoryMessage, Items, Location, ObjectId, OwnItem, Refusal, TaskNo};
-use plain_store::PlainCopy;
+use plain_store::{PlainCopy, copies_by_id};
 use private_store::{Fault, FetchFault};
 use std::alloc::{AllocError, Global};
+use std::collections::BTreeMap;
 use std::marker::Model;
 
 /// The copies of a job. A contract sees them by rising id.
@@ -81,9 +82,9 @@ impl Copies {
         Ok(Items::from_vec(items))
     }
 
-    /// The copies without their bytes, by rising id. Takes a walk over them, a sort, and memory for each.
-    pub fn plain(&self, alloc: Global) -> Result<Items<(ObjectId, PlainCopy)>, AllocError>
-        ensures { IfOk result (λ plain. plain ≡ copies_of self.now) }
+    /// The copies without their bytes. Takes a walk over them, a sort, and memory for each.
+    pub fn plain(&self, alloc: Global) -> Result<BTreeMap<ObjectId, PlainCopy>, AllocError>
+        ensures { IfOk result (λ plain. plain.entries ≡ copies_of self.now) }
     {
         // that the copies rise is what the proof needs
         let _count = self.by_id.len();
@@ -94,7 +95,7 @@ impl Copies {
                 plain.push((item.id, copy.plain(alloc)?))?;
             }
         }
-        Ok(Items::from_vec(plain))
+        copies_by_id(alloc, plain)
     }
 
     /// The bytes that they take in the window, or `u64::MAX` where they are more. Takes a walk over them.

@@ -18,6 +18,7 @@ use plain_store::{
 };
 use spill_work::Works;
 use std::alloc::{AllocError, Global};
+use std::collections::BTreeMap;
 
 impl RowCopy {
     /// The copy without its bytes. Takes memory for its borrowers, its holds and the chunks that are missing.
@@ -34,8 +35,8 @@ impl RowCopy {
             length: self.length(),
             offset: self.offset(),
             pinned: pins.is_pinned(),
-            borrowers,
-            holds,
+            borrowers: borrowers.into_vec(),
+            holds: holds.into_vec(),
             backed: self.backed(),
             doomed: self.doomed(),
             fault: self.fault(),
@@ -52,10 +53,10 @@ impl JobRow {
         alloc: Global,
         works: &Works,
         given: Items<GivenHand>,
-        received: Items<(ObjectId, SeenObject)>,
+        received: BTreeMap<ObjectId, SeenObject>,
     ) -> Result<PlainStore, AllocError>
         ensures { IfOk result (λ plain. (hands : List StandingHand) (bytes : ObjectId → List ℕ)
-            → given ≡ given_by hands self.now.job → received ≡ received_by bytes hands self.now.job
+            → given ≡ given_by hands self.now.job → received.entries ≡ received_by bytes hands self.now.job
             → plain ≡ record { shape = shape_of self.now (beside_of works.now hands bytes self.now.job); order = self.now.order }) }
     {
         let job = self.job();
@@ -73,8 +74,8 @@ impl JobRow {
             works_asked: works.asked(job),
             fetches_begun: self.fetches_begun(),
             spill_failed: self.spill_failed(),
-            ended_tasks,
-            given,
+            ended_tasks: ended_tasks.into_vec(),
+            given: given.into_vec(),
             received,
         })
     }
@@ -103,26 +104,26 @@ fn phase(alloc: Global, fetch: &FetchIn) -> Result<FetchPhase, AllocError>
         Stage::Sized(source) => Ok(FetchPhase::Sized(source)),
         Stage::Pulling(source) => {
             let missing = fetch.missing().to_vec(alloc)?;
-            Ok(FetchPhase::Pulling(source, Items::from_vec(missing)))
+            Ok(FetchPhase::Pulling(source, missing))
         }
         Stage::Failed(fault) => Ok(FetchPhase::Failed(fault)),
     }
 }
 
 /// The ids, in their order.
-fn listed(alloc: Global, order: Order<'_>) -> Result<Items<ObjectId>, AllocError>
-    ensures { IfOk result (λ ids. ids ≡ order.entry) }
+fn listed(alloc: Global, order: Order<'_>) -> Result<Vec<ObjectId>, AllocError>
+    ensures { IfOk result (λ ids. ids.items ≡ order.entry) }
 {
     let mut ids = Vec::new(alloc);
     for id in order {
         ids.push(id)?;
     }
-    Ok(Items::from_vec(ids))
+    Ok(ids)
 }
 
 /// The job's works in flight, in the order asked.
-fn plain_works(alloc: Global, works: &Works, job: JobNo) -> Result<Items<PlainWork>, AllocError>
-    ensures { IfOk result (λ plain. plain ≡ works_of works.now job) }
+fn plain_works(alloc: Global, works: &Works, job: JobNo) -> Result<Vec<PlainWork>, AllocError>
+    ensures { IfOk result (λ plain. plain.items ≡ works_of works.now job) }
 {
     let asked = works.asked_of(job)?;
     let mut plain = Vec::new(alloc);
@@ -133,5 +134,5 @@ fn plain_works(alloc: Global, works: &Works, job: JobNo) -> Result<Items<PlainWo
             writes: matches!(work.kind, WorkKind::Write),
         })?;
     }
-    Ok(Items::from_vec(plain))
+    Ok(plain)
 }

@@ -1,9 +1,10 @@
 //! The row of one job.
-ghost use Rattle.std.specs.Prelude.{◌≡◌, ◌≢◌, ◌||◌, ℕ, ◌+◌, ◌^◌, ◌≤◌, ◌<◌, nat_eq, take, drop, length, true, false, Some, None, IfOk, IfErr, IfSome, IfNone, OnOk, OnErr, IsOk, IsErr, IsErrOf, option_to_list, ◌&&◌, is_some};
+ghost use Rattle.std.specs.Prelude.{◌≡◌, ◌≢◌, ◌||◌, ◌↔◌, ℕ, ◌+◌, ◌^◌, ◌≤◌, ◌<◌, nat_eq, take, drop, length, true, false, Some, None, IfOk, IfErr, IfSome, IfNone, OnOk, OnErr, IsOk, IsErr, IsErrOf, option_to_list, ◌&&◌, is_some};
 ghost use Rattle.std.specs.Map.{set_value};
 ghost use Rattle.obj_id.specs.declared.works.Extent.{Extent};
 ghost use Rattle.obj_id.specs.declared.refusals.Refusal.{Refusal};
-ghost use Rattle.obj_id.specs.declared.refusals.Refusal.TheVariants.{NoMemory};
+ghost use Rattle.obj_id.specs.declared.refusals.Refusal.TheVariants.{BadSize, NoMemory};
+ghost use Rattle.private_store.specs.Limits.{is_window};
 ghost use Rattle.private_store.specs.Tables.{at, with_entry, is_among};
 ghost use Rattle.private_store.specs.Copies.{extent_of};
 ghost use Rattle.private_store.specs.Contents.{overwritten};
@@ -72,7 +73,9 @@ impl JobRow {
     /// The row of a job that was admitted now: no copies, and a window of zeros. `BadSize` unless the
     /// window's size is one, and `NoMemory`.
     pub fn new(alloc: Global, job: JobNo, quota: Quota) -> Result<JobRow, Refusal>
-        ensures { IfOk result (λ r. r ≡ new_row job.0 quota) }
+        ensures ok { IfOk result (λ r. r ≡ new_row job.0 quota) }
+        ensures size { IsErrOf result BadSize ↔ (is_window quota.window ≡ false) }
+        ensures refused { (r : Refusal) → r ≢ NoMemory → IsErrOf result r → r ≡ BadSize }
     {
         let window = Window::new(alloc, quota.window)?;
         Ok(JobRow {

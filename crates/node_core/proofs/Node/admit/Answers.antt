@@ -20,7 +20,7 @@ invariant_of-self-in-Ok-insert c =
     record {
       jobs = admitted_hosted c.self.inside.number c.self.inside.admission c.admit.new.self c.self.inside.works c.self.inside.hands c.args.job c.args.quota c.args.key rows new c.self.invariant.jobs passed c.in-Ok-admit.ensures.ok
           (c.in-Ok-insert.ensures.entries ∙ insert_entry-new same_job c.reserve.new.self c.args.job c.in-Ok.row (ap (lookup (same_job c.args.job)) same ∙ none)
-          ∙ ap (λ (es : List (JobNo × Row)). es ++ (c.args.job, c.in-Ok.row) ∷ []) same ∙ ap (λ (r : Row). rows ++ (c.args.job, r) ∷ []) c.in-Ok.ensures);
+          ∙ ap (λ (es : List (JobNo × Row)). es ++ (c.args.job, c.in-Ok.row) ∷ []) same ∙ ap (λ (r : Row). rows ++ (c.args.job, r) ∷ []) c.in-Ok.ensures.ok);
       table = c.self.invariant.table;
     }
 
@@ -36,6 +36,6 @@ returns-in-Ok-insert-clause-ok c =
     (subst (λ old. StepsOne old e _ after) c.self.view_is
     (admit_steps c.self.inside.number c.self.inside.admission c.admit.new.self c.self.inside.works c.self.inside.hands c.args.job c.args.quota c.args.key rows new c.self.invariant.jobs passed c.in-Ok-admit.ensures.ok
     (λ q. c.in-Ok-insert.ensures.updates.0 q
-    ∙ ap (λ (r : Row). cond (same_job c.args.job q) (Some r) (lookup (same_job q) c.reserve.new.self.entries)) c.in-Ok.ensures
+    ∙ ap (λ (r : Row). cond (same_job c.args.job q) (Some r) (lookup (same_job q) c.reserve.new.self.entries)) c.in-Ok.ensures.ok
     ∙ ap (λ (es : List (JobNo × Row)). cond (same_job c.args.job q) (Some (new_row c.args.job.0 c.args.quota)) (lookup (same_job q) es)) same)
     c.in-Ok-admit.ensures.lives))

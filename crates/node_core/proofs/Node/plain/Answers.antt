@@ -13,11 +13,11 @@ pub returns-in_default : goal.returns-in_default
 returns-in_default c = subst (λ (node : Hosted). (view : View) → Shows node c.args.job.0 view → has_begun view.shape.life ≡ c.args.begun → c.bare.result ≡ brief_of view) c.self.view_is (λ view h begun.
     let none = sym c.get.ensures.value ∙ ap option_copied c.in_default.is in
     let got = c.in_ok-received.ensures ∙ sym (ap (λ (node : Hosted). received_by (bytes_here node.rows) node.hands c.args.job.0) c.self.view_is) in
-    c.bare.ensures ∙ bare_told _ c.args.job view h none c.args.begun begun c.in_ok-received.received got)
+    c.bare.ensures ∙ bare_told _ c.args.job view h none c.args.begun begun c.in_ok-received.received.entries got)
 
 pub returns : goal.returns
 returns c = subst (λ (node : Hosted). (view : View) → Shows node c.args.job.0 view → has_begun view.shape.life ≡ c.args.begun → c.in_ok-plain.field-0 ≡ brief_of view) c.self.view_is (λ view h begun.
     let found = sym c.get.ensures.value ∙ ap option_copied c.in-Some.is in
     let got = c.in_ok-received.ensures ∙ sym (ap (λ (node : Hosted). received_by (bytes_here node.rows) node.hands c.args.job.0) c.self.view_is) in
     let gave = c.in_ok-given-2.ensures ∙ ap (map as_given) (c.as_slice.ensures ∙ c.in_ok-given.ensures.hands) in
-    row_told _ c.args.job view h c.in-Some.row.now found c.in_ok-plain.field-0 c.in_ok-given-2.given c.in_ok-received.received gave got c.in_ok-plain.ensures)
+    row_told _ c.args.job view h c.in-Some.row.now found c.in_ok-plain.field-0 c.in_ok-given-2.given c.in_ok-received.received.entries gave got c.in_ok-plain.ensures)

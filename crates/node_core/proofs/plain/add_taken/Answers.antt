@@ -24,7 +24,7 @@ returns c =
     let table = c.args.seen.now.entries in
     let id = c.id-id.result in
     let none = at-lookup id table ∙ sym c.get_mut.ensures.value ∙ ap option_copied_mut c.in_default.is in
-    let hands = c.in_ok-push.ensures.ok ∙ (λ i. (c.new-hands.ensures ∙ sym (ap (λ o. option_map_or (λ (s : Seen). s.hands) o []) none)) i ++ record { giver = c.giver.ensures i; depth = c.depth.ensures i } ∷ []) in
+    let hands = c.in_ok-push.ensures.items ∙ (λ i. (c.new-hands.ensures.items ∙ sym (ap (λ o. option_map_or (λ (s : Seen). s.hands) o []) none)) i ++ record { giver = c.giver.ensures i; depth = c.depth.ensures i } ∷ []) in
     c.in_ok-insert.ensures.entries
     ∙ with_entry-insert id before _
     ∙ (λ i. with_entry (at_first i) id (record { length = c.args.length; hands = hands i }))
