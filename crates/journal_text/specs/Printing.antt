@@ -7,6 +7,7 @@ use Rattle.obj_id.specs.declared.commands.Kind.{Kind}
 use Rattle.obj_id.specs.declared.commands.Kind.TheVariants.{Primary, Secondary}
 use Rattle.obj_id.specs.declared.commands.Command.{Command}
 use Rattle.obj_id.specs.declared.commands.Command.TheVariants as command
+use Rattle.obj_id.specs.declared.commands.GrantedItem.{GrantedItem}
 use Rattle.obj_id.specs.declared.commands.Reply.{Reply}
 use Rattle.obj_id.specs.declared.commands.Reply.TheVariants as reply
 use Rattle.schedule_text.specs.Printing.{granted_items_text, own_items_text, refusal_text, usage_text}
@@ -14,6 +15,8 @@ use Rattle.journal_text.specs.declared.entry.Address.{Address}
 use Rattle.journal_text.specs.declared.entry.Entry.{Entry}
 use Rattle.journal_text.specs.declared.entry.LineInput.{LineInput}
 use Rattle.journal_text.specs.declared.entry.LineInput.TheVariants as input
+use Rattle.journal_text.specs.declared.entry.Version.{Version}
+use Rattle.journal_text.specs.declared.entry.Version.TheVariants.{One, Two, Three}
 use Rattle.journal_text.specs.Words.{chunk_verdict_text, match_text, work_verdict_text}
 
 -- each field after a space
@@ -79,6 +82,26 @@ brief_reply_text job (reply.Usage usage) = usage_text usage
 brief_reply_text job (reply.Work work) = codes "work"
 brief_reply_text job reply.NoWork = codes "none"
 brief_reply_text job (reply.Refused refusal) = refusal_text refusal
+
+-- `ID:granted:LEN`
+abbrev pub first_hand_text : ℕ → GrantedItem → List ℕ
+first_hand_text job item = id_text job item.id ++ codes ":granted:" ++ decimal item.length
+
+-- each after a space
+abbrev pub first_hands_text : ℕ → List GrantedItem → List ℕ
+first_hands_text job [] = []
+first_hands_text job (item ∷ items) = codes " " ++ first_hand_text job item ++ first_hands_text job items
+
+-- an answer in version 1, which doesn't tell the depths of granted items
+abbrev pub first_answer_text : ℕ → Reply ℕ → List ℕ
+first_answer_text job (reply.List own granted) = codes "list" ++ own_items_text job own ++ first_hands_text job granted
+first_answer_text job r = brief_reply_text job r
+
+-- an answer in a journal of this form
+abbrev pub answer_text : Version → ℕ → Reply ℕ → List ℕ
+answer_text One job r = first_answer_text job r
+answer_text Two job r = brief_reply_text job r
+answer_text Three job r = brief_reply_text job r
 
 -- `nNODE jJOB K`
 abbrev pub address_text : Address → List ℕ

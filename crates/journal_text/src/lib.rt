@@ -19,4 +19,4 @@ mod words;
 
 pub use entry::{Address, Entry, LineInput, Version};
 pub use lines::{read_head, read_line};
-pub use printing::write_line;
+pub use printing::{write_answer, write_line};

@@ -1,11 +1,12 @@
 //! The line of an entry.
 ghost use Rattle.std.specs.Prelude.{◌≡◌, ◌++◌, codes, decimal, IfOk};
 ghost use Rattle.std.specs.String.{string_bytes};
-ghost use Rattle.journal_text.specs.Printing.{address_text as address_text_lem, brief_reply_text, entry_text};
+ghost use Rattle.schedule_text.specs.Printing.{own_items_text};
+ghost use Rattle.journal_text.specs.Printing.{address_text as address_text_lem, answer_text, brief_reply_text, entry_text, first_answer_text, first_hand_text, first_hands_text};
 
-use crate::entry::{Address, Entry};
+use crate::entry::{Address, Entry, Version};
 use crate::put_inputs::put_input;
-use obj_id::{JobNo, Reply};
+use obj_id::{GrantedItem, JobNo, OwnItem, Reply};
 use schedule_text::{list_text, placed_text, refusal_text, usage_text};
 use std::alloc::{AllocError, Global};
 
@@ -46,4 +47,67 @@ fn reply_text(alloc: Global, job: JobNo, reply: &Reply<u64>) -> Result<String, A
         Reply::NoWork => String::from_str(alloc, "none"),
         Reply::Refused(refusal) => refusal_text(alloc, *refusal),
     }
+}
+
+/// The text of an answer in a journal of this form, with ids as the job names them. Version 1 has no
+/// depths of granted items.
+pub fn write_answer(
+    alloc: Global,
+    job: JobNo,
+    reply: &Reply<u64>,
+    version: Version,
+) -> Result<String, AllocError>
+    ensures { IfOk result (λ text. string_bytes text ≡ answer_text version job.0 reply.now) }
+{
+    match version {
+        Version::One => first_answer(alloc, job, reply),
+        Version::Two | Version::Three => reply_text(alloc, job, reply),
+    }
+}
+
+/// The same, in version 1.
+fn first_answer(alloc: Global, job: JobNo, reply: &Reply<u64>) -> Result<String, AllocError>
+    ensures { IfOk result (λ text. string_bytes text ≡ first_answer_text job.0 reply.now) }
+{
+    match reply {
+        Reply::List(own, granted) => first_list(alloc, job, own.as_slice(), granted.as_slice()),
+        _ => reply_text(alloc, job, reply),
+    }
+}
+
+/// The items of a list, in version 1.
+fn first_list(
+    alloc: Global,
+    job: JobNo,
+    own: &[OwnItem],
+    granted: &[GrantedItem],
+) -> Result<String, AllocError>
+    ensures { IfOk result (λ text. string_bytes text
+        ≡ codes "list" ++ own_items_text job.0 own.now ++ first_hands_text job.0 granted.now) }
+{
+    let own = list_text(alloc, job, own, &[])?;
+    let granted = first_hands(alloc, job, granted)?;
+    format!(in alloc; "{own}{granted}")
+}
+
+/// The granted items without their depths, each after a space.
+fn first_hands(alloc: Global, job: JobNo, items: &[GrantedItem]) -> Result<String, AllocError>
+    ensures { IfOk result (λ text. string_bytes text ≡ first_hands_text job.0 items.now) }
+{
+    let mut text = String::new(alloc);
+    for item in items {
+        let item = first_hand(alloc, job, item)?;
+        text.push(' ')?;
+        text.push_str(&item)?;
+    }
+    Ok(text)
+}
+
+/// `ID:granted:LEN`.
+fn first_hand(alloc: Global, job: JobNo, item: &GrantedItem) -> Result<String, AllocError>
+    ensures { IfOk result (λ text. string_bytes text ≡ first_hand_text job.0 item.now) }
+{
+    let id = item.id.write(alloc, job)?;
+    let length = item.length;
+    format!(in alloc; "{id}:granted:{length}")
 }
