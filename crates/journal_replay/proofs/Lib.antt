@@ -1,0 +1,4 @@
+pub mod Alike
+pub mod Reading
+pub mod Replaying
+pub mod States

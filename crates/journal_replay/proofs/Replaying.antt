@@ -1,0 +1,161 @@
+-- A replay with one line more.
+use Rattle.std.proofs.Common.{◌≡◌, ◌≢◌, ℕ, suc, Bool, true, false, cond, List, [], ◌∷◌, ◌++◌, length, map, Option, Some, None, is_some, refl, sym, ap, subst, ◌∙◌, arith}
+use Rattle.std.specs.Prelude.{if◌then◌else◌, MatchOption}
+use Rattle.std.proofs.lemmas.List.{length-append}
+use Rattle.obj_id.specs.declared.commands.Reply.{Reply}
+use Rattle.private_store.specs.declared.inputs.Judged.{Judged}
+use Rattle.private_store.specs.Replay.{Brief, Line, IsReplayed, answers_due, brief_after, brief_step, replayed, unbegun_brief}
+use Rattle.journal_text.specs.declared.entry.Entry.{Entry}
+use Rattle.journal_text.specs.declared.entry.Version.{Version}
+use Rattle.journal_replay.specs.declared.jobs.JobAt.{JobAt}
+use Rattle.journal_replay.specs.declared.replay.Difference.{Difference}
+use Rattle.journal_replay.specs.Inputs.{judged_of, line_of}
+use Rattle.journal_replay.specs.Progress.{AddsEntry}
+use Rattle.journal_replay.specs.Replays.{AreReplayed, IsFirstDifference, IsFound, due_after, lines_of, next_number, place_of, same_place}
+use Rattle.journal_replay.specs.States.{AreAfter, JobState, state_of}
+use Rattle.journal_replay.proofs.States.{same_place-equal, same_place-itself}
+
+-- ---- lines of one job with one after them
+
+map-snoc : {A B : Type 0} (f : A → B) (xs : List A) (y : A) → map f (xs ++ y ∷ []) ≡ map f xs ++ f y ∷ []
+map-snoc f [] y = refl
+map-snoc f (x ∷ xs) y = ap (λ r. f x ∷ r) (map-snoc f xs y)
+
+replayed-snoc : (b : Brief) (lines : List Line) (l : Line) → replayed b (lines ++ l ∷ []) ≡ brief_after (replayed b lines) l.input
+replayed-snoc b [] l = refl
+replayed-snoc b (x ∷ xs) l = replayed-snoc (brief_after b x.input) xs l
+
+abbrev inputs : List Line → List Judged
+inputs lines = map (λ (line : Line). line.input) lines
+
+answers_due-snoc : (b : Brief) (lines : List Line) (l : Line) → answers_due b (inputs (lines ++ l ∷ [])) ≡ answers_due b (inputs lines) ++ (brief_step (replayed b lines) l.input).reply ∷ []
+answers_due-snoc b [] l = refl
+answers_due-snoc b (x ∷ xs) l = ap (λ r. (brief_step b x.input).reply ∷ r) (answers_due-snoc (brief_after b x.input) xs l)
+
+IsReplayed-snoc : (b : Brief) (lines : List Line) (l : Line) → IsReplayed b lines → l.reply ≡ (brief_step (replayed b lines) l.input).reply → IsReplayed b (lines ++ l ∷ [])
+IsReplayed-snoc b lines l h e =
+    map-snoc (λ (line : Line). line.reply) lines l
+    ∙ ap (λ r. r ++ l.reply ∷ []) h
+    ∙ ap (λ r. answers_due b (inputs lines) ++ r ∷ []) e
+    ∙ sym (answers_due-snoc b lines l)
+
+-- ---- a line more
+
+module _ (version : Version) (before : List Entry) (x : Entry) where
+  abbrev here : JobAt
+  here = place_of x.address
+
+  abbrev lines : List Line
+  lines = lines_of version here before
+
+  abbrev lines_with : Bool → JobAt → List Line
+  lines_with b place = cond b (lines_of version place before ++ line_of version x ∷ []) (lines_of version place before)
+
+  -- what is so at the line's place and stays so elsewhere is so at each place
+  at_each : (P : JobAt → List Line → Type 0) → P here (lines ++ line_of version x ∷ []) → ((place : JobAt) → same_place here place ≡ false → P place (lines_of version place before)) → (place : JobAt) → P place (lines_of version place (x ∷ before))
+  at_each P there elsewhere place =
+      elim (same_place here place) as (λ b. same_place here place ≡ b → P place (lines_with b place)) [
+        | true ↦ λ t. subst (λ p. P p (lines_with true p)) (same_place-equal here place t) there
+        | false ↦ λ t. elsewhere place t
+      ] refl
+
+  module _ (jobs : List (JobAt × JobState)) (states : AreAfter version before jobs) where
+    -- what is answered is due
+    pub answer-due : (due : Reply ℕ) → due ≡ (brief_step (state_of jobs here).store (judged_of version x.address x.input)).reply → due ≡ due_after version before x
+    answer-due due is = is ∙ ap (λ (s : JobState). (brief_step s.store (judged_of version x.address x.input)).reply) (states here)
+
+    -- the number after the last one is the next
+    pub last-next : suc (state_of jobs here).last ≡ next_number version before x.address
+    last-next = ap (λ (s : JobState). suc s.last) (states here)
+
+    pub AreAfter-line : (new : List (JobAt × JobState)) → x.address.number ≡ next_number version before x.address
+        → ((other : JobAt) → state_of new other ≡ (if same_place here other then record { last = x.address.number; store = brief_after (state_of jobs here).store (judged_of version x.address x.input) } else state_of jobs other))
+        → AreAfter version (x ∷ before) new
+    AreAfter-line new numbered moved = at_each (λ place ls. state_of new place ≡ record { last = length ls; store = replayed (unbegun_brief place.job.0) ls }) there (λ place t. elsewhere place t)
+      where
+        stepped : JobState
+        stepped = record { last = x.address.number; store = brief_after (state_of jobs here).store (judged_of version x.address x.input) }
+
+        there : state_of new here ≡ record { last = length (lines ++ line_of version x ∷ []); store = replayed (unbegun_brief here.job.0) (lines ++ line_of version x ∷ []) }
+        there =
+            let longer : length (lines ++ line_of version x ∷ []) ≡ suc (length lines) = length-append lines (line_of version x ∷ []) ∙ omega arith in
+            let last = numbered ∙ sym longer in
+            let store = ap (λ (s : JobState). brief_after s.store (judged_of version x.address x.input)) (states here) ∙ sym (replayed-snoc (unbegun_brief here.job.0) lines (line_of version x)) in
+            moved here ∙ ap (λ b. cond b stepped (state_of jobs here)) (same_place-itself here) ∙ (λ i. record { last = last i; store = store i })
+
+        elsewhere : (place : JobAt) → same_place here place ≡ false → state_of new place ≡ record { last = length (lines_of version place before); store = replayed (unbegun_brief place.job.0) (lines_of version place before) }
+        elsewhere place t = moved place ∙ ap (λ b. cond b stepped (state_of jobs place)) t ∙ states place
+
+  pub AreReplayed-line : AreReplayed version before → x.reply ≡ due_after version before x → AreReplayed version (x ∷ before)
+  AreReplayed-line agree due =
+      at_each (λ place ls. IsReplayed (unbegun_brief place.job.0) ls) (IsReplayed-snoc (unbegun_brief here.job.0) lines (line_of version x) (agree here) due) (λ place t. agree place)
+
+  -- an older difference stays the first
+  pub later-difference : (d : Difference) → IsFirstDifference version before d → IsFirstDifference version (x ∷ before) d
+  later-difference d first =
+      record {
+        later = x ∷ first.later;
+        entry = first.entry;
+        before = first.before;
+        found = ap (λ r. x ∷ r) first.found;
+        agree = first.agree;
+        at = first.at;
+        had = first.had;
+        due = first.due;
+        differs = first.differs;
+      }
+
+  -- without one, this line's is
+  pub found-line : (o : Option Difference) (due : Reply ℕ) → due ≡ due_after version before x → AreReplayed version before
+      → MatchOption o (x.reply ≡ due) (λ d. (x.reply ≢ due) × (d ≡ record { address = x.address; had = x.reply; due = due })) → IsFound version (x ∷ before) o
+  found-line None due is agree same = AreReplayed-line agree (same ∙ is)
+  found-line (Some d) due is agree other =
+      record {
+        later = [];
+        entry = x;
+        before = before;
+        found = refl;
+        agree = agree;
+        at = ap (λ (e : Difference). e.address) other.1;
+        had = ap (λ (e : Difference). e.had) other.1;
+        due = ap (λ (e : Difference). e.due) other.1 ∙ is;
+        differs = λ h. other.0 (sym (ap (λ (e : Difference). e.had) other.1) ∙ h ∙ ap (λ (e : Difference). e.due) other.1);
+      }
+
+-- a difference that was found is kept
+pub found-kept : (version : Version) (before : List Entry) (x : Entry) (o : Option Difference) → is_some o ≡ true → IsFound version before o → IsFound version (x ∷ before) o
+found-kept version before x None some found = absurd cc
+found-kept version before x (Some d) some found = later-difference version before x d found
+
+-- what is found with a line more, where nothing was found yet
+pub found-first : (version : Version) (before : List Entry) (x : Entry) (o o1 : Option Difference) (due : Reply ℕ) → is_some o ≡ false → due ≡ due_after version before x
+    → MatchOption o1 (x.reply ≡ due) (λ d. (x.reply ≢ due) × (d ≡ record { address = x.address; had = x.reply; due = due })) → IsFound version before o → IsFound version (x ∷ before) o1
+found-first version before x None o1 due none is compared found = found-line version before x o1 due is found compared
+found-first version before x (Some d) o1 due none is compared found = absurd cc
+
+module _ (version : Version) (jobs new : List (JobAt × JobState)) (x : Entry) (due : Reply ℕ) (o o1 : Option Difference) where
+  abbrev Steps : JobAt → Judged → Type 0
+  Steps place input =
+      x.address.number ≡ suc (state_of jobs place).last
+      → ((other : JobAt) → state_of new other ≡ (if same_place place other then record { last = x.address.number; store = brief_after (state_of jobs place).store input } else state_of jobs other))
+      → due ≡ (brief_step (state_of jobs place).store input).reply
+      → AddsEntry (record { version = version; jobs = jobs; difference = o }) (record { version = version; jobs = new; difference = o1 }) x
+
+  steps_here : ((before : List Entry) → due ≡ due_after version before x → IsFound version before o → IsFound version (x ∷ before) o1) → Steps (place_of x.address) (judged_of version x.address x.input)
+  steps_here found numbered moved is =
+      record {
+        version = refl;
+        numbered = λ before so_far. numbered ∙ last-next version before x jobs so_far.states;
+        after = λ before so_far. record {
+          states = AreAfter-line version before x jobs so_far.states new (numbered ∙ last-next version before x jobs so_far.states) moved;
+          found = found before (answer-due version before x jobs so_far.states due is) so_far.found;
+        };
+      }
+
+  pub adds : (place : JobAt) (input : Judged) → place ≡ place_of x.address → input ≡ judged_of version x.address x.input
+      → ((before : List Entry) → due ≡ due_after version before x → IsFound version before o → IsFound version (x ∷ before) o1)
+      → x.address.number ≡ suc (state_of jobs place).last
+      → ((other : JobAt) → state_of new other ≡ (if same_place place other then record { last = x.address.number; store = brief_after (state_of jobs place).store input } else state_of jobs other))
+      → due ≡ (brief_step (state_of jobs place).store input).reply
+      → AddsEntry (record { version = version; jobs = jobs; difference = o }) (record { version = version; jobs = new; difference = o1 }) x
+  adds place input at told found = subst (λ p. Steps p input) (sym at) (subst (λ i. Steps (place_of x.address) i) (sym told) (steps_here found))

@@ -1,0 +1,57 @@
+-- The replay of a saved journal: each job at each node apart, from a store that was never admitted. Entries stand newest
+-- first.
+use Rattle.std.specs.Prelude.{◌≡◌, ◌≢◌, ℕ, suc, ◌==◌, Bool, ◌&&◌, if◌then◌else◌, List, [], ◌∷◌, ◌++◌, length, Option, None, Some}
+use Rattle.obj_id.specs.declared.commands.Reply.{Reply}
+use Rattle.private_store.specs.Replay.{Brief, Line, IsReplayed, brief_step, replayed, unbegun_brief}
+use Rattle.journal_text.specs.declared.entry.Address.{Address}
+use Rattle.journal_text.specs.declared.entry.Entry.{Entry}
+use Rattle.journal_text.specs.declared.entry.Version.{Version}
+use Rattle.journal_replay.specs.declared.jobs.JobAt.{JobAt}
+use Rattle.journal_replay.specs.declared.replay.Difference.{Difference}
+use Rattle.journal_replay.specs.Inputs.{judged_of, line_of}
+
+abbrev pub same_place : JobAt → JobAt → Bool
+same_place a b = (a.node == b.node) && (a.job.0 == b.job.0)
+
+-- the job at its node that a line is of
+abbrev pub place_of : Address → JobAt
+place_of address = record { node = address.node; job = address.job }
+
+-- the lines of a job at a node, oldest first
+abbrev pub lines_of : Version → JobAt → List Entry → List Line
+lines_of version place [] = []
+lines_of version place (x ∷ before) =
+    if same_place (place_of x.address) place then lines_of version place before ++ line_of version x ∷ [] else lines_of version place before
+
+-- and the store after them
+abbrev pub store_of : Version → JobAt → List Entry → Brief
+store_of version place entries = replayed (unbegun_brief place.job.0) (lines_of version place entries)
+
+-- the answer that is due after these lines
+abbrev pub due_after : Version → List Entry → Entry → Reply ℕ
+due_after version before x = (brief_step (store_of version (place_of x.address) before) (judged_of version x.address x.input)).reply
+
+-- the number that a line has after these
+abbrev pub next_number : Version → List Entry → Address → ℕ
+next_number version before address = suc (length (lines_of version (place_of address) before))
+
+-- every line has the answer that the replay of its job at its node gives there
+abbrev pub AreReplayed : Version → List Entry → Type 0
+AreReplayed version entries = (place : JobAt) → IsReplayed (unbegun_brief place.job.0) (lines_of version place entries)
+
+-- the first line whose answer isn't the one that is due
+pub record IsFirstDifference (version : Version) (entries : List Entry) (difference : Difference) : Type 0 where
+  pub later : List Entry
+  pub entry : Entry
+  pub before : List Entry
+  pub found : entries ≡ later ++ entry ∷ before
+  pub agree : AreReplayed version before
+  pub at : difference.address ≡ entry.address
+  pub had : difference.had ≡ entry.reply
+  pub due : difference.due ≡ due_after version before entry
+  pub differs : difference.had ≢ difference.due
+
+-- what is found in all of them
+abbrev pub IsFound : Version → List Entry → Option Difference → Type 0
+IsFound version entries None = AreReplayed version entries
+IsFound version entries (Some difference) = IsFirstDifference version entries difference

@@ -1,0 +1,27 @@
+-- The stores of all jobs at all nodes, as lines lead to them. Entries stand newest first.
+use Rattle.std.specs.Prelude.{◌≡◌, ℕ, List, length, Option, unwrap_or}
+use Rattle.std.specs.Map.{lookup}
+use Rattle.private_store.specs.Replay.{Brief, unbegun_brief}
+use Rattle.journal_text.specs.declared.entry.Entry.{Entry}
+use Rattle.journal_text.specs.declared.entry.Version.{Version}
+use Rattle.journal_replay.specs.declared.jobs.JobAt.{JobAt}
+use Rattle.journal_replay.specs.declared.replay.Difference.{Difference}
+use Rattle.journal_replay.specs.Replays.{IsFound, lines_of, same_place, store_of}
+
+-- what is kept of a job at a node: the number of its last line, or 0, and its store without contents
+pub record JobState : Type 0 where
+  pub last : ℕ
+  pub store : Brief
+
+abbrev pub state_of : List (JobAt × JobState) → JobAt → JobState
+state_of jobs place = unwrap_or (lookup (same_place place) jobs) (record { last = 0; store = unbegun_brief place.job.0 })
+
+-- they are what these lines lead to
+abbrev pub AreAfter : Version → List Entry → List (JobAt × JobState) → Type 0
+AreAfter version entries jobs =
+    (place : JobAt) → state_of jobs place ≡ record { last = length (lines_of version place entries); store = store_of version place entries }
+
+-- a replay so far
+pub record IsAfter (version : Version) (entries : List Entry) (jobs : List (JobAt × JobState)) (difference : Option Difference) : Type 0 where
+  pub states : AreAfter version entries jobs
+  pub found : IsFound version entries difference

@@ -1,0 +1,114 @@
+//! The replay of a journal's lines, one after another.
+ghost use Rattle.std.specs.Prelude.{◌≡◌, ◌≢◌, ◌↔◌, suc, [], None, MatchOption, IfOk, IsTrue};
+ghost use Rattle.journal_replay.specs.Progress.{Adds};
+
+use crate::inputs::judged_of;
+use crate::jobs::{JobAt, Jobs};
+use crate::replies::same_reply;
+use journal_text::{Address, Entry, Version};
+use obj_id::Reply;
+use std::alloc::{AllocError, Global};
+
+/// A line whose answer isn't the one that is due.
+#[derive(Debug, Drop)]
+pub struct Difference {
+    pub address: Address,
+    /// The answer in the line.
+    pub had: Reply<u64>,
+    /// The answer that the replay gives there.
+    pub due: Reply<u64>,
+}
+
+/// What came of the replay of a whole journal.
+#[derive(Debug, Drop)]
+pub struct Outcome {
+    pub version: Version,
+    /// How many lines there are after the first.
+    pub lines: u64,
+    /// Of the first line whose answer isn't the one that is due.
+    pub difference: Option<Difference>,
+}
+
+/// The lines of a journal so far.
+#[derive(Drop)]
+pub(crate) struct Replay {
+    version: Version,
+    jobs: Jobs,
+    // of the first line that differs
+    difference: Option<Difference>,
+}
+
+impl Replay {
+    /// No lines yet. Takes no memory.
+    pub(crate) fn new(alloc: Global, version: Version) -> Replay
+        ensures version { result.version ≡ version }
+        ensures jobs { result.jobs ≡ [] }
+        ensures difference { result.difference ≡ None }
+    {
+        Replay {
+            version,
+            jobs: Jobs::new(alloc),
+            difference: None,
+        }
+    }
+
+    /// Takes the next line. False if its number isn't the next one of its job at its node: such a line isn't an entry.
+    pub(crate) fn add(&mut self, entry: Entry) -> Result<bool, AllocError>
+        ensures { IfOk result (λ added. Adds added self.old self.new entry) }
+    {
+        let Entry {
+            address,
+            input,
+            reply,
+        } = entry;
+        let place = JobAt::of(address);
+        if !is_next(address.number, self.jobs.last(place)) {
+            return Ok(false);
+        }
+        let input = judged_of(self.version, address, input);
+        let due = self.jobs.step(place, address.number, &input)?;
+        if self.difference.is_none() {
+            self.difference = compare(address, reply, due);
+        }
+        Ok(true)
+    }
+
+    /// The form of the journal.
+    pub(crate) fn version(&self) -> Version
+        ensures { result ≡ self.now.version }
+    {
+        self.version
+    }
+
+    /// What came of it, after so many lines.
+    pub(crate) fn end(self, lines: u64) -> Outcome
+        ensures { result ≡ record { version = self.version; lines = lines; difference = self.difference } }
+    {
+        Outcome {
+            version: self.version,
+            lines,
+            difference: self.difference,
+        }
+    }
+}
+
+/// The difference of a line, if its answer isn't the one that is due.
+fn compare(address: Address, had: Reply<u64>, due: Reply<u64>) -> Option<Difference>
+    ensures { MatchOption result (had ≡ due) (λ difference. (had ≢ due) × (difference ≡ record { address = address; had = had; due = due })) }
+{
+    if same_reply(&had, &due) {
+        None
+    } else {
+        Some(Difference { address, had, due })
+    }
+}
+
+/// Whether the number comes next after the last one.
+fn is_next(number: u32, last: u32) -> bool
+    ensures { IsTrue result ↔ (number ≡ suc last) }
+{
+    match number.checked_sub(1) {
+        Some(before) => before == last,
+        None => false,
+    }
+}
