@@ -1,11 +1,14 @@
--- A line names no node that isn't there: each step that it spells is one of a world with as many nodes.
+-- A line names no node that isn't there: each step that it spells is one of a world with as many nodes. And it spells no
+-- answer of a device.
 use Rattle.std.proofs.Common.{◌≡◌, ℕ, ◌<◌, Bool, true, false, List, [], ◌∷◌, sym, ap, subst, ◌∙◌, arith}
-use Rattle.std.specs.Prelude.{nat_lt}
+use Rattle.std.specs.Prelude.{nat_lt, not, ◌&&◌}
 use Rattle.std.proofs.lemmas.Bool.Decides.{nat_tests}
 use Rattle.obj_id.specs.declared.works.Quota.{Quota}
 use Rattle.obj_id.specs.declared.ids.JobNo.{JobNo}
 use Rattle.obj_id.specs.declared.messages.Place.{Place}
 use Rattle.obj_id.specs.declared.messages.Place.TheVariants.{Node, Directory}
+use Rattle.private_store.specs.declared.schedules.Event.{Event}
+use Rattle.private_store.specs.declared.schedules.Event.TheVariants as event
 use Rattle.private_store.specs.declared.schedules.Step.TheVariants.{At, Deliver}
 use Rattle.schedule_text.specs.declared.line.Line.{Line}
 use Rattle.schedule_text.specs.declared.line.Line.TheVariants as line
@@ -21,9 +24,15 @@ abbrev pub is_there : ℕ → Place → Bool
 is_there nodes (Node place) = nat_lt place nodes
 is_there nodes Directory = true
 
--- of what a line says: the node of an event or a work, or the place to which a message is delivered
+-- whether it hands in a device's answer: no line says which answer
+abbrev pub is_finish : Event → Bool
+is_finish (event.Finish job number answer) = true
+is_finish _ = false
+
+-- of what a line says: the node of an event or a work, or the place to which a message is delivered; and the event hands
+-- in no answer
 abbrev pub line_within : ℕ → Line → Bool
-line_within nodes (line.Step (At place e)) = nat_lt place nodes
+line_within nodes (line.Step (At place e)) = not (is_finish e) && nat_lt place nodes
 line_within nodes (line.Step (Deliver job from to m damage)) = is_there nodes to
 line_within nodes (line.Finish node job number outcome) = nat_lt node nodes
 line_within nodes line.Skipped = true
