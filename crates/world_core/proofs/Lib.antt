@@ -1,7 +1,7 @@
 mod Numbers
 mod Logging
 mod Numbering
-mod Places
+pub mod Places
 mod Stores
 mod Clusters
 mod Lines
