@@ -1,4 +1,5 @@
 pub mod Hearing
+mod Crews
 mod Running
 mod Serves
 mod Within

@@ -5,33 +5,76 @@ use Rattle.std.specs.Io.{StopsAt}
 use Rattle.std.specs.Io.KnownBytes.{Keeps, Consumes, IsAtEnd}
 use Rattle.std.proofs.Math.Seq.{take-append_seam}
 use Rattle.std.proofs.lemmas.List.{length-append}
+use Rattle.obj_id.specs.declared.ids.JobNo.{JobNo}
+use Rattle.obj_id.specs.declared.works.DeviceAnswer.{DeviceAnswer}
+use Rattle.private_store.specs.declared.schedules.Event.TheVariants as event
 use Rattle.private_store.specs.declared.schedules.Step.{Step}
+use Rattle.private_store.specs.declared.schedules.Step.TheVariants.{At}
 use Rattle.private_store.specs.declared.schedules.Traced.{Traced}
 use Rattle.schedule_text.specs.Reading.{is_skipped}
+use Rattle.schedule_text.specs.declared.line.Line.TheVariants as line
+use Rattle.schedule_text.specs.declared.line.Outcome.{Outcome}
 use Rattle.world_core.specs.Worlds.{Hosting, IsAfter}
 use Rattle.store_program.specs.declared.fault.Fault.{Fault}
 use Rattle.store_program.specs.declared.fault.Fault.TheVariants.{NotAStep, Input, Output, Socket, NoMemory}
-use Rattle.store_program.specs.Lines.{Spells, with_feed, history_of, input_of, output_of}
+use Rattle.store_program.specs.Lines.{IsSpelled, Says, stands, finishes, with_feed, history_of, input_of, output_of}
+use Rattle.store_program.specs.Workers.{Crew, IsCrewAfter, Calls, handed_in, held_by}
 use Rattle.store_program.specs.Runs.{RunsStep, RunsLine, StopsRun, IsReadingFault, Progress, IsWorldly, IsOutput, Ran}
+use Rattle.store_program.proofs.Crews.{handed_due, after_handing, after_step}
+use Rattle.store_program.proofs.Within.{said_apart, finish_within}
 use Rattle.private_store.proofs.KnownBytes.{Appends-none, Appends-then, Appends-kept, Consumes-none, Consumes-then, Consumes-all}
 
 -- ---- one line
 
-pub nothing_line : (nodes : ℕ) (bytes text : List ℕ) (world : Hosting) (a : Option (List ℕ)) → bytes ≡ with_feed text → is_skipped text ≡ true → RunsLine nodes bytes world world a a
-nothing_line nodes bytes text world a is skipped =
-    record { heard = record { text = text; answered = None }; is_text = is; is_answered = skipped; after = λ memory history h. h; written = Appends-none a }
+pub nothing_line : (nodes : ℕ) (bytes text : List ℕ) (world : Hosting) (crew : Crew) (a : Option (List ℕ)) → bytes ≡ with_feed text → is_skipped text ≡ true → RunsLine nodes bytes world crew world crew a a
+nothing_line nodes bytes text world crew a is skipped =
+    record { heard = record { text = text; answered = None }; is_text = is; is_answered = λ history h. skipped; after = λ memory history h. h; crew = λ history h. h; written = Appends-none a }
 
-pub step_line : (nodes : ℕ) (bytes text : List ℕ) (step : Step) (old new : Hosting) (a b : Option (List ℕ)) (result : Result ⊤ Fault)
-    → bytes ≡ with_feed text → Spells nodes text step → OnOk result (RunsStep old step new a b) → OnOk result (RunsLine nodes bytes old new a b)
-step_line nodes bytes text step old new a b (Err e) is spells ran = tt
-step_line nodes bytes text step old new a b (Ok u) is spells ran =
-    record {
-      heard = record { text = text; answered = Some (record { step = step; answer = ran.answer }) };
-      is_text = is;
-      is_answered = spells;
-      after = λ memory history h. ran.after nodes memory history h;
-      written = ran.written;
-    }
+module _ (nodes : ℕ) (bytes text : List ℕ) (old new : Hosting) (crew_old crew_new : Crew) (a b : Option (List ℕ)) (result : Result ⊤ Fault) (is : bytes ≡ with_feed text) where
+  pub step_line : (step : Step) → Says nodes text (line.Step step) → OnOk result (RunsStep old crew_old step new crew_new a b) → OnOk result (RunsLine nodes bytes old crew_old new crew_new a b)
+  step_line step said ran = on_ok result ran
+    where
+      on_ok : (r : Result ⊤ Fault) → OnOk r (RunsStep old crew_old step new crew_new a b) → OnOk r (RunsLine nodes bytes old crew_old new crew_new a b)
+      on_ok (Err e) ran = tt
+      on_ok (Ok u) ran =
+          record {
+            heard = record { text = text; answered = Some (record { step = step; answer = ran.answer }) };
+            is_text = is;
+            is_answered = λ history crew. record { speaks = said.speaks; spelled = stands step said.spelled };
+            after = λ memory history h. ran.after nodes memory history h;
+            crew = λ history crew.
+                subst (λ c. IsCrewAfter nodes c (record { step = step; answer = ran.answer } ∷ history)) (sym ran.noted)
+                (after_step nodes crew_old history crew ran.answer step (said_apart nodes text step said));
+            written = ran.written;
+          }
+
+  -- the crew between: what is handed in is known, and the step not taken yet
+  pub finish_line : (crew : Crew) (node : ℕ) (job : JobNo) (number : ℕ) (o : Outcome) (answer : DeviceAnswer) → Says nodes text (line.Finish node job number o)
+      → answer ≡ handed_in crew_old.taken (held_by crew_old.devices) node job number o → Calls crew_old node job number answer crew
+      → OnOk result (RunsStep old crew (At node (event.Finish job number answer)) new crew_new a b) → OnOk result (RunsLine nodes bytes old crew_old new crew_new a b)
+  finish_line crew node job number o answer said due calls ran = on_ok result ran
+    where
+      step : Step
+      step = At node (event.Finish job number answer)
+
+      spelled : (history : List Traced) → IsCrewAfter nodes crew_old history → IsSpelled nodes history text step
+      spelled history is_crew =
+          subst (λ x. IsSpelled nodes history text (At node (event.Finish job number x))) (sym (due ∙ handed_due nodes crew_old history is_crew node job number o (finish_within nodes text node job number o said)))
+          (finishes node job number o said.spelled)
+
+      on_ok : (r : Result ⊤ Fault) → OnOk r (RunsStep old crew step new crew_new a b) → OnOk r (RunsLine nodes bytes old crew_old new crew_new a b)
+      on_ok (Err e) ran = tt
+      on_ok (Ok u) ran =
+          record {
+            heard = record { text = text; answered = Some (record { step = step; answer = ran.answer }) };
+            is_text = is;
+            is_answered = λ history is_crew. record { speaks = said.speaks; spelled = spelled history is_crew };
+            after = λ memory history h. ran.after nodes memory history h;
+            crew = λ history is_crew.
+                subst (λ c. IsCrewAfter nodes c (record { step = step; answer = ran.answer } ∷ history)) (sym ran.noted)
+                (after_handing nodes crew_old history is_crew ran.answer node job number answer crew calls);
+            written = ran.written;
+          }
 
 -- a line without its line feed has none
 pub whole_text : (bytes text : List ℕ) → bytes ≡ with_feed text → StopsAt bytes 10 → All (λ byte. byte ≢ 10) text
@@ -45,13 +88,13 @@ pub worldly : (nodes memory : ℕ) (world : Hosting) (history : List Traced) →
 worldly nodes memory world [] h = tt
 worldly nodes memory world (entry ∷ history) h = (world, h)
 
-pub begun : (nodes memory : ℕ) (world : Hosting) (a b : Option (List ℕ)) → IsAfter nodes memory world [] → Progress nodes memory 1 world a a b b
-begun nodes memory world a b h = record { lines = []; counted = refl; heard = tt; after = h; consumed = Consumes-none a; written = Appends-none b }
+pub begun : (nodes memory : ℕ) (world : Hosting) (crew : Crew) (a b : Option (List ℕ)) → IsAfter nodes memory world [] → IsCrewAfter nodes crew [] → Progress nodes memory 1 world crew a a b b
+begun nodes memory world crew a b h c = record { lines = []; counted = refl; heard = tt; after = h; crew = c; consumed = Consumes-none a; written = Appends-none b }
 
 pub no_world : (nodes memory : ℕ) (a b : Option (List ℕ)) → Ran nodes memory a a b b (Err NoMemory)
 no_world nodes memory a b = record { lines = []; rest = []; heard = tt; worldly = tt; consumed = Consumes-none a; written = Appends-none b; ends = tt }
 
-module _ (nodes memory number : ℕ) (world : Hosting) (a r b w : Option (List ℕ)) (so_far : Progress nodes memory number world a r b w) where
+module _ (nodes memory number : ℕ) (world : Hosting) (workers : Crew) (a r b w : Option (List ℕ)) (so_far : Progress nodes memory number world workers a r b w) where
   module _ (r1 : Option (List ℕ)) (bytes : List ℕ) (read : Consumes r r1 bytes) where
     pub reading_failed : (fault : Fault) → IsReadingFault fault → Ran nodes memory a r1 b w (Err fault)
     reading_failed (NotAStep n) is = absurd is
@@ -124,14 +167,15 @@ module _ (nodes memory number : ℕ) (world : Hosting) (a r b w : Option (List �
           ends = tt;
         }
 
-    pub line_more : (new : Hosting) (w1 : Option (List ℕ)) → StopsAt bytes 10 → RunsLine nodes bytes world new w w1 → Progress nodes memory (number + 1) new a r1 b w1
-    line_more new w1 one ran =
+    pub line_more : (new : Hosting) (crew : Crew) (w1 : Option (List ℕ)) → StopsAt bytes 10 → RunsLine nodes bytes world workers new crew w w1 → Progress nodes memory (number + 1) new crew a r1 b w1
+    line_more new crew w1 one ran =
         let counted = so_far.counted in
         record {
           lines = ran.heard ∷ so_far.lines;
           counted = ap suc counted ∙ (omega arith);
-          heard = (record { whole = whole_text bytes ran.heard.text ran.is_text one; answered = ran.is_answered }, so_far.heard);
+          heard = (record { whole = whole_text bytes ran.heard.text ran.is_text one; answered = ran.is_answered (history_of so_far.lines) so_far.crew }, so_far.heard);
           after = ran.after memory (history_of so_far.lines) so_far.after;
+          crew = ran.crew (history_of so_far.lines) so_far.crew;
           consumed = Consumes-then a r r1 (input_of so_far.lines) (with_feed ran.heard.text) so_far.consumed (subst (Consumes r r1) ran.is_text read);
           written = Appends-then b w w1 (output_of so_far.lines) _ so_far.written ran.written;
         }

@@ -1,5 +1,5 @@
 -- What the options of a command line ask for.
-use Rattle.std.specs.Prelude.{◌≡◌, ◌≢◌, ℕ, true, List, Some, codes}
+use Rattle.std.specs.Prelude.{◌≡◌, ◌≢◌, ℕ, true, List, Some, codes, ⊤}
 use Rattle.std.specs.Str.Parse.{digits_value, without_leading_plus}
 use Rattle.clap.specs.declared.parser.matches.Found.{Found}
 use Rattle.clap.specs.Matches.{one_text}
@@ -8,7 +8,7 @@ use Rattle.clap.specs.declared.error.kind.ErrorKind.TheVariants.{DisplayHelp, Di
 use Rattle.world_core.specs.declared.Shape.{Shape}
 use Rattle.world_core.specs.Worlds.{is_shape}
 use Rattle.store_program.specs.declared.command_line.Task.{Task}
-use Rattle.store_program.specs.declared.command_line.Task.TheVariants.{Run, Serve}
+use Rattle.store_program.specs.declared.command_line.Task.TheVariants.{Run, Serve, Replay}
 
 -- the text that was given for the option, or its default, is the number in decimal digits
 pub record IsOption (found : Found) (name : List ℕ) (number : ℕ) : Type 0 where
@@ -22,10 +22,11 @@ pub record Asks (found : Found) (shape : Shape) : Type 0 where
   pub nodes : IsOption found (codes "nodes") shape.nodes
   pub memory : IsOption found (codes "memory") shape.memory
 
--- the shape of the nodes that a task has
-abbrev pub shape_of : Task → Shape
-shape_of (Run shape) = shape
-shape_of (Serve serving) = serving.shape
+-- the nodes that a task has are such as there may be
+abbrev pub IsTask : Task → Type 0
+IsTask (Run shape) = is_shape shape ≡ true
+IsTask (Serve serving) = is_shape serving.shape ≡ true
+IsTask (Replay path) = ⊤
 
 -- 0 after help or the version, 2 after a mistake
 pub record IsStatusOfError (kind : ErrorKind) (status : ℕ) : Type 0 where

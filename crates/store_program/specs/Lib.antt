@@ -4,3 +4,4 @@ pub mod Lines
 pub mod Orders
 pub mod Runs
 pub mod Servings
+pub mod Workers

@@ -2,53 +2,46 @@
 use Rattle.std.specs.Prelude.{◌≡◌, ◌≢◌, ℕ, true, false, List, [], ◌∷◌, ◌++◌, All, Option, Some, None, ⊤}
 use Rattle.std.specs.Str.{IsUtf8}
 use Rattle.obj_id.specs.declared.ids.JobNo.{JobNo}
-use Rattle.obj_id.specs.declared.works.DeviceAnswer.{DeviceAnswer}
-use Rattle.obj_id.specs.declared.works.DeviceAnswer.TheVariants.{Failed}
 use Rattle.private_store.specs.declared.schedules.Event.TheVariants as event
 use Rattle.private_store.specs.declared.schedules.Step.{Step}
 use Rattle.private_store.specs.declared.schedules.Step.TheVariants.{At}
 use Rattle.private_store.specs.declared.schedules.Traced.{Traced}
+use Rattle.schedule_text.specs.declared.line.Line.{Line}
 use Rattle.schedule_text.specs.declared.line.Line.TheVariants as line
 use Rattle.schedule_text.specs.declared.line.Outcome.{Outcome}
-use Rattle.schedule_text.specs.declared.line.Outcome.TheVariants as outcome
 use Rattle.schedule_text.specs.Prefixes.{prefix_of}
 use Rattle.schedule_text.specs.Printing.{line_text}
 use Rattle.schedule_text.specs.Reading.{IsLine, is_skipped}
 use Rattle.store_program.specs.declared.lines.Said.{Said}
 use Rattle.store_program.specs.declared.lines.Said.TheVariants as said
+use Rattle.store_program.specs.Workers.{answer_due}
 
--- what a worker hands in where a line says what becomes of a work: a failure without a call, or a device's answer
-abbrev pub IsHandedIn : Outcome → DeviceAnswer → Type 0
-IsHandedIn outcome.Ok answer = ⊤
-IsHandedIn outcome.Fail answer = answer ≡ Failed
-IsHandedIn outcome.Damage answer = ⊤
+-- a text spells a step as it stands, or says what is handed in for a work: what is due after the steps before it
+pub data IsSpelled (nodes : ℕ) (history : List Traced) (text : List ℕ) : Step → Type 0 where
+  stands : (step : Step) → IsLine nodes text (line.Step step) → IsSpelled nodes history text step
+  finishes : (node : ℕ) (job : JobNo) (number : ℕ) (outcome : Outcome) → IsLine nodes text (line.Finish node job number outcome)
+      → IsSpelled nodes history text (At node (event.Finish job number (answer_due history node job number outcome)))
 
--- a text spells a step as it stands, or what is handed in for a work
-pub data IsSpelled (nodes : ℕ) (text : List ℕ) : Step → Type 0 where
-  stands : (step : Step) → IsLine nodes text (line.Step step) → IsSpelled nodes text step
-  finishes : (node : ℕ) (job : JobNo) (number : ℕ) (outcome : Outcome) (answer : DeviceAnswer) → IsLine nodes text (line.Finish node job number outcome) → IsHandedIn outcome answer
-      → IsSpelled nodes text (At node (event.Finish job number answer))
-
--- the text spells a step
-pub record Spells (nodes : ℕ) (text : List ℕ) (step : Step) : Type 0 where
+-- the text spells a step after these steps
+pub record Spells (nodes : ℕ) (history : List Traced) (text : List ℕ) (step : Step) : Type 0 where
   pub speaks : is_skipped text ≡ false
-  pub spelled : IsSpelled nodes text step
+  pub spelled : IsSpelled nodes history text step
 
--- the text says that a work ends
-pub record SpellsFinish (nodes : ℕ) (text : List ℕ) (node : ℕ) (job : JobNo) (number : ℕ) (outcome : Outcome) : Type 0 where
+-- the text says something, and it is this
+pub record Says (nodes : ℕ) (text : List ℕ) (said : Line) : Type 0 where
   pub speaks : is_skipped text ≡ false
-  pub spelled : IsLine nodes text (line.Finish node job number outcome)
+  pub spelled : IsLine nodes text said
 
 -- it says something, but no step
 pub record SpellsNone (nodes : ℕ) (text : List ℕ) : Type 0 where
   pub speaks : is_skipped text ≡ false
-  pub none : IsUtf8 text → (step : Step) → IsSpelled nodes text step → ⊥
+  pub none : IsUtf8 text → (history : List Traced) (step : Step) → IsSpelled nodes history text step → ⊥
 
 -- what is made of a text is what it says
 abbrev pub IsSaid : ℕ → List ℕ → Said → Type 0
 IsSaid nodes text said.Nothing = is_skipped text ≡ true
-IsSaid nodes text (said.Step step) = Spells nodes text step
-IsSaid nodes text (said.Finish node job number outcome) = SpellsFinish nodes text node job number outcome
+IsSaid nodes text (said.Step step) = Says nodes text (line.Step step)
+IsSaid nodes text (said.Finish node job number outcome) = Says nodes text (line.Finish node job number outcome)
 IsSaid nodes text said.NoStep = SpellsNone nodes text
 
 -- a line that was read, without its line feed, and the answered step of it, if it was one
@@ -56,22 +49,14 @@ pub record Heard : Type 0 where
   pub text : List ℕ
   pub answered : Option Traced
 
--- a line that says nothing has no answer; every other spells the step that was answered
-abbrev pub IsAnswered : ℕ → List ℕ → Option Traced → Type 0
-IsAnswered nodes text None = is_skipped text ≡ true
-IsAnswered nodes text (Some entry) = Spells nodes text entry.step
+-- a line that says nothing has no answer; every other spells the step that was answered, after these steps
+abbrev pub IsAnswered : ℕ → List Traced → List ℕ → Option Traced → Type 0
+IsAnswered nodes history text None = is_skipped text ≡ true
+IsAnswered nodes history text (Some entry) = Spells nodes history text entry.step
 
-pub record IsHeard (nodes : ℕ) (heard : Heard) : Type 0 where
+pub record IsHeard (nodes : ℕ) (history : List Traced) (heard : Heard) : Type 0 where
   pub whole : All (λ byte. byte ≢ 10) heard.text
-  pub answered : IsAnswered nodes heard.text heard.answered
-
-abbrev pub AreHeard : ℕ → List Heard → Type 0
-AreHeard nodes [] = ⊤
-AreHeard nodes (heard ∷ lines) = IsHeard nodes heard × AreHeard nodes lines
-
--- a text with its line feed
-abbrev pub with_feed : List ℕ → List ℕ
-with_feed text = text ++ 10 ∷ []
+  pub answered : IsAnswered nodes history heard.text heard.answered
 
 -- the steps with their answers, of lines that stand newest first
 abbrev pub with_answered : Option Traced → List Traced → List Traced
@@ -81,6 +66,14 @@ with_answered (Some entry) history = entry ∷ history
 abbrev pub history_of : List Heard → List Traced
 history_of [] = []
 history_of (heard ∷ lines) = with_answered heard.answered (history_of lines)
+
+abbrev pub AreHeard : ℕ → List Heard → Type 0
+AreHeard nodes [] = ⊤
+AreHeard nodes (heard ∷ lines) = IsHeard nodes (history_of lines) heard × AreHeard nodes lines
+
+-- a text with its line feed
+abbrev pub with_feed : List ℕ → List ℕ
+with_feed text = text ++ 10 ∷ []
 
 -- the bytes that were read
 abbrev pub input_of : List Heard → List ℕ

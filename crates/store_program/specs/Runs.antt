@@ -9,18 +9,21 @@ use Rattle.schedule_text.specs.Printing.{line_text}
 use Rattle.world_core.specs.Worlds.{Hosting, IsAfter}
 use Rattle.store_program.specs.declared.fault.Fault.{Fault}
 use Rattle.store_program.specs.declared.fault.Fault.TheVariants.{NotAStep, Input, Output, Socket, NoMemory}
+use Rattle.store_program.specs.Workers.{Crew, IsCrewAfter, noted as crew_noted}
 use Rattle.store_program.specs.Lines.{Heard, AreHeard, IsAnswered, IsNoLine, with_feed, with_answered, history_of, input_of, output_of, printed}
 
--- the world takes the step, and the line is that of its answer
-pub record Answers (old : Hosting) (step : Step) (line : List ℕ) (new : Hosting) : Type 0 where
+-- the world takes the step, the line is that of its answer, and the workers note it
+pub record Answers (old : Hosting) (crew_old : Crew) (step : Step) (line : List ℕ) (new : Hosting) (crew_new : Crew) : Type 0 where
   pub answer : StepAnswer
   pub is_line : line ≡ line_text (prefix_of step) answer
   pub after : (nodes memory : ℕ) (history : List Traced) → IsAfter nodes memory old history → IsAfter nodes memory new (record { step = step; answer = answer } ∷ history)
+  pub noted : crew_new ≡ crew_noted step answer crew_old
 
 -- the same, and the line is written
-pub record RunsStep (old : Hosting) (step : Step) (new : Hosting) (written_old written_new : Option (List ℕ)) : Type 0 where
+pub record RunsStep (old : Hosting) (crew_old : Crew) (step : Step) (new : Hosting) (crew_new : Crew) (written_old written_new : Option (List ℕ)) : Type 0 where
   pub answer : StepAnswer
   pub after : (nodes memory : ℕ) (history : List Traced) → IsAfter nodes memory old history → IsAfter nodes memory new (record { step = step; answer = answer } ∷ history)
+  pub noted : crew_new ≡ crew_noted step answer crew_old
   pub written : Appends written_old written_new (line_text (prefix_of step) answer)
 
 -- a step of which no answer is written, but perhaps a part if the output failed
@@ -32,11 +35,12 @@ StopsStep written_old written_new Socket = ⊥
 StopsStep written_old written_new NoMemory = Keeps written_old written_new
 
 -- a whole line is read, its step taken, and its answer written
-pub record RunsLine (nodes : ℕ) (bytes : List ℕ) (old new : Hosting) (written_old written_new : Option (List ℕ)) : Type 0 where
+pub record RunsLine (nodes : ℕ) (bytes : List ℕ) (old : Hosting) (crew_old : Crew) (new : Hosting) (crew_new : Crew) (written_old written_new : Option (List ℕ)) : Type 0 where
   pub heard : Heard
   pub is_text : bytes ≡ with_feed heard.text
-  pub is_answered : IsAnswered nodes heard.text heard.answered
+  pub is_answered : (history : List Traced) → IsCrewAfter nodes crew_old history → IsAnswered nodes history heard.text heard.answered
   pub after : (memory : ℕ) (history : List Traced) → IsAfter nodes memory old history → IsAfter nodes memory new (with_answered heard.answered history)
+  pub crew : (history : List Traced) → IsCrewAfter nodes crew_old history → IsCrewAfter nodes crew_new (with_answered heard.answered history)
   pub written : Appends written_old written_new (printed heard.answered)
 
 -- a line at which the run stops: nothing is written, unless the output failed
@@ -56,13 +60,14 @@ IsReadingFault Socket = ⊥
 IsReadingFault NoMemory = ⊤
 
 -- a run so far
-pub record Progress (nodes memory number : ℕ) (world : Hosting) (read_old read_new written_old written_new : Option (List ℕ)) : Type 0 where
+pub record Progress (nodes memory number : ℕ) (world : Hosting) (workers : Crew) (read_old read_new written_old written_new : Option (List ℕ)) : Type 0 where
   -- newest first
   pub lines : List Heard
   -- the number of the next line
   pub counted : suc (length lines) ≡ number
   pub heard : AreHeard nodes lines
   pub after : IsAfter nodes memory world (history_of lines)
+  pub crew : IsCrewAfter nodes workers (history_of lines)
   pub consumed : Consumes read_old read_new (input_of lines)
   pub written : Appends written_old written_new (output_of lines)
 

@@ -1,8 +1,7 @@
 //! The command line of `store`.
-ghost use Rattle.std.specs.Prelude.{◌≡◌, true, IfOk, IfSome};
+ghost use Rattle.std.specs.Prelude.{IfOk, IfSome};
 ghost use Rattle.clap.specs.Words.{found_of, kind_of};
-ghost use Rattle.world_core.specs.Worlds.{is_shape};
-ghost use Rattle.store_program.specs.CommandLine.{Asks, shape_of, IsStatusOfError};
+ghost use Rattle.store_program.specs.CommandLine.{Asks, IsTask, IsStatusOfError};
 
 use clap::builder::ValueParser;
 use clap::error::ErrorKind;
@@ -18,6 +17,8 @@ pub enum Task<'a> {
     Run(Shape),
     /// Nodes that serve sessions.
     Serve(Serving<'a>),
+    /// The replay of the saved journal of this path.
+    Replay(&'a str),
 }
 
 /// What nodes that serve are to be.
@@ -34,13 +35,18 @@ pub struct Serving<'a> {
 /// What the words, the program's name first, ask for. Otherwise the error has what there is to print: help, the version, or
 /// what is wrong with the words.
 pub fn read_task<'a>(alloc: Global, words: &'a [String]) -> Result<Task<'a>, Error>
-    ensures { IfOk result (λ task. is_shape (shape_of task) ≡ true) }
+    ensures { IfOk result IsTask }
 {
     let mut command = store_command(alloc)?;
     let matches = command.try_get_matches_from_mut(words)?;
     if let Some(serve) = matches.subcommand_matches("serve") {
         if let Some(serving) = serving_asked(serve) {
             return Ok(Task::Serve(serving));
+        }
+    }
+    if let Some(replay) = matches.subcommand_matches("replay") {
+        if let Some(path) = replay.get_str("path") {
+            return Ok(Task::Replay(path));
         }
     }
     match matches.subcommand_matches("run").and_then(shape_asked) {
@@ -56,7 +62,8 @@ fn store_command<'a>(alloc: Global) -> Result<Command<'a>, AllocError> {
         .version("0.1.0")
         .about("The shared, immutable object store of a node, used by many jobs at once")
         .subcommand(run_command(alloc)?)?
-        .subcommand(serve_command(alloc)?)
+        .subcommand(serve_command(alloc)?)?
+        .subcommand(replay_command(alloc)?)
 }
 
 /// The status of a process whose words ask for no run: 0 after help or the version, 2 after a mistake.
@@ -77,7 +84,7 @@ fn run_command<'a>(alloc: Global) -> Result<Command<'a>, AllocError> {
 /// `serve`, with its options.
 fn serve_command<'a>(alloc: Global) -> Result<Command<'a>, AllocError> {
     Command::new(alloc, "serve")
-        .about("Serves sessions on Unix sockets; nothing is spilled or fetched yet")
+        .about("Serves sessions on Unix sockets; nothing is fetched from other nodes yet")
         .arg(
             path_option(alloc, "socket")
                 .value_name("PATH")
@@ -89,6 +96,21 @@ fn serve_command<'a>(alloc: Global) -> Result<Command<'a>, AllocError> {
             path_option(alloc, "spill").value_name("DIR").help(
                 "Node K spills into the folder DIR/K, which is made if it is missing",
             ),
+        )
+}
+
+/// `replay`, with its path.
+fn replay_command<'a>(alloc: Global) -> Result<Command<'a>, AllocError> {
+    Command::new(alloc, "replay")
+        .about(
+            "Replays a saved journal, and prints the first answer that isn't the one that is due",
+        )
+        .arg(
+            Arg::new(alloc, "path")
+                .value_name("PATH")
+                .action(ArgAction::Set)
+                .required(true)
+                .help("The file of the saved journal"),
         )
 }
 

@@ -103,8 +103,9 @@ fn run_line<W: Write>(
     line: &[u8],
     writer: &mut W,
 ) -> Result<(), Fault>
-    requires { length world.old.nodes ≡ nodes }
-    ensures ok { OnOk result (RunsLine nodes line.now world.old world.new (W.contents writer.old) (W.contents writer.new)) }
+    requires world { length world.old.nodes ≡ nodes }
+    requires workers { length workers.old.devices ≡ nodes }
+    ensures ok { OnOk result (RunsLine nodes line.now world.old workers.old world.new workers.new (W.contents writer.old) (W.contents writer.new)) }
     ensures err { IfErr result (λ fault. StopsRun nodes number line.now (W.contents writer.old) (W.contents writer.new) fault) }
 {
     let Some((b'\n', text)) = line.split_last() else {
@@ -146,7 +147,7 @@ fn run_step<W: Write>(
     writer: &mut W,
 ) -> Result<(), Fault>
     requires { is_within (length world.old.nodes) step.now ≡ true }
-    ensures ok { OnOk result (RunsStep world.old step.now world.new (W.contents writer.old) (W.contents writer.new)) }
+    ensures ok { OnOk result (RunsStep world.old workers.old step.now world.new workers.new (W.contents writer.old) (W.contents writer.new)) }
     ensures err { IfErr result (λ fault. StopsStep (W.contents writer.old) (W.contents writer.new) fault) }
 {
     let Ok(line) = answered(alloc, world, workers, step) else {
@@ -166,11 +167,10 @@ fn answered(
     step: &Step,
 ) -> Result<String, AllocError>
     requires { is_within (length world.old.nodes) step.now ≡ true }
-    ensures { IfOk result (λ line. Answers world.old step.now (string_bytes line) world.new) }
+    ensures { IfOk result (λ line. Answers world.old workers.old step.now (string_bytes line) world.new workers.new) }
 {
-    workers.reserve()?;
     let answer = world.step(step);
     let line = answer_line(alloc, Prefix::of(step), &answer)?;
-    workers.note(step, answer);
+    workers.note(step, answer)?;
     Ok(line)
 }

@@ -1,17 +1,20 @@
 //! The device workers of a schedule: what is handed in for a work that a line finishes.
-ghost use Rattle.std.specs.Prelude.{◌≡◌, ◌<◌, length, IfOk};
-ghost use Rattle.store_program.specs.Lines.{IsHandedIn};
+ghost use Rattle.std.specs.Prelude.{◌≡◌, ◌<◌, [], not, length, filter, find, option_map, IfOk, OnOk};
+ghost use Rattle.obj_id.specs.declared.works.DeviceKey.{DeviceKey};
+ghost use Rattle.spill_device.specs.Held.{bytes_at};
+ghost use Rattle.store_program.specs.Workers.{Calls, IsCrewAfter, call_answer, called, damaged as damaged_lem, handed_in, held_by, is_at as is_at_lem, noted, bytes_after, written_for};
 
 use bytes::Bytes;
-use obj_id::{DeviceAnswer, JobNo, Refusal, Reply, Work, WorkKind};
+use obj_id::{DeviceAnswer, JobNo, Refusal, Reply, Work};
 use private_store::{Event, Step, StepAnswer};
 use schedule_text::Outcome;
 use spill_device::{DeviceFault, MemoryDevice, SpillDevice};
 use std::alloc::{AllocError, Global};
+use std::marker::Model;
 
 /// A work that a line took at a node.
 #[derive(Drop)]
-struct Taken {
+pub(crate) struct Taken {
     node: u32,
     work: Work<Bytes>,
 }
@@ -24,9 +27,19 @@ pub(crate) struct Workers {
     taken: Vec<Taken>,
 }
 
+impl Model for Workers {
+    ghost use Rattle.store_program.specs.Workers.{Crew};
+
+    ghost Value = { Crew };
+
+    ghost view = { λ w. record { devices = w.devices.items; taken = w.taken.items } };
+}
+
 impl Workers {
     /// Workers of so many nodes, whose devices keep nothing.
-    pub(crate) fn new(alloc: Global, nodes: u32) -> Result<Workers, AllocError> {
+    pub(crate) fn new(alloc: Global, nodes: u32) -> Result<Workers, AllocError>
+        ensures { IfOk result (λ workers. IsCrewAfter nodes workers []) }
+    {
         let mut devices = Vec::new(alloc);
         for _ in 0..nodes {
             devices.push(MemoryDevice::new(alloc))?;
@@ -38,11 +51,6 @@ impl Workers {
         })
     }
 
-    /// Makes room for one more work that is taken.
-    pub(crate) fn reserve(&mut self) -> Result<(), AllocError> {
-        self.taken.reserve(1)
-    }
-
     /// What is handed in for the work: the answer of the node's device, which is called now; or a failure without a call.
     /// For a work that nobody has taken no device is called.
     pub(crate) fn hand_in(
@@ -52,7 +60,9 @@ impl Workers {
         number: u64,
         outcome: Outcome,
     ) -> Result<DeviceAnswer, AllocError>
-        ensures { IfOk result (IsHandedIn outcome) }
+        requires { node < length self.old.devices }
+        ensures answer { IfOk result (λ answer. answer ≡ handed_in self.old.taken (held_by self.old.devices) node job number outcome) }
+        ensures calls { IfOk result (λ answer. Calls self.old node job number answer self.new) }
     {
         match outcome {
             Outcome::Fail => Ok(DeviceAnswer::Failed),
@@ -65,57 +75,76 @@ impl Workers {
     }
 
     /// The answer of the node's device to the work.
-    fn call(&mut self, node: u32, job: JobNo, number: u64) -> Result<DeviceAnswer, AllocError> {
-        let Some(taken) = self
-            .taken
-            .iter()
-            .find(|taken| is_at(taken, node, job, number))
-        else {
-            return Ok(DeviceAnswer::Failed);
-        };
-        let Some(device) = self.devices.get_mut(node as usize) else {
-            return Ok(DeviceAnswer::Failed);
-        };
-        answer_of(device, &taken.work)
+    fn call(&mut self, node: u32, job: JobNo, number: u64) -> Result<DeviceAnswer, AllocError>
+        requires { node < length self.old.devices }
+        ensures answer { IfOk result (λ answer. answer ≡ called (held_by self.old.devices) node (find (is_at_lem node job number) self.old.taken)) }
+        ensures calls { IfOk result (λ answer. Calls self.old node job number answer self.new) }
+    {
+        let Workers {
+            alloc: _,
+            devices,
+            taken,
+        } = self;
+        match find_at(taken, node, job, number) {
+            None => Ok(DeviceAnswer::Failed),
+            Some(taken) => answer_of(&mut devices[node as usize], &taken.work),
+        }
     }
 
-    /// What the step was answered: a work that it gave is kept, for which there is room, and one that it finished is not
-    /// kept any longer.
-    pub(crate) fn note(&mut self, step: &Step, answer: StepAnswer) {
+    /// What the step was answered: a work that it gave is kept, and one that it finished is not kept any longer.
+    pub(crate) fn note(&mut self, step: &Step, answer: StepAnswer) -> Result<(), AllocError>
+        ensures { OnOk result (self.new ≡ noted step.now answer self.old) }
+    {
         match (step, answer) {
             (Step::At(node, Event::Take), StepAnswer::Told(Reply::Work(work))) => {
-                let _ = self.taken.push(Taken { node: *node, work });
+                self.taken.push(Taken { node: *node, work })?;
             }
             (Step::At(_, Event::Finish(..)), StepAnswer::Told(Reply::Refused(Refusal::NoMemory))) =>
                 {}
             (Step::At(node, Event::Finish(job, number, _)), _) => self.finish(*node, *job, *number),
             _ => {}
         }
+        Ok(())
     }
 
     /// The work is not kept any longer.
-    fn finish(&mut self, node: u32, job: JobNo, number: u64) {
-        self.taken.retain(|taken| !is_at(taken, node, job, number));
+    fn finish(&mut self, node: u32, job: JobNo, number: u64)
+        ensures { self.new ≡ record self.old { taken = filter (λ t. not (is_at_lem node job number t)) self.old.taken } }
+    {
+        take_out(&mut self.taken, node, job, number);
     }
 }
 
+/// The job's work under the number at the node, if it is kept.
+fn find_at(taken: &[Taken], node: u32, job: JobNo, number: u64) -> Option<&Taken>
+    ensures { option_map (λ t. t.now) result ≡ find (is_at_lem node job number) taken.now }
+{
+    taken.iter().find(|taken| is_at(taken, node, job, number))
+}
+
+/// Takes out the job's work under the number at the node.
+fn take_out(taken: &mut Vec<Taken>, node: u32, job: JobNo, number: u64)
+    ensures { taken.new.items ≡ filter (λ t. not (is_at_lem node job number t)) taken.old.items }
+{
+    taken.retain(|taken| !is_at(taken, node, job, number));
+}
+
 /// Whether it is the job's work under the number at the node.
-fn is_at(taken: &Taken, node: u32, job: JobNo, number: u64) -> bool {
+fn is_at(taken: &Taken, node: u32, job: JobNo, number: u64) -> bool
+    ensures { result ≡ is_at_lem node job number taken.now }
+{
     taken.node == node && taken.work.job == job && taken.work.number == number
 }
 
 /// What the device answers to the work, which is called: a write's bytes are kept under its key, and a read's are
 /// those that are. The error is out of memory.
-fn answer_of(device: &mut MemoryDevice, work: &Work<Bytes>) -> Result<DeviceAnswer, AllocError> {
-    let answer = match (work.kind, work.payload.as_ref()) {
-        (WorkKind::Write, Some(bytes)) => match device.write(work.key, bytes) {
-            Ok(()) => Ok(DeviceAnswer::Done),
-            Err(fault) => Err(fault),
-        },
-        _ => match device.read(work.key, work.length) {
-            Ok(bytes) => Ok(DeviceAnswer::Bytes(bytes)),
-            Err(fault) => Err(fault),
-        },
+fn answer_of(device: &mut MemoryDevice, work: &Work<Bytes>) -> Result<DeviceAnswer, AllocError>
+    ensures answer { IfOk result (λ answer. answer ≡ call_answer (bytes_at device.old work.now.key) work.now) }
+    ensures holds { OnOk result ((key : DeviceKey) → bytes_at device.new key ≡ bytes_after (written_for work.now key) (bytes_at device.old key)) }
+{
+    let answer = match work.payload.as_ref() {
+        Some(bytes) => device.write(work.key, bytes).map(|()| DeviceAnswer::Done),
+        None => device.read(work.key, work.length).map(DeviceAnswer::Bytes),
     };
     match answer {
         Ok(answer) => Ok(answer),
@@ -125,7 +154,9 @@ fn answer_of(device: &mut MemoryDevice, work: &Work<Bytes>) -> Result<DeviceAnsw
 }
 
 /// The answer, with the low bit of its first byte turned, if it has bytes.
-fn damaged(alloc: Global, answer: DeviceAnswer) -> Result<DeviceAnswer, AllocError> {
+fn damaged(alloc: Global, answer: DeviceAnswer) -> Result<DeviceAnswer, AllocError>
+    ensures { IfOk result (λ a. a ≡ damaged_lem answer) }
+{
     let DeviceAnswer::Bytes(bytes) = answer else {
         return Ok(answer);
     };

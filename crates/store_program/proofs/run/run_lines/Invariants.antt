@@ -2,4 +2,4 @@ use Rattle.store_program.specs.Runs.{Progress}
 use Rattle.store_program.proofs.run.run_lines.Given as goal
 
 abbrev pub invariant-loop-number : goal.invariant-loop-number
-invariant-loop-number g l = Progress l.fn.shape.nodes l.fn.shape.memory l.number l.world (g.R.Read.remaining l.fn.reader) (g.R.Read.remaining l.reader) (g.W.Write.contents l.fn.writer) (g.W.Write.contents l.writer)
+invariant-loop-number g l = Progress l.fn.shape.nodes l.fn.shape.memory l.number l.world l.workers (g.R.Read.remaining l.fn.reader) (g.R.Read.remaining l.reader) (g.W.Write.contents l.fn.writer) (g.W.Write.contents l.writer)
