@@ -6,8 +6,10 @@ ghost use Rattle.world_core.specs.Worlds.{is_shape};
 
 mod serving;
 
+use journal_replay::{ReplayFault, Verdict, replay_text, status_of as status_of_replay};
 use serving::serve;
-use std::io::{BufReader, BufWriter};
+use std::fs::File;
+use std::io::{BufReader, BufWriter, ErrorKind};
 use std::process::ExitCode;
 use std::{env, io};
 use store_program::{Fault, Task, read_task, run_text, status_of, status_of_error};
@@ -25,6 +27,7 @@ fn main(rt: HostRuntime) -> io::Result<ExitCode> {
     let outcome = match task {
         Task::Run(shape) => run(&rt, shape),
         Task::Serve(serving) => serve(rt, rt, serving, rt.reader(), io::writer(&rt)),
+        Task::Replay(path) => return replay(&rt, path),
     };
     if let Err(fault) = outcome {
         rt.eprintln(fault)?;
@@ -44,4 +47,30 @@ fn run(rt: &HostRuntime, shape: Shape) -> Result<(), Fault>
         return Err(Fault::NoMemory)
     };
     run_text(alloc, shape, &mut reader, &mut writer)
+}
+
+/// Replays the saved journal of this path, and prints what came of it.
+fn replay(rt: &HostRuntime, path: &str) -> io::Result<ExitCode> {
+    let outcome = replay_file(rt, path);
+    if let Err(fault) = outcome {
+        rt.eprintln(fault)?;
+    }
+    Ok(ExitCode::from(status_of_replay(&outcome)))
+}
+
+/// The same, without what a fault says.
+fn replay_file(rt: &HostRuntime, path: &str) -> Result<Verdict, ReplayFault> {
+    let alloc = rt.alloc();
+    let file = match File::open(rt, path) {
+        Ok(file) => file,
+        Err(error) if error.kind() == ErrorKind::OutOfMemory => return Err(ReplayFault::NoMemory),
+        Err(_) => return Err(ReplayFault::Input),
+    };
+    let Ok(mut reader) = BufReader::new(alloc, file) else {
+        return Err(ReplayFault::NoMemory)
+    };
+    let Ok(mut writer) = BufWriter::new(alloc, io::writer(rt)) else {
+        return Err(ReplayFault::NoMemory)
+    };
+    replay_text(alloc, &mut reader, &mut writer)
 }
