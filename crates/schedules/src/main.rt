@@ -1,8 +1,9 @@
-//! Runs the worked schedules of each folder that its arguments name, as `store` runs them, and says which of them are
-//! answered otherwise than was written down beforehand.
+//! Runs the worked schedules and replays the journals of each folder that its arguments name, as `store` does, and says
+//! which of them are answered otherwise than was written down beforehand.
 //!
-//! Beside `NAME.schedule` lies `NAME.expected`: what is printed, then of a fault its line and the status. If there is a
-//! `NAME.args`, it has the words of the command line, one a line; otherwise the word is `run`.
+//! Beside `NAME.schedule` or `NAME.journal` lies `NAME.expected`: what is printed, then the status if it isn't 0, after the
+//! line of a fault. If there is a `NAME.args`, it has the words of the command line, one a line; otherwise the word is
+//! `run`, or `replay` of a journal.
 #![tactic(auto)]
 
 mod compare;
@@ -48,7 +49,7 @@ fn run_all(rt: &HostRuntime, names: &[String]) -> io::Result<Tally>
 /// Runs one schedule, and prints the first line that isn't as expected, if there is one.
 fn difference_of(rt: &HostRuntime, name: &str) -> io::Result<Option<u64>> {
     let case = Case::read(rt, name)?;
-    let printed = told(rt.alloc(), case.words.as_slice(), case.schedule.as_slice())?;
+    let printed = told(rt.alloc(), case.words.as_slice(), case.text.as_slice())?;
     let Some(line) = first_difference(case.expected.as_slice(), printed.as_slice()) else {
         return Ok(None);
     };
