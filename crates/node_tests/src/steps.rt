@@ -1,6 +1,7 @@
 //! A world of two nodes, step by step, and two worlds beside each other.
-ghost use Rattle.std.specs.Prelude.{◌≡◌, ◌<◌, true, length, IfOk};
+ghost use Rattle.std.specs.Prelude.{◌≡◌, ◌<◌, ◌≤◌, true, length, IfOk};
 ghost use Rattle.std.specs.List.{list_all};
+ghost use Rattle.job_admission.specs.Admissions.{largest_memory};
 ghost use Rattle.world_core.specs.Worlds.{is_within};
 
 use crate::lines::step_of;
@@ -13,9 +14,12 @@ use std::process::Abort;
 use std::test::Fail;
 use world_core::{Shape, Trace, World, run_two};
 
+/// The bytes of a node's memory, where a test needs no other number.
+const MEMORY: u64 = 1_073_741_824;
+
 const TWO_NODES: Shape = Shape {
     nodes: 2,
-    memory: 1_073_741_824,
+    memory: MEMORY,
 };
 
 fn wants_memory(answer: &StepAnswer) -> bool {
@@ -197,6 +201,72 @@ fn a_command_of_hands_that_wanted_memory_can_be_taken_again(rt: HostRuntime) -> 
     check(&rt, rt.alloc(), HANDS)
 }
 
+const EVERY_STEP: &str = "\
+admit 0 1 64 64 = n0 op ok
+admit 1 1 64 0 = n1 op ok
+admit 0 2 64 0 = n0 op ok
+cmd 0 1 1 create t1.1 32 = n0 j1 s1 placed 0 32
+cmd 0 1 1 write t1.1 30 0000 = n0 j1 s1 ok
+cmd 0 1 1 seal t1.1 = n0 j1 s1 ok
+cmd 0 1 1 copy t2.1 16 = n0 j1 s1 placed 32 16
+cmd 0 1 1 seal t2.1 = n0 j1 s1 ok
+cmd 0 1 1 borrow t1.1 t3 = n0 j1 s1 ok
+cmd 0 1 1 giveup t1.1 t3 = n0 j1 s1 ok
+cmd 0 1 1 grant t1.1 2 = n0 j1 s1 ok
+cmd 0 2 1 peek 1/t1.1 28 4 = n0 j2 s1 bytes 00000000
+cmd 0 2 1 grant 1/t1.1 3 = n0 j2 s1 ok
+cmd 0 2 1 list = n0 j2 s1 list 1/t1.1:granted:32:1
+cmd 0 1 1 withdraw t1.1 2 = n0 j1 s1 ok
+cmd 0 2 1 list = n0 j2 s1 list
+deliver 1 0 d 1 = net ok
+cmd 1 1 1 get t1.1 = n1 j1 s1 refused 10 Pending
+deliver 1 1 d 1 = net ok
+deliver 1 d 1 1 = net ok
+cmd 1 1 1 get t1.1 = n1 j1 s1 refused 10 Pending
+cmd 0 1 1 create t1.2 48 = n0 j1 s1 refused 10 Pending
+take 0 = n0 dev work 1 1 write 32
+finish 0 1 1 fail = n0 dev ok
+cmd 0 1 1 create t1.2 48 = n0 j1 s1 refused 14 DeviceFailed
+cmd 0 1 1 create t1.2 48 = n0 j1 s1 refused 10 Pending
+take 0 = n0 dev work 1 2 write 32
+finish 0 1 2 ok = n0 dev ok
+cmd 0 1 1 create t1.2 48 = n0 j1 s1 placed 0 48
+deliver 1 1 0 1 = net ok
+cmd 0 1 1 delete t1.2 = n0 j1 s1 ok
+deliver 1 1 0 1 = net ok
+take 0 = n0 dev work 1 3 read 32
+finish 0 1 3 damage = n0 dev ok
+cmd 0 1 1 get t1.1 = n0 j1 s1 refused 15 Damaged
+cmd 0 1 1 get t1.1 = n0 j1 s1 refused 10 Pending
+take 0 = n0 dev work 1 4 read 32
+finish 0 1 4 ok = n0 dev ok
+cmd 0 1 1 get t1.1 = n0 j1 s1 got 32
+deliver 1 1 0 1 = net ok
+deliver 1 0 1 1 = net ok
+deliver 1 0 1 2 = net none
+cmd 1 1 1 get t1.1 = n1 j1 s1 got 32
+cmd 1 1 1 read t1.1 0 4 = n1 j1 s1 bytes 00000000
+cmd 1 1 1 release t1.1 = n1 j1 s1 ok
+cmd 0 1 1 leave = n0 j1 s1 ok
+quota 0 1 128 64 = n0 op refused 21 NoRoom
+quota 0 2 32 0 = n0 op ok
+cmd 0 1 1 create t4.1 16 = n0 j1 s1 placed 32 16
+cmd 0 1 1 seal t4.1 = n0 j1 s1 ok
+cmd 0 1 1 unpin t4.1 t4 = n0 j1 s1 ok
+cmd 0 1 1 create t4.2 16 = n0 j1 s1 placed 32 16
+cmd 0 1 1 seal t4.2 = n0 j1 s1 ok
+cmd 0 1 1 grant t4.2 2 = n0 j1 s1 ok
+cmd 0 1 1 endtask t4 = n0 j1 s1 ok
+cmd 0 1 1 usage = n0 j1 s1 usage 64 32 64 32 1 0
+cmd 0 1 1 list = n0 j1 s1 list t1.1:sealed:primary:32
+end 0 1 = n0 op ok
+cmd 0 1 1 usage = n0 j1 s1 refused 1 NotAdmitted";
+
+#[test]
+fn every_step_that_wanted_memory_can_be_taken_again(rt: HostRuntime) -> Result<(), Fail> {
+    check(&rt, rt.alloc(), EVERY_STEP)
+}
+
 /// The schedule of these lines.
 fn schedule_of(rt: &impl Abort, alloc: Global, lines: &str) -> Result<Vec<Step>, AllocError>
     ensures { IfOk result (λ steps. list_all (is_within 2) steps.items ≡ true) }
@@ -236,12 +306,16 @@ fn told_to(alloc: Global, job: JobNo, trace: &Trace) -> Result<Option<String>, A
 fn told_in_both(
     rt: &impl Abort,
     alloc: Global,
+    memory: u64,
     lines: &str,
     others: &str,
-) -> Result<Option<(String, String)>, Fail> {
+) -> Result<Option<(String, String)>, Fail>
+    requires { memory ≤ largest_memory }
+{
     let first = schedule_of(rt, alloc, lines)?;
     let second = schedule_of(rt, alloc, others)?;
-    let Ok((first, second)) = run_two(alloc, TWO_NODES, first, second) else {
+    let shape = Shape { nodes: 2, memory };
+    let Ok((first, second)) = run_two(alloc, shape, first, second) else {
         return Ok(None);
     };
     both_told(alloc, &first, &second)
@@ -284,20 +358,131 @@ n0 j1 s1 placed 0 32
 n0 j1 s1 list t1.2:created:primary:32
 ";
 
-/// Whether job 1 is told this beside its neighbour and without it; nothing if memory ran out.
-fn is_told_alike(rt: &impl Abort, alloc: Global) -> Result<Option<bool>, Fail> {
-    match told_in_both(rt, alloc, BESIDE, ALONE)? {
-        Some((beside, alone)) => Ok(Some(beside.as_str() == TOLD && alone.as_str() == TOLD)),
-        None => Ok(None),
-    }
+/// Checks that job 1 is told this in both runs, on nodes with so many bytes of memory. A run in which memory ran out is made
+/// once more.
+fn check_told_alike(
+    rt: &impl Abort,
+    alloc: Global,
+    memory: u64,
+    beside: &str,
+    alone: &str,
+    told: &str,
+) -> Result<(), Fail>
+    requires { memory ≤ largest_memory }
+{
+    let both = match told_in_both(rt, alloc, memory, beside, alone)? {
+        None => told_in_both(rt, alloc, memory, beside, alone)?,
+        both => both,
+    };
+    let (beside, alone) = both.ok_or("out of memory twice")?;
+    same!(rt; beside.as_str(), told);
+    same!(rt; alone.as_str(), told);
+    Ok(())
 }
 
 #[test]
 fn a_job_is_told_the_same_without_its_neighbour(rt: HostRuntime) -> Result<(), Fail> {
-    let told = match is_told_alike(&rt, rt.alloc())? {
-        None => is_told_alike(&rt, rt.alloc())?,
-        told => told,
-    };
-    same!(rt; told, Some(true));
-    Ok(())
+    check_told_alike(&rt, rt.alloc(), MEMORY, BESIDE, ALONE, TOLD)
+}
+
+const HANDS_BESIDE: &str = "\
+admit 0 1 64 0
+admit 0 2 64 0
+admit 0 3 64 0
+admit 0 4 64 0
+admit 0 5 64 0
+cmd 0 1 1 create t1.1 4
+cmd 0 1 1 write t1.1 0 61626364
+cmd 0 1 1 seal t1.1
+cmd 0 1 1 grant t1.1 2
+cmd 0 2 1 grant 1/t1.1 3
+cmd 0 3 1 grant 1/t1.1 1
+cmd 0 3 1 grant 1/t1.1 4
+cmd 0 4 1 peek 1/t1.1 0 4
+cmd 0 4 1 list
+cmd 0 4 1 grant 1/t1.1 5
+cmd 0 5 1 grant 1/t1.1 2
+cmd 0 1 1 withdraw t1.1 2
+cmd 0 3 1 peek 1/t1.1 0 4
+cmd 0 4 1 peek 1/t1.1 0 4
+cmd 0 2 1 withdraw 1/t1.1 3";
+
+const HANDS_ALONE: &str = "\
+admit 0 1 64 0
+admit 0 2 64 0
+cmd 0 1 1 create t1.1 4
+cmd 0 1 1 write t1.1 0 61626364
+cmd 0 1 1 seal t1.1
+cmd 0 1 1 grant t1.1 2
+cmd 0 1 1 withdraw t1.1 2";
+
+const HANDS_TOLD: &str = "\
+n0 j1 s1 placed 0 16
+n0 j1 s1 ok
+n0 j1 s1 ok
+n0 j1 s1 ok
+n0 j1 s1 ok
+";
+
+#[test]
+fn a_giver_is_told_the_same_without_those_who_hand_on(rt: HostRuntime) -> Result<(), Fail> {
+    check_told_alike(
+        &rt,
+        rt.alloc(),
+        MEMORY,
+        HANDS_BESIDE,
+        HANDS_ALONE,
+        HANDS_TOLD,
+    )
+}
+
+const QUOTAS_BESIDE: &str = "\
+admit 0 1 64 0
+admit 0 2 32 0
+quota 0 1 80 0
+cmd 0 1 1 create t1.1 16
+cmd 0 1 1 create t1.2 16
+quota 0 1 16 0
+cmd 0 1 1 delete t1.2
+quota 0 1 16 0
+cmd 0 1 1 usage
+cmd 0 1 1 create t1.3 17
+quota 0 2 64 0
+cmd 0 2 1 usage
+quota 0 1 48 0
+cmd 0 1 1 create t1.3 17
+quota 0 7 64 0";
+
+const QUOTAS_ALONE: &str = "\
+admit 0 1 64 0
+cmd 0 1 1 create t1.1 16
+cmd 0 1 1 create t1.2 16
+quota 0 1 16 0
+cmd 0 1 1 delete t1.2
+quota 0 1 16 0
+cmd 0 1 1 usage
+cmd 0 1 1 create t1.3 17
+quota 0 1 48 0
+cmd 0 1 1 create t1.3 17
+quota 0 7 64 0";
+
+const QUOTAS_TOLD: &str = "\
+n0 j1 s1 placed 0 16
+n0 j1 s1 placed 16 16
+n0 j1 s1 ok
+n0 j1 s1 usage 16 16 0 0 1 0
+n0 j1 s1 refused 7 BadSize
+n0 j1 s1 placed 16 32
+";
+
+#[test]
+fn a_job_is_told_the_same_without_anothers_quota(rt: HostRuntime) -> Result<(), Fail> {
+    check_told_alike(
+        &rt,
+        rt.alloc(),
+        128,
+        QUOTAS_BESIDE,
+        QUOTAS_ALONE,
+        QUOTAS_TOLD,
+    )
 }
