@@ -46,9 +46,9 @@ module _ {X : Type 0} (f : X → X) (id : ObjectId) (es : List (ObjectId × X)) 
   on_err (Ok v) new x y found is set = tt
   on_err (Err e) new x y found is set = unwritten new x y found is set
 
--- a test of an entry, where it is there
-pub tested : {X : Type 0} (test : X → Bool) (id : ObjectId) (es : List (ObjectId × X)) (now : ById X) (x : X) → by_rising_id es ≡ now → lookup (id_eq id) es ≡ Some x → option_map_or test (at now id) true ≡ true → test x ≡ true
-tested test id es now x seen found h = ap (λ o. option_map_or test o true) (sym (at-rising es id ∙ found)) ∙ ap (λ t. option_map_or test (at t id) true) seen ∙ h
+-- what every entry of the id passes, the one that is there passes
+pub passes : {X : Type 0} (test : X → Bool) (o : Option X) (x : X) → o ≡ Some x → option_map_or test o true ≡ true → test x ≡ true
+passes test o x found h = ap (λ o. option_map_or test o true) (sym found) ∙ h
 
 -- an entry put where there was none, and taken out again
 pub put_back : {X : Type 0} (id : ObjectId) (es : ById X) (x : X) → at es id ≡ None → without_entry (with_entry es id x) id ≡ es

@@ -98,7 +98,7 @@ module _ (task : TaskNo) where
   abbrev pub ended : ObjectId → Kept → Kept
   ended id k = cond (same_task task id.task) (ungranted k) k
 
-  same_part : {X : Type 0} (part : Kept → X) → ((z : Kept) → part (ungranted z) ≡ part z) → (b : Bool) (z : Kept) → part (cond b (ungranted z) z) ≡ part z
+  pub same_part : {X : Type 0} (part : Kept → X) → ((z : Kept) → part (ungranted z) ≡ part z) → (b : Bool) (z : Kept) → part (cond b (ungranted z) z) ≡ part z
   same_part part same true z = same z
   same_part part same false z = refl
 

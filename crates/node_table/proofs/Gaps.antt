@@ -196,9 +196,8 @@ module _ (node : ℕ) (row : Row) (beside : Beside) (contents : Contents) (h : I
       ∙ ap (λ p. fills_one number from index (length bytes) (record (of_length of.k.copy.length of.fetch) { phase = p })) is
       ∙ (λ i. numbers_turn of.fetch.number number of.numbered i && itself i && missed i && long i)
 
-  pub not_filled : option_map_or (fills number from index (length bytes)) (at row.copies id) false ≡ false → TakesStep node row beside contents x (only reply.Ok) row beside
-  not_filled e =
-      ignored node row beside contents h x refl (step_is (fetch_of s id number) refl verdict.Ignored is_ignored ∙ ignored_all (fetch_of s id number)) (brings verdict.Ignored is_ignored) refl
+  pub not_filled_is : option_map_or (fills number from index (length bytes)) (at row.copies id) false ≡ false → told_verdict ≡ verdict.Ignored
+  not_filled_is e = elim (fetch_case row beside id number) [ inl none ↦ ap verdict_of none | inr of ↦ ap verdict_of (fetch_is row beside id number of) ∙ by of of.fetch.phase refl ]
     where
       by_test : (of : IsOf row id number) (source : ℕ) (missing : List ℕ) → of.fetch.phase ≡ pulling source missing → (a m l : Bool) → (from == source) ≡ a → is_missing missing index ≡ m → (length bytes == chunk_length of.k.copy.length index) ≡ l
           → cond (a && m && l) (gap_verdict v id index bytes (others index missing)) verdict.Ignored ≡ verdict.Ignored
@@ -213,8 +212,10 @@ module _ (node : ℕ) (row : Row) (beside : Beside) (contents : Contents) (h : I
       by of (sized source) is = refl
       by of (failed fault) is = refl
 
-      is_ignored : told_verdict ≡ verdict.Ignored
-      is_ignored = elim (fetch_case row beside id number) [ inl none ↦ ap verdict_of none | inr of ↦ ap verdict_of (fetch_is row beside id number of) ∙ by of of.fetch.phase refl ]
+  pub not_filled : option_map_or (fills number from index (length bytes)) (at row.copies id) false ≡ false → TakesStep node row beside contents x (only reply.Ok) row beside
+  not_filled e =
+      let is_ignored = not_filled_is e in
+      ignored node row beside contents h x refl (step_is (fetch_of s id number) refl verdict.Ignored is_ignored ∙ ignored_all (fetch_of s id number)) (brings verdict.Ignored is_ignored) refl
 
   -- ---- one that fills a gap
 
@@ -298,6 +299,17 @@ module _ (node : ℕ) (row : Row) (beside : Beside) (contents : Contents) (h : I
         by Restoring t = true_false t
         by Away t = true_false t
 
+    lacks_is : option_map_or (lacks_only index) (at row.copies id) false ≡ list_all (λ i. i == index) a.missing
+    lacks_is =
+        ap (λ o. option_map_or (lacks_only index) o false) a.of.found ∙ ap (λ o. option_map_or (λ (f : Fetch). list_all (λ i. i == index) (missing_of f.phase)) o false) a.of.fetched
+        ∙ ap (λ p. list_all (λ i. i == index) (missing_of p)) a.pulled
+
+    rest_left : option_map_or (lacks_only index) (at row.copies id) false ≡ false → (i : ℕ) × (rest : List ℕ) × (left ≡ i ∷ rest)
+    rest_left lacks = some_left index a.missing (sym lacks_is ∙ lacks)
+
+    pub part_is : option_map_or (lacks_only index) (at row.copies id) false ≡ false → told_verdict ≡ verdict.Part
+    part_is lacks = verdict_is ∙ ap (gap_verdict v id index bytes) (rest_left lacks).2
+
     module _ (placed : ArePlaced row.window.placed (place_of row.copies)) where
       here : take k.copy.length (placed_bytes e wrote.window.placed) ≡ whole
       here = written_here row beside contents h id k a.of.found e lies long (65536 * index) bytes within placed
@@ -338,8 +350,8 @@ module _ (node : ℕ) (row : Row) (beside : Beside) (contents : Contents) (h : I
 
       pub part_done : option_map_or (lacks_only index) (at row.copies id) false ≡ false → TakesStep node row beside contents x (only reply.Ok) (with_copy closed wrote id) beside
       part_done lacks =
-          let rest = some_left index a.missing (sym (ap (λ o. option_map_or (lacks_only index) o false) a.of.found ∙ ap (λ o. option_map_or (λ (f : Fetch). list_all (λ i. i == index) (missing_of f.phase)) o false) a.of.fetched ∙ ap (λ p. list_all (λ i. i == index) (missing_of p)) a.pulled) ∙ lacks) in
-          let is : told_verdict ≡ verdict.Part = verdict_is ∙ ap (gap_verdict v id index bytes) rest.2 in
+          let rest = rest_left lacks in
+          let is = part_is lacks in
           arrived node row beside contents h x refl id k a.of.found closed wrote.window.placed [] [] refl refl
           (λ f there. shows_here _ (brings verdict.Part is) (closed k).copy f refl (some_value f e (sym there ∙ lies)))
           (λ q z f differs was there. shows_others _ (brings verdict.Part is) q z f differs was there)
@@ -351,12 +363,12 @@ module _ (node : ℕ) (row : Row) (beside : Beside) (contents : Contents) (h : I
 
       module _ (lacks : option_map_or (lacks_only index) (at row.copies id) false ≡ true) (digest : Digest) (has : k.digest ≡ Some digest) where
         none : left ≡ []
-        none = none_left index a.missing (sym (ap (λ o. option_map_or (lacks_only index) o false) a.of.found ∙ ap (λ o. option_map_or (λ (f : Fetch). list_all (λ i. i == index) (missing_of f.phase)) o false) a.of.fetched ∙ ap (λ p. list_all (λ i. i == index) (missing_of p)) a.pulled) ∙ lacks)
+        none = none_left index a.missing (sym lacks_is ∙ lacks)
 
         digest_is : digest_at contents.digests id ≡ digest
         digest_is = h.digests id k a.of.found keeps_now ∙ ap (λ o. unwrap_or o no_digest) has
 
-        last_is : (b : Bool) → has_digest (take k.copy.length (placed_bytes e wrote.window.placed)) digest ≡ b → told_verdict ≡ cond b verdict.Whole verdict.Damaged
+        pub last_is : (b : Bool) → has_digest (take k.copy.length (placed_bytes e wrote.window.placed)) digest ≡ b → told_verdict ≡ cond b verdict.Whole verdict.Damaged
         last_is b is =
             verdict_is ∙ ap (gap_verdict v id index bytes) none
             ∙ ap (λ t. cond t verdict.Whole verdict.Damaged) (ap (has_digest whole) digest_is ∙ ap (λ bs. has_digest bs digest) (sym here) ∙ is)

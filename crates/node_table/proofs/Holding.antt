@@ -11,6 +11,7 @@ use Rattle.private_store.specs.Tables.{ById, at}
 use Rattle.private_store.proofs.Tests.{true_false}
 use Rattle.node_table.specs.Entries.{by_rising_id, changed}
 use Rattle.node_table.specs.Kept.{Kept, is_ready, held}
+use Rattle.node_table.specs.Counted.{taken_by}
 use Rattle.node_table.specs.Holding.{IsHeld, IsUnready, IsHoldRefused, IsHeldAt, IsUnreadyAt, IsHoldRefusedAt}
 use Rattle.node_table.proofs.Changes.{written, unwritten, checked_there, checked_absent}
 
@@ -31,6 +32,12 @@ module _ (session : ℕ) (id : ObjectId) (es : List (ObjectId × Kept)) (now : B
   pub refused_at : (r : Result (Option ℕ) Refusal) → IfErr r (λ refusal. IsHoldRefused x refusal y) → IfErr r (λ refusal. IsHoldRefusedAt now id refusal (by_rising_id new))
   refused_at (Ok o) h = tt
   refused_at (Err e) h = record { kept = x; found = there; ready = h.ready; refused = h.refused; late = h.late; same = unwritten (held session) id es now seen new x y found h.same set }
+
+-- a hold takes no bytes
+pub taken-held : (session : ℕ) (x y : Kept) (r : Result (Option ℕ) Refusal) → IfOk r (λ o. IfSome o (λ n. IsHeld x session n y)) → IfOk r (λ o. IfNone o (IsUnready x y)) → IfErr r (λ refusal. IsHoldRefused x refusal y) → taken_by y ≡ taken_by x
+taken-held session x y (Ok (Some n)) some none refused = ap taken_by some.copy
+taken-held session x y (Ok None) some none refused = ap taken_by none.same
+taken-held session x y (Err e) some none refused = ap taken_by refused.same
 
 -- where there is no copy
 pub none_at : (id : ObjectId) (es : List (ObjectId × Kept)) (now : ById Kept) (new : List (ObjectId × Kept)) → by_rising_id es ≡ now → lookup (id_eq id) es ≡ None → new ≡ es → IsUnreadyAt now id (by_rising_id new)

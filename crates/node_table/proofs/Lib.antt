@@ -20,6 +20,7 @@ pub mod Leaving
 pub mod LeavingEach
 pub mod Telling
 pub mod Totals
+pub mod Sums
 pub mod Described
 pub mod Gathered
 pub mod Planning

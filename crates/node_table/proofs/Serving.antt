@@ -168,6 +168,30 @@ same_removals : (node : ℕ) (v w : View) (x y : Input) (ids : List ObjectId) �
 same_removals node v w x y [] = refl
 same_removals node v w x y (id ∷ ids) = ap (λ posts. to_directory (RemoveLocation id node) ++ posts) (same_removals node v w x y ids)
 
+-- ---- whether it matches
+
+module _ (row : Row) (beside : Beside) (contents : Contents) (h : IsShown row beside contents) (id : ObjectId) (n : ℕ) (digest : Digest) where
+  abbrev matches_of : Option Copy → Bool
+  matches_of o = option_map_or (λ (copy : Copy). was_sealed copy.state && copy.length == n && same_digest digest (digest_at contents.digests id)) o false
+
+  matches_found : (k : Kept) → at row.copies id ≡ Some k → pull_matches (seen row beside contents) id n digest ≡ was_sealed_with n digest k
+  matches_found k found = ap matches_of (at-copies_found row.copies id k found) ∙ by (was_sealed k.copy.state) refl
+    where
+      by : (b : Bool) → was_sealed k.copy.state ≡ b → (was_sealed k.copy.state && k.copy.length == n && same_digest digest (digest_at contents.digests id)) ≡ was_sealed_with n digest k
+      by true e =
+          ap (λ d. was_sealed k.copy.state && k.copy.length == n && same_digest digest d)
+          (h.digests id k found (ap (λ b. cond b true (option_map_or (λ (fetch : Fetch). is_sized fetch.phase) k.copy.fetch false)) e))
+      by false e =
+          ap (λ b. b && k.copy.length == n && same_digest digest (digest_at contents.digests id)) e
+          ∙ sym (ap (λ b. b && k.copy.length == n && same_digest digest (unwrap_or k.digest no_digest)) e)
+
+  pub matches_is : pull_matches (seen row beside contents) id n digest ≡ option_map_or (was_sealed_with n digest) (at row.copies id) false
+  matches_is = by (at row.copies id) refl
+    where
+      by : (o : Option Kept) → at row.copies id ≡ o → pull_matches (seen row beside contents) id n digest ≡ option_map_or (was_sealed_with n digest) o false
+      by None none = ap matches_of (at-copies_none row.copies id none)
+      by (Some k) found = matches_found k found
+
 -- ---- the step
 
 module _ (node : ℕ) (row : Row) (beside : Beside) (contents : Contents) (h : IsShown row beside contents) (from : ℕ) (id : ObjectId) (number n : ℕ) (digest : Digest) (indexes : List ℕ) where
@@ -200,20 +224,6 @@ module _ (node : ℕ) (row : Row) (beside : Beside) (contents : Contents) (h : I
   pull_is = live_is node row beside contents h x refl (pull_arrived row.order s id (pull_matches before id n digest))
 
   module _ (k : Kept) (found : at row.copies id ≡ Some k) where
-    abbrev matches_of : Option Copy → Bool
-    matches_of o = option_map_or (λ (copy : Copy). was_sealed copy.state && copy.length == n && same_digest digest (digest_at contents.digests id)) o false
-
-    matches_is : pull_matches before id n digest ≡ was_sealed_with n digest k
-    matches_is = ap matches_of (at-copies_found row.copies id k found) ∙ by (was_sealed k.copy.state) refl
-      where
-        by : (b : Bool) → was_sealed k.copy.state ≡ b → (was_sealed k.copy.state && k.copy.length == n && same_digest digest (digest_at contents.digests id)) ≡ was_sealed_with n digest k
-        by true e =
-            ap (λ d. was_sealed k.copy.state && k.copy.length == n && same_digest digest d)
-            (h.digests id k found (ap (λ b. cond b true (option_map_or (λ (fetch : Fetch). is_sized fetch.phase) k.copy.fetch false)) e))
-        by false e =
-            ap (λ b. b && k.copy.length == n && same_digest digest (digest_at contents.digests id)) e
-            ∙ sym (ap (λ b. b && k.copy.length == n && same_digest digest (unwrap_or k.digest no_digest)) e)
-
     by_state : (st : CopyState) (fault : Option Fault) → events.pull_answer row.order s id (record k.copy { state = st; fault = fault }) ≡ by_answer (answer_by st fault) (record k.copy { state = st; fault = fault })
     by_state Created fault = refl
     by_state Sealed fault = refl
@@ -230,7 +240,7 @@ module _ (node : ℕ) (row : Row) (beside : Beside) (contents : Contents) (h : I
     found_is : change node row beside contents h x ≡ by_answer (pull_answer n digest (Some k)) k.copy
     found_is =
         pull_is ∙ ap (λ o. arrived_by (pull_matches before id n digest) (shown_copy o)) (at-copies_found row.copies id k found)
-        ∙ ap (λ m. arrived_by m (shown_copy (Some k.copy))) matches_is ∙ by_marks k.copy.doomed (was_sealed_with n digest k)
+        ∙ ap (λ m. arrived_by m (shown_copy (Some k.copy))) (matches_found row beside contents h id n digest k found) ∙ by_marks k.copy.doomed (was_sealed_with n digest k)
 
   none_is : at row.copies id ≡ None → change node row beside contents h x ≡ nowhere
   none_is none = pull_is ∙ ap (λ o. arrived_by (pull_matches before id n digest) (shown_copy o)) (at-copies_none row.copies id none)

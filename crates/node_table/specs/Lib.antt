@@ -7,6 +7,7 @@ pub mod Checks
 pub mod Erased
 pub mod Outcomes
 pub mod Usages
+pub mod Counted
 pub mod RoomPlans
 pub mod Evicting
 pub mod MadeRooms

@@ -9,27 +9,34 @@ ghost use Rattle.obj_id.specs.declared.works.Extent.{Extent};
 ghost use Rattle.private_store.specs.declared.inputs.Input.TheVariants as input;
 ghost use Rattle.private_store.specs.Tables.{at};
 ghost use Rattle.private_store.specs.Copies.{extent_of};
-ghost use Rattle.private_store.specs.Contents.{Contents, has_digest};
+ghost use Rattle.private_store.specs.Contents.{Contents, has_digest, chunk_verdict};
 ghost use Rattle.job_region.specs.Region.{bytes_at as placed_bytes};
 ghost use Rattle.node_table.specs.Arriving.{fills, lacks_only, row_written};
 ghost use Rattle.node_table.specs.Kept.{Kept};
 ghost use Rattle.node_table.specs.Outcomes.{given_of};
 ghost use Rattle.node_table.specs.Row.{Beside, place_of};
-ghost use Rattle.node_table.specs.Shown.{IsShown, TakesStep};
+ghost use Rattle.node_table.specs.Shown.{seen, IsShown, TakesStep};
 
 use crate::outcome::{Erase, Outcome};
 use crate::row::JobRow;
 use obj_id::limits::CHUNK_SIZE;
 use obj_id::{Digest, DirectoryMessage, Location, ObjectId, Reply};
-use private_store::FetchFault;
+use private_store::{ChunkVerdict, FetchFault};
 use sha2::{Digest as _, Sha256};
 use std::alloc::{AllocError, Global};
+
+/// What a chunk gave, and what it was to the fetch that it names.
+#[derive(Drop)]
+pub struct ChunkTaken {
+    pub outcome: Outcome,
+    pub verdict: ChunkVerdict,
+}
 
 impl JobRow {
     /// A chunk of a fetch of this number, from a node: if the fetch asks that node, and lacks a chunk of this index and
     /// length, its bytes are put in the window; otherwise nothing changes. The last chunk seals the copy, and the directory
     /// is told where it is, if its bytes have the digest that the source told; otherwise the fetch has failed, and its place
-    /// is given back. The error is out of memory, and then nothing has changed.
+    /// is given back. Tells what the chunk was to the fetch as well. The error is out of memory, and then nothing has changed.
     pub fn chunk(
         &mut self,
         alloc: Global,
@@ -39,25 +46,33 @@ impl JobRow {
         number: u64,
         index: u32,
         bytes: &[u8],
-    ) -> Result<Outcome, AllocError>
-        ensures ok { IfOk result (λ o. (beside : Beside) (contents : Contents) → IsShown self.old beside contents
-            → TakesStep node self.old beside contents (input.Arrive (arrival.FromPeer from (peer.Chunk id.now number index bytes.now))) (given_of o) self.new beside) }
-        ensures told { IfOk result (λ o. o.reply ≡ reply.Ok) }
-        ensures few { IfOk result (λ o. length o.messages ≤ 1) }
+    ) -> Result<ChunkTaken, AllocError>
+        ensures ok { IfOk result (λ t. (beside : Beside) (contents : Contents) → IsShown self.old beside contents
+            → TakesStep node self.old beside contents (input.Arrive (arrival.FromPeer from (peer.Chunk id.now number index bytes.now))) (given_of t.outcome) self.new beside) }
+        ensures verdict { IfOk result (λ t. (beside : Beside) (contents : Contents) → IsShown self.old beside contents
+            → t.verdict ≡ chunk_verdict (seen self.old beside contents) id.now number index bytes.now from) }
+        ensures told { IfOk result (λ t. t.outcome.reply ≡ reply.Ok) }
+        ensures few { IfOk result (λ t. length t.outcome.messages ≤ 1) }
         ensures err { OnErr result (self.new ≡ self.old) }
     {
         let fills = self
             .copies()
             .is_filled_by(id, number, from, index, bytes.len());
         if !fills {
-            return Ok(Outcome::only(alloc, Reply::Ok));
+            return Ok(ChunkTaken {
+                outcome: Outcome::only(alloc, Reply::Ok),
+                verdict: ChunkVerdict::Ignored,
+            });
         }
         if self.copies().lacks_only(id, index) {
             return self.last_chunk(alloc, node, from, id, number, index, bytes);
         }
         self.put_chunk(id, index, bytes);
         self.take_chunk(id, number, from, index, bytes.len());
-        Ok(Outcome::only(alloc, Reply::Ok))
+        Ok(ChunkTaken {
+            outcome: Outcome::only(alloc, Reply::Ok),
+            verdict: ChunkVerdict::Part,
+        })
     }
 
     /// The chunk that fills the last gap.
@@ -70,13 +85,15 @@ impl JobRow {
         number: u64,
         index: u32,
         bytes: &[u8],
-    ) -> Result<Outcome, AllocError>
+    ) -> Result<ChunkTaken, AllocError>
         requires fills { option_map_or (fills number from index (length bytes.now)) (at self.old.copies id.now) false ≡ true }
         requires last { option_map_or (lacks_only index) (at self.old.copies id.now) false ≡ true }
-        ensures ok { IfOk result (λ o. (beside : Beside) (contents : Contents) → IsShown self.old beside contents
-            → TakesStep node self.old beside contents (input.Arrive (arrival.FromPeer from (peer.Chunk id.now number index bytes.now))) (given_of o) self.new beside) }
-        ensures told { IfOk result (λ o. o.reply ≡ reply.Ok) }
-        ensures few { IfOk result (λ o. length o.messages ≤ 1) }
+        ensures ok { IfOk result (λ t. (beside : Beside) (contents : Contents) → IsShown self.old beside contents
+            → TakesStep node self.old beside contents (input.Arrive (arrival.FromPeer from (peer.Chunk id.now number index bytes.now))) (given_of t.outcome) self.new beside) }
+        ensures verdict { IfOk result (λ t. (beside : Beside) (contents : Contents) → IsShown self.old beside contents
+            → t.verdict ≡ chunk_verdict (seen self.old beside contents) id.now number index bytes.now from) }
+        ensures told { IfOk result (λ t. t.outcome.reply ≡ reply.Ok) }
+        ensures few { IfOk result (λ t. length t.outcome.messages ≤ 1) }
         ensures err { OnErr result (self.new ≡ self.old) }
     {
         let Some(copy) = self.copies().get(id) else {
@@ -95,13 +112,20 @@ impl JobRow {
         self.put_chunk(id, index, bytes);
         if !self.has_digest(id, &digest) {
             self.fail_fetch(id, FetchFault::Damaged);
-            return Ok(Outcome::only(alloc, Reply::Ok));
+            return Ok(ChunkTaken {
+                outcome: Outcome::only(alloc, Reply::Ok),
+                verdict: ChunkVerdict::Damaged,
+            });
         }
         self.bring_copy(id);
-        Ok(Outcome {
+        let outcome = Outcome {
             reply: Reply::Ok,
             messages,
             erase: Erase::NoKey,
+        };
+        Ok(ChunkTaken {
+            outcome,
+            verdict: ChunkVerdict::Whole,
         })
     }
 

@@ -1,5 +1,6 @@
 //! The copies of a job, by their ids.
 ghost use Rattle.std.specs.Option.{option_copied, option_map_or, option_and_then};
+ghost use Rattle.std.specs.Borrow.{MutBor};
 ghost use Rattle.private_store.specs.Tables.{at, with_entry, without_entry};
 ghost use Rattle.node_table.specs.Entries.{changed, all_changed, each_changed};
 ghost use Rattle.node_table.specs.Kept.{released, left, sealed, spilling_if, unpinned, borrowed, given_up, doomed, marked, Kept, fault_told, unplaced, placed_for, CanAwait, written, restored, lost};
@@ -20,6 +21,7 @@ ghost use Rattle.node_table.specs.Row.{copies_of};
 ghost use Rattle.node_table.specs.Arriving.{located, asks, fills, lacks_only, gap_closed, brought, unfetched};
 
 use crate::copy::{Awaited, RowCopy};
+use crate::taken::{Taken, to_u64};
 use indexmap::IndexMap;
 use obj_id::{Digest, DirectoryMessage, Items, Location, ObjectId, OwnItem, Refusal, TaskNo};
 use plain_store::{PlainCopy, copies_by_id};
@@ -33,16 +35,22 @@ use std::marker::Model;
 pub struct Copies {
     // in no order, so that a look-up costs the same whatever their number
     by_id: IndexMap<ObjectId, RowCopy>,
+    // what they take together, counted at each change, so that nobody walks over them for it
+    taken: Taken,
 }
 
 impl Model for Copies {
     ghost use Rattle.private_store.specs.Tables.{ById};
     ghost use Rattle.node_table.specs.Entries.{by_rising_id};
     ghost use Rattle.node_table.specs.Kept.{Kept};
+    ghost use Rattle.std.specs.Prelude.{◌≡◌};
+    ghost use Rattle.node_table.specs.Counted.{taken_of};
 
     ghost Value = { ById Kept };
 
     ghost view = { λ c. by_rising_id c.by_id.entries };
+
+    ghost invariant = { λ c. c.taken ≡ taken_of c.by_id.entries };
 }
 
 impl Copies {
@@ -52,6 +60,7 @@ impl Copies {
     {
         Copies {
             by_id: IndexMap::new(alloc),
+            taken: Taken::nothing(),
         }
     }
 
@@ -98,26 +107,22 @@ impl Copies {
         copies_by_id(alloc, plain)
     }
 
-    /// The bytes that they take in the window, or `u64::MAX` where they are more. Takes a walk over them.
+    /// The bytes that they take in the window, or `u64::MAX` if they are more. Takes no walk over them.
     pub fn window_bytes(&self) -> u64
         ensures { result ≡ total window_bytes_lem self.now }
     {
-        let mut bytes: u64 = 0;
-        for (_, copy) in &self.by_id {
-            bytes = bytes.saturating_add(copy.window_bytes());
-        }
-        bytes
+        // that no id is there twice is what the proof needs
+        let _count = self.by_id.len();
+        to_u64(self.taken.window)
     }
 
-    /// The device bytes that count for them, or `u64::MAX` where they are more. Takes a walk over them.
+    /// The device bytes that count for them, or `u64::MAX` if they are more. Takes no walk over them.
     pub fn device_bytes(&self) -> u64
         ensures { result ≡ total device_bytes_lem self.now }
     {
-        let mut bytes: u64 = 0;
-        for (_, copy) in &self.by_id {
-            bytes = bytes.saturating_add(copy.device_bytes());
-        }
-        bytes
+        // as for `window_bytes`
+        let _count = self.by_id.len();
+        to_u64(self.taken.device)
     }
 
     /// How many of them are doomed. Takes a walk over them.
@@ -137,7 +142,11 @@ impl Copies {
         ensures ok { OnOk result (self.new ≡ with_entry self.old id copy) }
         ensures err { OnErr result (self.new ≡ self.old) }
     {
-        self.by_id.insert(id, copy)?;
+        // so many copies take no more than 128 bits have room for
+        let _count = self.by_id.len();
+        let after = Taken::by(&copy);
+        let before = Taken::by_any(self.by_id.insert(id, copy)?);
+        self.taken = self.taken.exchanged(before, after);
         Ok(())
     }
 
@@ -145,7 +154,26 @@ impl Copies {
     pub fn remove(&mut self, id: &ObjectId)
         ensures { self.new ≡ without_entry self.old id.now }
     {
-        self.by_id.swap_remove(id);
+        // as for `insert`
+        let _count = self.by_id.len();
+        let before = Taken::by_any(self.by_id.swap_remove(id));
+        self.taken = self.taken.exchanged(before, Taken::nothing());
+    }
+
+    /// Does this to the copy, if it is there, and counts what it takes anew.
+    fn update<F: FnOnce(&mut RowCopy)>(&mut self, id: &ObjectId, change: F)
+        requires { (p : MutBor Kept) → at self.old id.now ≡ Some p.now → F.pre change p }
+        ensures { (f : Kept → Kept) → ((p q : MutBor Kept) → F.post change p tt q → q.now ≡ f p.now) → self.new ≡ changed f self.old id.now }
+    {
+        // as for `insert`
+        let _count = self.by_id.len();
+        let Some(copy) = self.by_id.get_mut(id) else {
+            return;
+        };
+        let before = Taken::by(copy);
+        change(copy);
+        let after = Taken::by(copy);
+        self.taken = self.taken.exchanged(before, after);
     }
 
     /// Whether there is a copy of the id.
@@ -169,10 +197,7 @@ impl Copies {
     fn give_up_place(&mut self, id: &ObjectId)
         ensures { self.new ≡ changed unplaced self.old id.now }
     {
-        let Some(copy) = self.by_id.get_mut(id) else {
-            return;
-        };
-        copy.give_up_place();
+        self.update(id, |copy| copy.give_up_place());
     }
 
     /// The copy is evicted, if there is one: a secondary is removed, and a primary stays without a place.
@@ -226,10 +251,7 @@ impl Copies {
     pub fn leave(&mut self, id: &ObjectId, session: u32)
         ensures { self.new ≡ changed (left session) self.old id.now }
     {
-        let Some(copy) = self.by_id.get_mut(id) else {
-            return;
-        };
-        copy.leave(session);
+        self.update(id, |copy| copy.leave(session));
     }
 
     /// No hold of the session on any copy. Takes a walk over them, and no memory.
@@ -247,20 +269,14 @@ impl Copies {
         requires { option_map_or (λ k. is_created k.copy.state) (at self.old id.now) true ≡ true }
         ensures { self.new ≡ changed (sealed digest) self.old id.now }
     {
-        let Some(copy) = self.by_id.get_mut(id) else {
-            return;
-        };
-        copy.seal(digest);
+        self.update(id, |copy| copy.seal(digest));
     }
 
     /// The fault of the copy was told.
     pub fn forget_fault(&mut self, id: &ObjectId)
         ensures { self.new ≡ changed fault_told self.old id.now }
     {
-        let Some(copy) = self.by_id.get_mut(id) else {
-            return;
-        };
-        copy.forget_fault();
+        self.update(id, |copy| copy.forget_fault());
     }
 
     /// The write of the copy under this number ended: its bytes are on the device, unless that failed.
@@ -268,10 +284,7 @@ impl Copies {
         requires { option_map_or is_spilling (at self.old id.now) true ≡ true }
         ensures { self.new ≡ changed (written number failed) self.old id.now }
     {
-        let Some(copy) = self.by_id.get_mut(id) else {
-            return;
-        };
-        copy.end_spill(number, failed);
+        self.update(id, |copy| copy.end_spill(number, failed));
     }
 
     /// The read of the copy ended, and its bytes are in their place: it is sealed again.
@@ -279,10 +292,7 @@ impl Copies {
         requires { option_map_or (λ k. is_restoring k.copy.state) (at self.old id.now) true ≡ true }
         ensures { self.new ≡ changed restored self.old id.now }
     {
-        let Some(copy) = self.by_id.get_mut(id) else {
-            return;
-        };
-        copy.end_restore();
+        self.update(id, |copy| copy.end_restore());
     }
 
     /// The read of the copy ended without its bytes: it is away again, without a place, and the next Get is told the
@@ -291,10 +301,7 @@ impl Copies {
         requires { option_map_or (λ k. is_restoring k.copy.state) (at self.old id.now) true ≡ true }
         ensures { self.new ≡ changed (lost fault) self.old id.now }
     {
-        let Some(copy) = self.by_id.get_mut(id) else {
-            return;
-        };
-        copy.lose(fault);
+        self.update(id, |copy| copy.lose(fault));
     }
 
     /// The copy has a place at the offset, and waits for this there. Takes no memory.
@@ -302,10 +309,7 @@ impl Copies {
         requires { (k : Kept) → at self.old id.now ≡ Some k → CanAwait awaited k }
         ensures { self.new ≡ changed (placed_for awaited offset) self.old id.now }
     {
-        let Some(copy) = self.by_id.get_mut(id) else {
-            return;
-        };
-        copy.take_place(offset, awaited);
+        self.update(id, move |copy| copy.take_place(offset, awaited));
     }
 
     /// Whether the fetch of the copy has this number and asks this source; not if there is none.
@@ -350,20 +354,14 @@ impl Copies {
     pub fn locate(&mut self, id: &ObjectId, node: u32, number: u64, entries: &[Location])
         ensures { self.new ≡ changed (located node number entries.now) self.old id.now }
     {
-        let Some(copy) = self.by_id.get_mut(id) else {
-            return;
-        };
-        copy.locate(node, number, entries);
+        self.update(id, |copy| copy.locate(node, number, entries));
     }
 
     /// A chunk of `len` bytes came: the gap of the copy that it fills is closed.
     pub fn take_chunk(&mut self, id: &ObjectId, number: u64, from: u32, index: u32, len: usize)
         ensures { self.new ≡ changed (gap_closed number from index len) self.old id.now }
     {
-        let Some(copy) = self.by_id.get_mut(id) else {
-            return;
-        };
-        copy.take_chunk(number, from, index, len);
+        self.update(id, |copy| copy.take_chunk(number, from, index, len));
     }
 
     /// All bytes of the copy are there: it is sealed.
@@ -371,10 +369,7 @@ impl Copies {
         requires { option_map_or (λ k. is_fetching k.copy.state && is_some k.digest) (at self.old id.now) true ≡ true }
         ensures { self.new ≡ changed brought self.old id.now }
     {
-        let Some(copy) = self.by_id.get_mut(id) else {
-            return;
-        };
-        copy.bring();
+        self.update(id, |copy| copy.bring());
     }
 
     /// The fetch of the copy is over without it: it has no place, and the next Get is told why.
@@ -382,20 +377,14 @@ impl Copies {
         requires { option_map_or (λ k. is_fetching k.copy.state) (at self.old id.now) true ≡ true }
         ensures { self.new ≡ changed (unfetched fault) self.old id.now }
     {
-        let Some(copy) = self.by_id.get_mut(id) else {
-            return;
-        };
-        copy.fail_fetch(fault);
+        self.update(id, |copy| copy.fail_fetch(fault));
     }
 
     /// The owner task keeps the copy no longer: it is doomed unless a task borrows it. Takes no memory.
     pub fn unpin(&mut self, id: &ObjectId)
         ensures { self.new ≡ changed unpinned self.old id.now }
     {
-        let Some(copy) = self.by_id.get_mut(id) else {
-            return;
-        };
-        copy.unpin();
+        self.update(id, |copy| copy.unpin());
     }
 
     /// The task borrows the copy, as the last one. `Absent`, also if it is doomed, `NotOwner`, `Exists`, `TooMany`,
@@ -421,20 +410,14 @@ impl Copies {
     pub fn give_up(&mut self, id: &ObjectId, task: TaskNo)
         ensures { self.new ≡ changed (given_up task) self.old id.now }
     {
-        let Some(copy) = self.by_id.get_mut(id) else {
-            return;
-        };
-        copy.give_up(task);
+        self.update(id, |copy| copy.give_up(task));
     }
 
     /// The copy is removed as soon as nothing keeps it. Takes no memory.
     pub fn doom(&mut self, id: &ObjectId)
         ensures { self.new ≡ changed doomed self.old id.now }
     {
-        let Some(copy) = self.by_id.get_mut(id) else {
-            return;
-        };
-        copy.doom();
+        self.update(id, |copy| copy.doom());
     }
 
     /// No hand stands any more of the copies of the task's objects. Takes a walk over the copies, and no memory.
@@ -451,10 +434,7 @@ impl Copies {
     pub fn mark_granted(&mut self, id: &ObjectId, granted: bool)
         ensures { self.new ≡ changed (marked granted) self.old id.now }
     {
-        let Some(copy) = self.by_id.get_mut(id) else {
-            return;
-        };
-        copy.mark_granted(granted);
+        self.update(id, |copy| copy.mark_granted(granted));
     }
 
     /// Whether the copy is doomed; not if there is none.
@@ -508,10 +488,7 @@ impl Copies {
     fn begin_spill(&mut self, id: &ObjectId)
         ensures { self.new ≡ changed spilling_if self.old id.now }
     {
-        let Some(copy) = self.by_id.get_mut(id) else {
-            return;
-        };
-        copy.begin_spill_if();
+        self.update(id, |copy| copy.begin_spill_if());
     }
 
     /// Writes of these copies are in flight, where they can be.

@@ -28,8 +28,10 @@ mod room;
 mod row;
 mod scope_commands;
 mod serve_pull;
+mod taken;
 
 pub use bytes_commands::part_of;
+pub use chunks::ChunkTaken;
 pub use copies::Copies;
 pub use copy::RowCopy;
 pub use device_works::Answered;

@@ -75,8 +75,8 @@ impl JobRow {
         Ok(Reply::List(own, granted))
     }
 
-    /// The job's quotas and what is used of them, in bytes and in numbers. Takes two walks over the job's
-    /// copies and one over the line of works, and no memory. A sum that passes `u64::MAX` is told as that,
+    /// The job's quotas and what is used of them, in bytes and in numbers. Takes no walk, as all is counted,
+    /// one look-up of the job among the works, and no memory. A sum that passes `u64::MAX` is told as that,
     /// which no row of a node has.
     pub fn usage(&self, works: &Works) -> Usage
         ensures told { result ≡ used self.now works.now }

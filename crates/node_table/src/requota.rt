@@ -14,7 +14,7 @@ use obj_id::limits::GREATEST_DEVICE_QUOTA;
 use obj_id::{Quota, Refusal};
 
 impl JobRow {
-    /// Why the job can't have this quota: `BadSize`, `Full` if what it uses isn't within it, or nothing. Takes a walk over
+    /// Why the job can't have this quota: `BadSize`, `Full` if what it uses isn't within it, or nothing. Takes no walk over
     /// the job's copies.
     pub fn requota_check(&self, quota: Quota) -> Option<Refusal>
         ensures row { result ≡ requota_check_lem self.now quota }

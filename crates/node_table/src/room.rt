@@ -68,8 +68,8 @@ impl JobRow {
     /// How room for an object of `len` bytes is made in the window, by the rule of room. `NoMemory` alone;
     /// changes nothing.
     ///
-    /// Where there is a place as it is, takes one scan of the window's extents and no memory. Else it walks
-    /// once over all copies for what they take of the device, and then as `UseOrder::plan` does.
+    /// If there is a place as it is, takes one descent of the window's tree of holes and no memory. Otherwise it
+    /// takes what `UseOrder::plan` does; what the copies take of the device is counted.
     pub(crate) fn plan_room(
         &self,
         alloc: Global,

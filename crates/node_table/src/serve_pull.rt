@@ -1,5 +1,6 @@
 //! A Pull that arrives: another node asks for chunks of a copy.
 ghost use Rattle.std.specs.Prelude.{◌≡◌, ℕ, ◌+◌, ◌≤◌, List, [], ◌∷◌, map, take, length, false, Ok, Some, None, IfOk, OnOk, OnErr, IsErrOf};
+ghost use Rattle.std.specs.Option.{option_map_or};
 ghost use Rattle.obj_id.specs.declared.ids.JobNo.{JobNo};
 ghost use Rattle.obj_id.specs.declared.commands.CopyState.TheVariants.{Away};
 ghost use Rattle.obj_id.specs.declared.commands.Reply.TheVariants as reply;
@@ -11,7 +12,7 @@ ghost use Rattle.obj_id.specs.declared.refusals.Refusal.TheVariants.{NoMemory};
 ghost use Rattle.obj_id.specs.declared.works.Extent.{Extent};
 ghost use Rattle.private_store.specs.declared.inputs.Input.TheVariants as input;
 ghost use Rattle.private_store.specs.Tables.{at};
-ghost use Rattle.private_store.specs.Contents.{Contents};
+ghost use Rattle.private_store.specs.Contents.{Contents, pull_matches};
 ghost use Rattle.private_store.specs.Copies.{extent_of};
 ghost use Rattle.private_store.specs.Hands.{Hand};
 ghost use Rattle.private_store.specs.Private.{to_peer};
@@ -21,9 +22,9 @@ ghost use Rattle.node_table.specs.Asked.{HasAsked};
 ghost use Rattle.node_table.specs.Checks.{fault_at, visible_state};
 ghost use Rattle.node_table.specs.Kept.{Kept};
 ghost use Rattle.node_table.specs.Outcomes.{given_of};
-ghost use Rattle.node_table.specs.Row.{beside_of};
-ghost use Rattle.node_table.specs.Serving.{pull_answer as pull_answer_lem, chunks_to};
-ghost use Rattle.node_table.specs.Shown.{IsShown, TakesStep};
+ghost use Rattle.node_table.specs.Row.{Beside, beside_of};
+ghost use Rattle.node_table.specs.Serving.{was_sealed_with, pull_answer as pull_answer_lem, chunks_to};
+ghost use Rattle.node_table.specs.Shown.{seen, IsShown, TakesStep};
 ghost use Rattle.node_table.specs.declared.serve_pull.PullAnswer.TheVariants as pull;
 
 use crate::copies::Copies;
@@ -75,9 +76,27 @@ impl Copies {
             Some(copy) => copy.pull_answer(length, digest),
         }
     }
+
+    /// Whether there is a copy that was sealed with this length and digest.
+    fn has_sealed(&self, id: &ObjectId, length: u32, digest: &Digest) -> bool
+        ensures { result ≡ option_map_or (was_sealed_with length digest.now) (at self.now id.now) false }
+    {
+        match self.get(id) {
+            None => false,
+            Some(copy) => copy.was_sealed_with(length, digest),
+        }
+    }
 }
 
 impl JobRow {
+    /// Whether a copy here was sealed with this length and digest, as a Pull asks for it, doomed or faulty as it may be. Takes
+    /// no memory.
+    pub fn pull_matches(&self, id: &ObjectId, length: u32, digest: &Digest) -> bool
+        ensures { (beside : Beside) (contents : Contents) → IsShown self.now beside contents → result ≡ pull_matches (seen self.now beside contents) id.now length digest.now }
+    {
+        self.copies().has_sealed(id, length, digest)
+    }
+
     /// A Pull: a node asks, for its fetch of this number, for chunks of the object of this length and digest. The chunks
     /// that there are of those asked for are sent to it, in the order asked. `NotHere` is sent where no copy is shown that
     /// was sealed with that length and digest, or where it is away with a fault; nothing, while it is being read back. A

@@ -1,12 +1,6 @@
-use Rattle.std.proofs.Common.{sym, ap, ◌∙◌}
-use Rattle.std.specs.Option.{option_copied_mut}
+use Rattle.std.proofs.Common.{rules}
 use Rattle.node_table.specs.Kept.{spilling_if}
-use Rattle.node_table.proofs.Changes.{not_written, written}
 use Rattle.node_table.proofs.copies.Copies.begin_spill.Goals as goal
 
-pub returns-in_default : goal.returns-in_default
-returns-in_default c = not_written spilling_if c.args.id.now c.self.inside.by_id.entries c.args.self.now c.self.view_is _ (sym c.get_mut.ensures.value ∙ ap option_copied_mut c.in_default.is) (ap (λ m. m.entries) c.get_mut.follows.holds-at-none)
-
 pub returns : goal.returns
-returns c =
-    written spilling_if c.args.id.now c.self.inside.by_id.entries c.args.self.now c.self.view_is _ c.in-Some.copy.now c.begin_spill_if.new.self (sym c.get_mut.ensures.value ∙ ap option_copied_mut c.in-Some.is) c.begin_spill_if.ensures (c.get_mut.follows.holds c.begin_spill_if.new.self).0
+returns c = c.update.ensures spilling_if (λ p q post. search rules)

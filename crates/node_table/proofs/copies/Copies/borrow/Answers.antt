@@ -3,13 +3,28 @@ use Rattle.std.specs.Option.{option_copied_mut}
 use Rattle.obj_id.specs.declared.refusals.Refusal.{Refusal}
 use Rattle.obj_id.specs.declared.refusals.Refusal.TheVariants.{Absent}
 use Rattle.obj_id.specs.declared.ids.TaskNo.{TaskNo}
+use Rattle.obj_id.specs.Ids.{id_eq}
 use Rattle.node_table.specs.Checks.{borrow_check_of}
 use Rattle.node_table.specs.Kept.{Kept, borrowed}
+use Rattle.node_table.specs.Counted.{taken_of}
 use Rattle.node_table.proofs.Changes.{unwritten, on_ok, on_err, checked_there, checked_absent}
+use Rattle.node_table.proofs.Sums.{taken-same, taken-either}
 use Rattle.node_table.proofs.copies.Copies.borrow.Goals as goal
 
 abbrev check : TaskNo → Option Kept → Option Refusal
 check task o = elim o [ None ↦ Some Absent | Some k ↦ cond k.copy.doomed (Some Absent) (borrow_check_of k task) ]
+
+pub invariant_of-self : goal.invariant_of-self
+invariant_of-self c = c.self.invariant ∙ sym (ap (λ m. taken_of m.entries) c.get_mut.follows.holds-at-none)
+
+pub invariant_of-self-then-doomed : goal.invariant_of-self-then-doomed
+invariant_of-self-then-doomed c =
+    taken-same (id_eq c.args.id.now) c.self.inside.by_id.entries _ c.self.inside.taken c.in-Some.copy.now c.in-Some.copy.now (sym c.get_mut.ensures.value ∙ ap option_copied_mut c.in-Some.is) (c.get_mut.follows.holds c.in-Some.copy.now).0 refl c.self.invariant
+
+pub invariant_of-self-2 : goal.invariant_of-self-2
+invariant_of-self-2 c =
+    taken-same (id_eq c.args.id.now) c.self.inside.by_id.entries _ c.self.inside.taken c.in-Some.copy.now c.borrow.new.self (sym c.get_mut.ensures.value ∙ ap option_copied_mut c.in-Some.is) (c.get_mut.follows.holds c.borrow.new.self).0
+    (taken-either c.borrow.result (borrowed c.args.task) c.in-Some.copy.now c.borrow.new.self c.borrow.ensures.ok c.borrow.ensures.err refl) c.self.invariant
 
 pub returns-in_default-clause-refused : goal.returns-in_default-clause-refused
 returns-in_default-clause-refused c r late e =

@@ -1,7 +1,18 @@
 use Rattle.std.proofs.Common.{sym, ap, ◌∙◌}
 use Rattle.std.specs.Option.{option_copied_mut}
-use Rattle.node_table.proofs.Holding.{held_at, unready_at, refused_at, none_at}
+use Rattle.obj_id.specs.Ids.{id_eq}
+use Rattle.node_table.specs.Counted.{taken_of}
+use Rattle.node_table.proofs.Holding.{held_at, unready_at, refused_at, none_at, taken-held}
+use Rattle.node_table.proofs.Sums.{taken-same}
 use Rattle.node_table.proofs.copies.Copies.hold.Goals as goal
+
+pub invariant_of-self : goal.invariant_of-self
+invariant_of-self c = c.self.invariant ∙ sym (ap (λ m. taken_of m.entries) c.get_mut.follows.holds-at-none)
+
+pub invariant_of-self-2 : goal.invariant_of-self-2
+invariant_of-self-2 c =
+    taken-same (id_eq c.args.id.now) c.self.inside.by_id.entries _ c.self.inside.taken c.in-Some.copy.now c.hold.new.self (sym c.get_mut.ensures.value ∙ ap option_copied_mut c.in-Some.is) (c.get_mut.follows.holds c.hold.new.self).0
+    (taken-held c.args.session c.in-Some.copy.now c.hold.new.self c.hold.result c.hold.ensures.some c.hold.ensures.none c.hold.ensures.refused) c.self.invariant
 
 pub returns-in_default-clause-none : goal.returns-in_default-clause-none
 returns-in_default-clause-none c =

@@ -1,7 +1,23 @@
-use Rattle.std.proofs.Common.{ap, ◌∙◌}
+use Rattle.std.proofs.Common.{refl, sym, ap, subst, ◌∙◌, arith}
+use Rattle.obj_id.specs.Ids.{id_eq}
 use Rattle.private_store.specs.Tables.{with_entry}
+use Rattle.node_table.specs.Counted.{taken_of}
 use Rattle.node_table.proofs.Rising.{with-rising}
+use Rattle.node_table.proofs.Sums.{IsSmall, taken_any, small_by, can_exchange, taken-insert}
 use Rattle.node_table.proofs.copies.Copies.insert.Goals as goal
+
+pub exchanged-self-inside-requires : goal.exchanged-self-inside-requires
+exchanged-self-inside-requires c =
+    can_exchange (id_eq c.args.id) c.self.inside.by_id.entries c.self.inside.taken c.by_any-before.result c.by-after.result c.self.invariant
+    (c.by_any-before.ensures ∙ ap taken_any c.in_ok-insert.ensures.old) (subst IsSmall (sym c.by-after.ensures) (small_by c.args.copy)) (omega (arith, c.len-count.ensures.len, c.len-count.ensures.small))
+
+pub invariant_of-self : goal.invariant_of-self
+invariant_of-self c = c.self.invariant ∙ sym (ap taken_of c.in_err-insert.ensures.err)
+
+pub invariant_of-self-2 : goal.invariant_of-self-2
+invariant_of-self-2 c =
+    taken-insert (id_eq c.args.id) c.self.inside.by_id.entries c.self.inside.taken c.by_any-before.result c.by-after.result c.self.invariant
+    (c.by_any-before.ensures ∙ ap taken_any c.in_ok-insert.ensures.old) c.exchanged-self-inside.result c.exchanged-self-inside.ensures _ id_eq c.args.id refl c.args.copy c.by-after.ensures c.in_ok-insert.ensures.entries
 
 pub returns-clause-ok : goal.returns-clause-ok
 returns-clause-ok c =

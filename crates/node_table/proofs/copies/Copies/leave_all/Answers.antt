@@ -1,9 +1,14 @@
-use Rattle.std.proofs.Common.{ap, ◌∙◌, rules}
+use Rattle.std.proofs.Common.{ap, refl, ◌∙◌, rules}
 use Rattle.std.proofs.lemmas.Map.Made.{map_same_pairs}
 use Rattle.node_table.specs.Entries.{by_rising_id, all_changed}
 use Rattle.node_table.specs.Kept.{left}
 use Rattle.node_table.proofs.Rising.{changed-rising}
+use Rattle.node_table.proofs.Sums.{taken-each}
 use Rattle.node_table.proofs.copies.Copies.leave_all.Goals as goal
+
+pub invariant_of-self : goal.invariant_of-self
+invariant_of-self c =
+    taken-each (λ id. left c.args.session) (λ id k. refl) c.self.inside.by_id.entries _ c.self.inside.taken (map_same_pairs _ (left c.args.session) _ (λ k v b w f' t. search rules) c.self.inside.by_id.entries _ c.retain.ensures.filtered) c.self.invariant
 
 pub returns : goal.returns
 returns c =

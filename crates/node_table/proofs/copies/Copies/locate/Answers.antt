@@ -1,12 +1,6 @@
-use Rattle.std.proofs.Common.{sym, ap, ◌∙◌}
-use Rattle.std.specs.Option.{option_copied_mut}
+use Rattle.std.proofs.Common.{rules}
 use Rattle.node_table.specs.Arriving.{located}
-use Rattle.node_table.proofs.Changes.{not_written, written}
 use Rattle.node_table.proofs.copies.Copies.locate.Goals as goal
 
-pub returns-in_default : goal.returns-in_default
-returns-in_default c = not_written (located c.args.node c.args.number c.args.entries.now) c.args.id.now c.self.inside.by_id.entries c.args.self.now c.self.view_is _ (sym c.get_mut.ensures.value ∙ ap option_copied_mut c.in_default.is) (ap (λ m. m.entries) c.get_mut.follows.holds-at-none)
-
 pub returns : goal.returns
-returns c =
-    written (located c.args.node c.args.number c.args.entries.now) c.args.id.now c.self.inside.by_id.entries c.args.self.now c.self.view_is _ c.in-Some.copy.now c.locate.new.self (sym c.get_mut.ensures.value ∙ ap option_copied_mut c.in-Some.is) c.locate.ensures (c.get_mut.follows.holds c.locate.new.self).0
+returns c = c.update.ensures (located c.args.node c.args.number c.args.entries.now) (λ p q post. search rules)

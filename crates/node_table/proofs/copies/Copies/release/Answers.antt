@@ -1,10 +1,21 @@
-use Rattle.std.proofs.Common.{Option, Some, None, sym, ap, ◌∙◌}
+use Rattle.std.proofs.Common.{Option, Some, None, refl, sym, ap, ◌∙◌}
 use Rattle.std.specs.Option.{option_copied_mut}
 use Rattle.obj_id.specs.declared.refusals.Refusal.TheVariants.{Absent}
+use Rattle.obj_id.specs.Ids.{id_eq}
 use Rattle.node_table.specs.Kept.{Kept, released}
 use Rattle.node_table.specs.Checks.{release_check_of}
+use Rattle.node_table.specs.Counted.{taken_of}
 use Rattle.node_table.proofs.Changes.{on_ok, on_err, checked_there, checked_absent}
+use Rattle.node_table.proofs.Sums.{taken-same, taken-either}
 use Rattle.node_table.proofs.copies.Copies.release.Goals as goal
+
+pub invariant_of-self : goal.invariant_of-self
+invariant_of-self c = c.self.invariant ∙ sym (ap (λ m. taken_of m.entries) c.get_mut.follows.holds-at-none)
+
+pub invariant_of-self-2 : goal.invariant_of-self-2
+invariant_of-self-2 c =
+    taken-same (id_eq c.args.id.now) c.self.inside.by_id.entries _ c.self.inside.taken c.in-Some.copy.now c.release.new.self (sym c.get_mut.ensures.value ∙ ap option_copied_mut c.in-Some.is) (c.get_mut.follows.holds c.release.new.self).0
+    (taken-either c.release.result (released c.args.session) c.in-Some.copy.now c.release.new.self c.release.ensures.ok c.release.ensures.err refl) c.self.invariant
 
 pub returns-in_default-clause-refused : goal.returns-in_default-clause-refused
 returns-in_default-clause-refused c r e =

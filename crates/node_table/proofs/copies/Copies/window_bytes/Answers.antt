@@ -1,12 +1,8 @@
-use Rattle.std.proofs.Common.{arith}
-use Rattle.node_table.specs.Usages.{total, window_bytes}
-use Rattle.node_table.proofs.Totals.{all_counted, none_counted}
+use Rattle.std.proofs.Common.{ap, ◌∙◌}
+use Rattle.node_table.specs.Usages.{window_bytes}
+use Rattle.node_table.specs.Counted.{capped}
+use Rattle.node_table.proofs.Sums.{told}
 use Rattle.node_table.proofs.copies.Copies.window_bytes.Goals as goal
 
-pub loop-copy-init : goal.loop-copy-init
-loop-copy-init c =
-    let gives = c.into_iter-copy-iterator.ensures.into_iter_gives in
-    record { rest = none_counted (λ e. window_bytes e.1) c.self.inside.by_id.entries c.into_iter-copy-iterator.result c.args.self.now gives.0 gives.4 c.self.view_is; fits = omega arith }
-
 pub returns : goal.returns
-returns c = all_counted (λ e. window_bytes e.1) c.loop-copy.bytes (total window_bytes c.args.self.now) c.loop-copy.copy-iterator c.in-None.ensures.steps.0 c.loop-copy.invariant.fits c.loop-copy.invariant.rest
+returns c = c.to_u64.ensures ∙ ap (λ t. capped t.window) c.self.invariant ∙ told window_bytes c.self.inside.by_id.entries c.args.self.now c.self.view_is c.len-count.ensures.unique

@@ -8,7 +8,7 @@ use Rattle.private_store.specs.Tables.{at}
 use Rattle.node_table.specs.Arriving.{fills, lacks_only, gap_closed}
 use Rattle.node_table.specs.Scope.{with_copy}
 use Rattle.node_table.specs.Shown.{only, TakesStep}
-use Rattle.node_table.proofs.Gaps.{not_filled, filled_at, e, in_place, small, in_extent, part_done}
+use Rattle.node_table.proofs.Gaps.{not_filled_is, not_filled, filled_at, e, in_place, small, in_extent, part_is, part_done}
 use Rattle.node_table.proofs.row.JobRow.chunk.Goals as goal
 
 pub returns-then-not-fills-clause-ok : goal.returns-then-not-fills-clause-ok
@@ -30,3 +30,15 @@ returns-clause-ok c beside contents h =
     (sym (c.take_chunk.ensures ∙ ap (λ r. with_copy (gap_closed c.args.number c.args.from c.args.index (length c.args.bytes.now)) r c.args.id.now) put))
     (part_done c.args.node c.args.self.now beside contents h c.args.id.now c.args.number c.args.from c.args.index c.args.bytes.now a c.copies.ensures.placed
     (ap (λ t. option_map_or (lacks_only c.args.index) (at t c.args.id.now) false) (sym c.copies-2.ensures.copies) ∙ sym c.lacks_only.ensures ∙ c.if-lacks_only.false)))
+
+pub returns-then-not-fills-clause-verdict : goal.returns-then-not-fills-clause-verdict
+returns-then-not-fills-clause-verdict c beside contents h =
+    sym (not_filled_is c.args.node c.args.self.now beside contents h c.args.id.now c.args.number c.args.from c.args.index c.args.bytes.now
+    (ap (λ t. option_map_or (fills c.args.number c.args.from c.args.index (length c.args.bytes.now)) (at t c.args.id.now) false) (sym c.copies.ensures.copies) ∙ sym c.is_filled_by-fills.ensures ∙ c.if-not-fills.true))
+
+pub returns-clause-verdict : goal.returns-clause-verdict
+returns-clause-verdict c beside contents h =
+    let a = filled_at c.args.self.now c.args.id.now c.args.number c.args.from c.args.index (length c.args.bytes.now)
+    (ap (λ t. option_map_or (fills c.args.number c.args.from c.args.index (length c.args.bytes.now)) (at t c.args.id.now) false) (sym c.copies.ensures.copies) ∙ sym c.is_filled_by-fills.ensures ∙ c.if-not-fills.false) in
+    sym (part_is c.args.node c.args.self.now beside contents h c.args.id.now c.args.number c.args.from c.args.index c.args.bytes.now a
+    (ap (λ t. option_map_or (lacks_only c.args.index) (at t c.args.id.now) false) (sym c.copies-2.ensures.copies) ∙ sym c.lacks_only.ensures ∙ c.if-lacks_only.false))

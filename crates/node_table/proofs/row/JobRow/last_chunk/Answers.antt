@@ -1,4 +1,4 @@
-use Rattle.std.proofs.Common.{[], length, take, sym, ap, subst, ◌∙◌}
+use Rattle.std.proofs.Common.{true, false, [], length, take, sym, ap, subst, ◌∙◌}
 use Rattle.std.specs.Option.{option_copied}
 use Rattle.obj_id.specs.declared.commands.Reply.TheVariants as reply
 use Rattle.obj_id.specs.declared.messages.Arrival.TheVariants as arrival
@@ -14,7 +14,7 @@ use Rattle.node_table.specs.Kept.{Kept}
 use Rattle.node_table.specs.Row.{Row, place_of, ArePlaced}
 use Rattle.node_table.specs.Scope.{with_copy}
 use Rattle.node_table.specs.Shown.{only, TakesStep}
-use Rattle.node_table.proofs.Gaps.{filled_at, k, e, lies, in_place, small, in_extent, damaged_done, whole_done}
+use Rattle.node_table.proofs.Gaps.{filled_at, k, e, lies, in_place, small, in_extent, last_is, damaged_done, whole_done}
 use Rattle.node_table.proofs.row.JobRow.last_chunk.Goals as goal
 
 pub returns-then-not-has_digest-clause-ok : goal.returns-then-not-has_digest-clause-ok
@@ -54,3 +54,35 @@ returns-clause-ok c beside contents h =
     (whole_done c.args.node c.args.self.now beside contents h c.args.id.now c.args.number c.args.from c.args.index c.args.bytes.now a c.copies.ensures.placed
     c.requires.last c.in-Some-digest.digest has (test ∙ c.if-not-has_digest.false) (record { node = c.args.node; length = c.length.result; digest = c.in-Some-digest.digest }) c.in_ok-messages.messages
     (ap (λ n. record { node = c.args.node; length = n; digest = c.in-Some-digest.digest }) (c.length.ensures ∙ ap (λ (z : Kept). z.copy.length) (sym same))) c.in_ok-messages.ensures)
+
+pub returns-then-not-has_digest-clause-verdict : goal.returns-then-not-has_digest-clause-verdict
+returns-then-not-has_digest-clause-verdict c beside contents h =
+    let a = filled_at c.args.self.now c.args.id.now c.args.number c.args.from c.args.index (length c.args.bytes.now) c.requires.fills in
+    let kept = k c.args.node c.args.self.now beside contents h c.args.id.now c.args.number c.args.from c.args.index c.args.bytes.now a in
+    let at_e = e c.args.node c.args.self.now beside contents h c.args.id.now c.args.number c.args.from c.args.index c.args.bytes.now a in
+    let put = c.put_chunk.ensures.row at_e
+    (in_place c.args.node c.args.self.now beside contents h c.args.id.now c.args.number c.args.from c.args.index c.args.bytes.now a)
+    (small c.args.node c.args.self.now beside contents h c.args.id.now c.args.number c.args.from c.args.index c.args.bytes.now a)
+    (in_extent c.args.node c.args.self.now beside contents h c.args.id.now c.args.number c.args.from c.args.index c.args.bytes.now a) in
+    let same = some_value kept c.in-Some.copy.now (sym a.of.found ∙ ap (λ t. at t c.args.id.now) (sym c.copies.ensures.copies) ∙ sym c.get.ensures ∙ ap option_copied c.in-Some.is) in
+    let has = ap (λ (z : Kept). z.digest) same ∙ sym c.digest.ensures.digest ∙ c.in-Some-digest.is in
+    let test = ap (λ (r : Row). has_digest (take kept.copy.length (placed_bytes at_e r.window.placed)) c.in-Some-digest.digest) (sym put)
+    ∙ sym (c.has_digest.ensures kept at_e (ap (λ t. at t c.args.id.now) c.put_chunk.ensures.copies ∙ a.of.found) (lies c.args.node c.args.self.now beside contents h c.args.id.now c.args.number c.args.from c.args.index c.args.bytes.now a)) in
+    sym (last_is c.args.node c.args.self.now beside contents h c.args.id.now c.args.number c.args.from c.args.index c.args.bytes.now a c.copies.ensures.placed
+    c.requires.last c.in-Some-digest.digest has false (test ∙ c.if-not-has_digest.true))
+
+pub returns-clause-verdict : goal.returns-clause-verdict
+returns-clause-verdict c beside contents h =
+    let a = filled_at c.args.self.now c.args.id.now c.args.number c.args.from c.args.index (length c.args.bytes.now) c.requires.fills in
+    let kept = k c.args.node c.args.self.now beside contents h c.args.id.now c.args.number c.args.from c.args.index c.args.bytes.now a in
+    let at_e = e c.args.node c.args.self.now beside contents h c.args.id.now c.args.number c.args.from c.args.index c.args.bytes.now a in
+    let put = c.put_chunk.ensures.row at_e
+    (in_place c.args.node c.args.self.now beside contents h c.args.id.now c.args.number c.args.from c.args.index c.args.bytes.now a)
+    (small c.args.node c.args.self.now beside contents h c.args.id.now c.args.number c.args.from c.args.index c.args.bytes.now a)
+    (in_extent c.args.node c.args.self.now beside contents h c.args.id.now c.args.number c.args.from c.args.index c.args.bytes.now a) in
+    let same = some_value kept c.in-Some.copy.now (sym a.of.found ∙ ap (λ t. at t c.args.id.now) (sym c.copies.ensures.copies) ∙ sym c.get.ensures ∙ ap option_copied c.in-Some.is) in
+    let has = ap (λ (z : Kept). z.digest) same ∙ sym c.digest.ensures.digest ∙ c.in-Some-digest.is in
+    let test = ap (λ (r : Row). has_digest (take kept.copy.length (placed_bytes at_e r.window.placed)) c.in-Some-digest.digest) (sym put)
+    ∙ sym (c.has_digest.ensures kept at_e (ap (λ t. at t c.args.id.now) c.put_chunk.ensures.copies ∙ a.of.found) (lies c.args.node c.args.self.now beside contents h c.args.id.now c.args.number c.args.from c.args.index c.args.bytes.now a)) in
+    sym (last_is c.args.node c.args.self.now beside contents h c.args.id.now c.args.number c.args.from c.args.index c.args.bytes.now a c.copies.ensures.placed
+    c.requires.last c.in-Some-digest.digest has true (test ∙ c.if-not-has_digest.false))

@@ -1,0 +1,32 @@
+use Rattle.std.proofs.Common.{sym, ap, subst, ◌∙◌, arith}
+use Rattle.std.specs.Option.{option_copied_mut}
+use Rattle.obj_id.specs.Ids.{id_eq}
+use Rattle.node_table.specs.Counted.{taken_of}
+use Rattle.node_table.proofs.Changes.{not_written, written, found_rising}
+use Rattle.node_table.proofs.Sums.{IsSmall, taken_any, small_by, can_exchange, taken-set}
+use Rattle.node_table.proofs.copies.Copies.update.Goals as goal
+
+pub returns-in_default : goal.returns-in_default
+returns-in_default g c f same = not_written f c.args.id.now c.self.inside.by_id.entries c.args.self.now c.self.view_is _ (sym c.get_mut.ensures.value ∙ ap option_copied_mut c.in_default.is) (ap (λ m. m.entries) c.get_mut.follows.holds-at-none)
+
+pub change-requires : goal.change-requires
+change-requires g c = c.requires _ (found_rising c.args.id.now c.self.inside.by_id.entries c.args.self.now c.self.view_is c.in-Some.copy.now (sym c.get_mut.ensures.value ∙ ap option_copied_mut c.in-Some.is))
+
+pub exchanged-self-inside-requires : goal.exchanged-self-inside-requires
+exchanged-self-inside-requires g c =
+    can_exchange (id_eq c.args.id.now) c.self.inside.by_id.entries c.self.inside.taken c.by-before.result c.by-after.result c.self.invariant
+    (c.by-before.ensures ∙ ap taken_any (ap option_copied_mut (sym c.in-Some.is) ∙ c.get_mut.ensures.value)) (subst IsSmall (sym c.by-after.ensures) (small_by c.change.new.arg2)) (omega (arith, c.len-count.ensures.len, c.len-count.ensures.small))
+
+pub invariant_of-self : goal.invariant_of-self
+invariant_of-self g c = c.self.invariant ∙ sym (ap (λ m. taken_of m.entries) c.get_mut.follows.holds-at-none)
+
+pub invariant_of-self-2 : goal.invariant_of-self-2
+invariant_of-self-2 g c =
+    taken-set (id_eq c.args.id.now) c.self.inside.by_id.entries c.self.inside.taken c.by-before.result c.by-after.result c.self.invariant
+    (c.by-before.ensures ∙ ap taken_any (ap option_copied_mut (sym c.in-Some.is) ∙ c.get_mut.ensures.value)) c.exchanged-self-inside.result c.exchanged-self-inside.ensures _ c.in-Some.copy.now c.change.new.arg2
+    (sym c.get_mut.ensures.value ∙ ap option_copied_mut c.in-Some.is) c.by-after.ensures (c.get_mut.follows.holds c.change.new.arg2).0
+
+pub returns : goal.returns
+returns g c f same =
+    written f c.args.id.now c.self.inside.by_id.entries c.args.self.now c.self.view_is _ c.in-Some.copy.now c.change.new.arg2 (sym c.get_mut.ensures.value ∙ ap option_copied_mut c.in-Some.is)
+    (same _ _ c.change.ensures) (c.get_mut.follows.holds c.change.new.arg2).0
