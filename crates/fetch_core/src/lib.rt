@@ -245,8 +245,8 @@ pub fn chunks_asked(
     Ok(sent)
 }
 
-/// The first entry of another node.
-fn elsewhere(node: u32, entries: &[Location]) -> Option<Location>
+/// The first entry of another node, which a fetch at this one gets its bytes from. Takes no memory.
+pub fn elsewhere(node: u32, entries: &[Location]) -> Option<Location>
     ensures { result ≡ entry_elsewhere node entries.now }
 {
     for entry in entries {

@@ -1,5 +1,6 @@
 -- A message that arrives is an input of its own job alone.
 use Rattle.std.proofs.Common.{◌≡◌, ℕ, true, false, cond, not, ◌==◌, List, [], ◌∷◌, ◌++◌, Some, None, option_to_list, is_some, refl, sym, ap, subst, ◌∙◌}
+use Rattle.std.specs.Prelude.{option_map}
 use Rattle.std.specs.Map.{lookup}
 use Rattle.obj_id.specs.declared.ids.JobNo.{JobNo}
 use Rattle.obj_id.specs.declared.ids.ObjectId.{ObjectId}
@@ -10,11 +11,12 @@ use Rattle.obj_id.specs.declared.messages.PeerMessage.TheVariants as peer
 use Rattle.obj_id.specs.declared.refusals.Refusal.TheVariants.{Stale}
 use Rattle.private_store.specs.declared.inputs.Input.{Input}
 use Rattle.private_store.specs.declared.inputs.Input.TheVariants as input
+use Rattle.private_store.specs.declared.inputs.Judged.{Judged}
 use Rattle.private_store.specs.declared.schedules.NodeEvent.TheVariants.{Arrive}
 use Rattle.private_store.specs.Jobs.{same_job}
 use Rattle.private_store.specs.Hands.{Hand}
 use Rattle.private_store.specs.Events.{is_live, located, chunk_arrived, not_here_arrived, pull_arrived}
-use Rattle.private_store.specs.Contents.{Contents, View, source_in, chunk_verdict, pull_matches}
+use Rattle.private_store.specs.Contents.{Contents, View, judge, source_in, chunk_verdict, pull_matches}
 use Rattle.private_store.specs.Private.{view_step, view_from}
 use Rattle.private_store.specs.NodeInputs.{Before, wants_memory, only_of, inputs_to}
 use Rattle.private_store.proofs.Checks.{checked-true}
@@ -23,15 +25,16 @@ use Rattle.job_admission.specs.Admissions.{Admissions, live_at, lives_of}
 use Rattle.node_table.specs.Asked.{HasAsked}
 use Rattle.grants.specs.Table.{AreHands}
 use Rattle.node_table.specs.Row.{Row, beside_of}
-use Rattle.node_table.specs.Shown.{IsShown, Given as RowGiven, only, TakesStep}
-use Rattle.node_core.specs.Hosted.{Hosted, IsViewBy, Shows, ShowsAll, bare, bare_shape, bytes_here, beside_at}
+use Rattle.node_table.specs.Shown.{seen, IsShown, Given as RowGiven, only, TakesStep}
+use Rattle.node_core.specs.Hosted.{Hosted, IsRowView, IsViewBy, Shows, ShowsAll, bare, bare_shape, bytes_here, beside_at}
+use Rattle.node_core.specs.Judged.{arrived}
 use Rattle.node_core.specs.OneJob.{IsStepOf}
 use Rattle.node_core.specs.Outcomes.{with_no_notes}
 use Rattle.node_core.specs.Steps.{before_of, answered, stale_unless, asked_now, line_after, StepsFrom, Steps}
 use Rattle.node_core.proofs.AllJobs.{one_input, called_line, own_shown}
 use Rattle.node_core.proofs.Lines.{asked_nothing}
 use Rattle.node_core.proofs.Never.{stale_wants}
-use Rattle.node_core.proofs.Views.{Refuses, Takes, node_of, views_stepped, told_stepped, views_same, told_refused}
+use Rattle.node_core.proofs.Views.{Refuses, Takes, node_of, view_is, views_stepped, told_stepped, views_same, told_refused}
 
 -- a store that isn't live refuses it
 arrival_refuses : (number : ℕ) (a : Admissions) (line : WorkLine) (hands : List Hand) (job : JobNo) (x : Arrival) → Refuses number a line hands job (input.Arrive x) refl Stale
@@ -151,3 +154,17 @@ module _ (number : ℕ) (a : Admissions) (line : WorkLine) (hands : List Hand) (
       (λ view h. told_after (own_row view h) view h)
       (λ v shows. asked_after (own_row (v job.0) (shows job.0)))
       (is_ok ∙ ap (λ b. answered (stale_unless b)) (sym live))
+
+  -- what it was to the job
+  module _ (word : Judged)
+      (is : (given : List Hand) (bytes : ObjectId → List ℕ) (contents : Contents) → IsShown row (beside_of line given bytes row.job) contents
+      → word ≡ judge number (seen row (beside_of line given bytes row.job) contents) (input.Arrive x)) where
+    pub row_judged : (view : View) → Shows at_first job.0 view → option_map (judge number view) (arrived x told.reply) ≡ Some word
+    row_judged view h =
+        let r : IsRowView row (beside_at at_first job.0) job.0 view = subst (IsViewBy a.greatest (beside_at at_first job.0) job.0 view) found h.by_row in
+        let word_is : (contents : Contents) → IsShown row (beside_at at_first job.0) contents → word ≡ judge number (seen row (beside_at at_first job.0) contents) (input.Arrive x) =
+        subst (λ n. (contents : Contents) → IsShown row (beside_of line hands (bytes_here old) n) contents → word ≡ judge number (seen row (beside_of line hands (bytes_here old) n) contents) (input.Arrive x))
+        r.own (is hands (bytes_here old)) in
+        ap (λ t. option_map (judge number view) (arrived x t)) is_ok
+        ∙ ap (λ v. Some (judge number v (input.Arrive x))) (view_is row (beside_at at_first job.0) job.0 view r)
+        ∙ sym (ap Some (word_is view.contents r.shown))

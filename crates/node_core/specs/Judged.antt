@@ -3,6 +3,10 @@ use Rattle.std.specs.Prelude.{◌≡◌, List, ℕ, Bool, true, false, Option, S
 use Rattle.obj_id.specs.declared.commands.Command.TheVariants as command
 use Rattle.obj_id.specs.declared.commands.Reply.{Reply}
 use Rattle.obj_id.specs.declared.commands.Reply.TheVariants as reply
+use Rattle.obj_id.specs.declared.ids.JobNo.{JobNo}
+use Rattle.obj_id.specs.declared.messages.Arrival.{Arrival}
+use Rattle.private_store.specs.declared.inputs.Input.{Input}
+use Rattle.private_store.specs.declared.inputs.Input.TheVariants as input
 use Rattle.private_store.specs.declared.inputs.Judged.{Judged}
 use Rattle.private_store.specs.declared.inputs.Judged.TheVariants as judged
 use Rattle.private_store.specs.declared.schedules.Event.{Event}
@@ -48,6 +52,17 @@ IsCallJudged _ was = was ≡ was
 pub record IsJudged (old : Hosted) (e : Event) (told : Reply (List ℕ)) (was : Option Judged) : Type 0 where
   pub by_view : (view : View) → Shows old (job_of_event e) view → option_map (judge old.number view) (input_of e told) ≡ was
   pub by_call : IsCallJudged e was
+
+-- ---- messages
+
+-- what an arrival with this answer is to its job: nothing if it is stale
+abbrev pub arrived : Arrival → Reply (List ℕ) → Option Input
+arrived a reply.Ok = Some (input.Arrive a)
+arrived a _ = None
+
+-- this is what the arrival with this answer was to its job
+abbrev pub IsArrivalJudged : Hosted → JobNo → Arrival → Reply (List ℕ) → Option Judged → Type 0
+IsArrivalJudged old job a told was = (view : View) → Shows old job.0 view → option_map (judge old.number view) (arrived a told) ≡ was
 
 -- ---- small enough for a frame
 

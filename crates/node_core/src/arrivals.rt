@@ -1,30 +1,33 @@
 //! Messages that arrive at a node for one of its jobs.
-ghost use Rattle.std.specs.Prelude.{◌≡◌, ℕ, ◌≤◌, List, false, length, Some, IfOk, OnOk, OnErr, IsErrOf};
+ghost use Rattle.std.specs.Prelude.{◌≡◌, ℕ, ◌≤◌, List, [], false, length, Some, IfOk, OnOk, OnErr, IsErrOf};
 ghost use Rattle.obj_id.specs.declared.ids.JobNo.{JobNo};
 ghost use Rattle.obj_id.specs.declared.ids.ObjectId.{ObjectId};
 ghost use Rattle.obj_id.specs.declared.commands.Reply.TheVariants as reply;
 ghost use Rattle.obj_id.specs.declared.messages.Arrival.TheVariants as arrival;
 ghost use Rattle.obj_id.specs.declared.refusals.Refusal.{Refusal};
-ghost use Rattle.obj_id.specs.declared.refusals.Refusal.TheVariants.{NoMemory};
+ghost use Rattle.obj_id.specs.declared.refusals.Refusal.TheVariants.{NoMemory, Stale};
 ghost use Rattle.private_store.specs.declared.inputs.Input.TheVariants as input;
 ghost use Rattle.private_store.specs.declared.schedules.NodeEvent.TheVariants as node_event;
-ghost use Rattle.private_store.specs.Contents.{Contents};
+ghost use Rattle.private_store.specs.Contents.{Contents, judge, source_in as source_in_lem};
 ghost use Rattle.private_store.specs.Hands.{Hand};
 ghost use Rattle.spill_work.specs.Line.{same_job, IsSameFor};
 ghost use Rattle.node_table.specs.Asked.{HasAsked};
 ghost use Rattle.node_table.specs.Outcomes.{given_of as row_given_of};
 ghost use Rattle.node_table.specs.Row.{beside_of};
-ghost use Rattle.node_table.specs.Shown.{IsShown, TakesStep};
+ghost use Rattle.node_table.specs.Shown.{seen, IsShown, TakesStep};
 ghost use Rattle.node_core.specs.Foreseen.{most_by_arrival};
 ghost use Rattle.node_core.specs.Hosted.{row_at};
+ghost use Rattle.node_core.specs.Judged.{IsArrivalJudged};
 ghost use Rattle.node_core.specs.Late.{IsLate};
 ghost use Rattle.node_core.specs.Outcomes.{given_of};
 ghost use Rattle.node_core.specs.Steps.{Steps};
 
 use crate::Node;
 use crate::outcome::Outcome;
+use fetch_core::elsewhere;
 use node_table::JobRow;
-use obj_id::{Arrival, JobNo, PeerMessage, Refusal, Reply};
+use obj_id::{Arrival, JobNo, Location, PeerMessage, Refusal, Reply};
+use private_store::{Judged, Source};
 use spill_work::Works;
 use std::alloc::Global;
 
@@ -34,11 +37,14 @@ impl Node {
     /// The view that the node shows of the job afterwards is what the private step makes of the view before on that
     /// message, and every other job's is as it was. `Stale` where the job isn't live, and then nothing changes. `NoMemory`
     /// alone is an error, and then nothing has changed; it never stands in for `Stale`. It sends no more messages than
-    /// `foresee_arrival` says. What the message was, without contents, isn't told.
+    /// `foresee_arrival` says, tells no job of a hand, and says what it was to its own job: nothing if it is stale.
     pub fn arrive(&mut self, job: JobNo, arrival: &Arrival) -> Result<Outcome, Refusal>
         ensures ok { IfOk result (λ o. Steps self.old (node_event.Arrive job arrival.now) (given_of o) self.new) }
         ensures late { OnErr result (IsLate self.old (node_event.Arrive job arrival.now)) }
         ensures few { IfOk result (λ o. length o.messages ≤ most_by_arrival (row_at self.old job) arrival.now) }
+        ensures judged { IfOk result (λ o. IsArrivalJudged self.old job arrival.now o.reply o.judged) }
+        ensures silent { IfOk result (λ o. o.notes ≡ []) }
+        ensures stale { IfOk result (λ o. o.reply ≡ reply.Refused Stale → self.new ≡ self.old) }
         ensures memory { (r : Refusal) → IsErrOf result r → r ≡ NoMemory }
         ensures err { OnErr result (self.new ≡ self.old) }
     {
@@ -47,24 +53,26 @@ impl Node {
             let outcome = node_table::Outcome::only(self.alloc, reply);
             return Ok(Outcome::of_row(self.alloc, outcome, None));
         };
-        let outcome = deliver(self.alloc, self.number, row, &mut self.works, arrival)?;
-        Ok(Outcome::of_row(self.alloc, outcome, None))
+        let (outcome, judged) = deliver(self.alloc, self.number, row, &mut self.works, arrival)?;
+        Ok(Outcome::of_row(self.alloc, outcome, Some(judged)))
     }
 }
 
-/// The row of the job takes the message. The error is out of memory, and then nothing has changed. Works that it asks for
-/// come last in the line, and those before them stay.
+/// The row of the job takes the message. Answers what it was to the job as well. The error is out of memory, and then nothing
+/// has changed. Works that it asks for come last in the line, and those before them stay.
 fn deliver(
     alloc: Global,
     node: u32,
     row: &mut JobRow,
     works: &mut Works,
     arrival: &Arrival,
-) -> Result<node_table::Outcome, Refusal>
+) -> Result<(node_table::Outcome, Judged), Refusal>
     ensures ok { IfOk result (λ o. (hands : List Hand) (bytes : ObjectId → List ℕ) (contents : Contents) → IsShown row.old (beside_of works.old hands bytes row.old.job) contents
-        → TakesStep node row.old (beside_of works.old hands bytes row.old.job) contents (input.Arrive arrival.now) (row_given_of o) row.new (beside_of works.new hands bytes row.old.job)) }
-    ensures told { IfOk result (λ o. o.reply ≡ reply.Ok) }
-    ensures few { IfOk result (λ o. length o.messages ≤ most_by_arrival (Some row.old) arrival.now) }
+        → TakesStep node row.old (beside_of works.old hands bytes row.old.job) contents (input.Arrive arrival.now) (row_given_of o.0) row.new (beside_of works.new hands bytes row.old.job)) }
+    ensures judged { IfOk result (λ o. (hands : List Hand) (bytes : ObjectId → List ℕ) (contents : Contents) → IsShown row.old (beside_of works.old hands bytes row.old.job) contents
+        → o.1 ≡ judge node (seen row.old (beside_of works.old hands bytes row.old.job) contents) (input.Arrive arrival.now)) }
+    ensures told { IfOk result (λ o. o.0.reply ≡ reply.Ok) }
+    ensures few { IfOk result (λ o. length o.0.messages ≤ most_by_arrival (Some row.old) arrival.now) }
     ensures line { OnOk result (HasAsked works.old (record { 0 = row.old.job }) works.new) }
     ensures others { (other : JobNo) → same_job (record { 0 = row.old.job }) other ≡ false → IsSameFor other works.old works.new }
     ensures memory { (r : Refusal) → IsErrOf result r → r ≡ NoMemory }
@@ -73,8 +81,11 @@ fn deliver(
 {
     match arrival {
         Arrival::Located(id, number, entries) => {
-            row.located(node, id, *number, entries.as_slice());
-            Ok(node_table::Outcome::only(alloc, Reply::Ok))
+            let entries = entries.as_slice();
+            row.located(node, id, *number, entries);
+            let outcome = node_table::Outcome::only(alloc, Reply::Ok);
+            let judged = Judged::Located(*id, *number, source_in(node, entries));
+            Ok((outcome, judged))
         }
         Arrival::FromPeer(from, message) => deliver_from(alloc, node, row, works, *from, message),
     }
@@ -88,11 +99,13 @@ fn deliver_from(
     works: &mut Works,
     from: u32,
     message: &PeerMessage,
-) -> Result<node_table::Outcome, Refusal>
+) -> Result<(node_table::Outcome, Judged), Refusal>
     ensures ok { IfOk result (λ o. (hands : List Hand) (bytes : ObjectId → List ℕ) (contents : Contents) → IsShown row.old (beside_of works.old hands bytes row.old.job) contents
-        → TakesStep node row.old (beside_of works.old hands bytes row.old.job) contents (input.Arrive (arrival.FromPeer from message.now)) (row_given_of o) row.new (beside_of works.new hands bytes row.old.job)) }
-    ensures told { IfOk result (λ o. o.reply ≡ reply.Ok) }
-    ensures few { IfOk result (λ o. length o.messages ≤ most_by_arrival (Some row.old) (arrival.FromPeer from message.now)) }
+        → TakesStep node row.old (beside_of works.old hands bytes row.old.job) contents (input.Arrive (arrival.FromPeer from message.now)) (row_given_of o.0) row.new (beside_of works.new hands bytes row.old.job)) }
+    ensures judged { IfOk result (λ o. (hands : List Hand) (bytes : ObjectId → List ℕ) (contents : Contents) → IsShown row.old (beside_of works.old hands bytes row.old.job) contents
+        → o.1 ≡ judge node (seen row.old (beside_of works.old hands bytes row.old.job) contents) (input.Arrive (arrival.FromPeer from message.now))) }
+    ensures told { IfOk result (λ o. o.0.reply ≡ reply.Ok) }
+    ensures few { IfOk result (λ o. length o.0.messages ≤ most_by_arrival (Some row.old) (arrival.FromPeer from message.now)) }
     ensures line { OnOk result (HasAsked works.old (record { 0 = row.old.job }) works.new) }
     ensures others { (other : JobNo) → same_job (record { 0 = row.old.job }) other ≡ false → IsSameFor other works.old works.new }
     ensures memory { (r : Refusal) → IsErrOf result r → r ≡ NoMemory }
@@ -106,20 +119,40 @@ fn deliver_from(
             length,
             digest,
             indexes,
-        } => row.serve_pull(
-            alloc,
-            node,
-            works,
-            from,
-            id,
-            *number,
-            *length,
-            digest,
-            indexes.as_slice(),
-        ),
-        PeerMessage::Chunk(id, number, index, bytes) => {
-            Ok(row.chunk(alloc, node, from, id, *number, *index, bytes)?)
+        } => {
+            let matches = row.pull_matches(id, *length, digest);
+            let outcome = row.serve_pull(
+                alloc,
+                node,
+                works,
+                from,
+                id,
+                *number,
+                *length,
+                digest,
+                indexes.as_slice(),
+            )?;
+            Ok((outcome, Judged::Pull(*id, *number, matches)))
         }
-        PeerMessage::NotHere(id, number) => Ok(row.not_here(alloc, from, id, *number)?),
+        PeerMessage::Chunk(id, number, index, bytes) => {
+            let taken = row.chunk(alloc, node, from, id, *number, *index, bytes)?;
+            let judged = Judged::Chunk(*id, *number, *index, from, taken.verdict);
+            Ok((taken.outcome, judged))
+        }
+        PeerMessage::NotHere(id, number) => {
+            let outcome = row.not_here(alloc, from, id, *number)?;
+            Ok((outcome, Judged::NotHere(*id, *number, from)))
+        }
     }
+}
+
+/// Where the first entry of another node says that the object is. Takes no memory.
+fn source_in(node: u32, entries: &[Location]) -> Option<Source>
+    ensures { result ≡ source_in_lem node entries.now }
+{
+    let entry = elsewhere(node, entries)?;
+    Some(Source {
+        node: entry.node,
+        length: entry.length,
+    })
 }

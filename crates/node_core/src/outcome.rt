@@ -28,7 +28,7 @@ pub struct Outcome {
     pub messages: Items<(Place, Message)>,
     pub erase: Erase,
     pub notes: Items<Note>,
-    /// What it was to its own job, without contents, or nothing: told of an event that was applied, and `None` of an arrival.
+    /// What it was to its own job, without contents, or nothing.
     pub judged: Option<Judged>,
 }
 

@@ -15,7 +15,7 @@ use obj_id::{JobNo, Quota, Refusal, Reply};
 
 impl Node {
     /// Why the job can't have this quota: `NotAdmitted`, `BadSize`, `Full` if what it uses isn't within it, `NoRoom` if its
-    /// window would meet a neighbour's or the memory's end, or nothing. Takes a walk over the job's copies.
+    /// window would meet a neighbour's or the memory's end, or nothing. Takes no walk over the job's copies.
     fn requota_check(&self, job: JobNo, quota: Quota) -> Option<Refusal>
         ensures refusal { result ≡ requota_refusal self.now job quota }
         ensures shown { (view : View) → Shows self.now job.0 view → result ≡ requota_check_lem self.now.admissions view job quota }

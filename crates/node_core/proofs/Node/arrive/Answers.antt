@@ -1,15 +1,20 @@
 use Rattle.std.proofs.Common.{is_some, sym, ap, subst, ◌∙◌}
+use Rattle.std.specs.Prelude.{option_map}
 use Rattle.std.specs.Map.{lookup, set_value}
 use Rattle.std.specs.Option.{option_copied_mut}
 use Rattle.std.proofs.lemmas.Map.Steps.{set_value_same}
 use Rattle.private_store.specs.Jobs.{same_job}
+use Rattle.private_store.specs.Contents.{judge}
 use Rattle.private_store.specs.declared.inputs.Input.TheVariants as input
 use Rattle.private_store.specs.declared.schedules.NodeEvent.TheVariants.{Arrive}
 use Rattle.node_table.specs.Outcomes.{given_of}
+use Rattle.node_core.specs.Hosted.{Hosted, Shows}
+use Rattle.node_core.specs.Judged.{arrived}
 use Rattle.node_core.specs.Late.{is_accepted, IsLate}
 use Rattle.node_core.specs.Outcomes.{with_no_notes}
-use Rattle.node_core.specs.Steps.{answered, stale_unless, Steps}
-use Rattle.node_core.proofs.Arriving.{stale_steps, row_steps}
+use Rattle.node_core.specs.Steps.{Given, answered, stale_unless, Steps}
+use Rattle.private_store.proofs.Tests.{false_true}
+use Rattle.node_core.proofs.Arriving.{stale_steps, row_steps, row_judged}
 use Rattle.node_core.proofs.Asking.{live-is}
 use Rattle.node_core.proofs.Calling.{always_err}
 use Rattle.node_core.proofs.Views.{node_of}
@@ -28,6 +33,15 @@ returns-in_default-clause-ok c =
     (subst (λ old. Steps old (Arrive c.args.job c.args.arrival.now) _ (all rows)) (ap all same ∙ c.self.view_is)
     (stale_steps c.self.inside.number a line hands c.args.job c.args.arrival.now rows (ap (lookup (same_job c.args.job)) same ∙ absent)
     (sym (live-is a c.self.inside.rows.entries c.self.invariant.jobs c.args.job) ∙ ap is_some absent)))
+
+pub returns-in_default-clause-judged : goal.returns-in_default-clause-judged
+returns-in_default-clause-judged c view h =
+    ap (λ (g : Given). option_map (judge c.args.self.now.number view) (arrived c.args.arrival.now g.reply)) (c.of_row.ensures.given ∙ ap with_no_notes c.only-outcome.ensures)
+    ∙ sym c.of_row.ensures.judged
+
+pub returns-in_default-clause-stale : goal.returns-in_default-clause-stale
+returns-in_default-clause-stale c late =
+    ap (node_of c.self.inside.number c.self.inside.admission c.self.inside.works c.self.inside.hands) (ap (λ r. r.entries) c.get_mut.follows.holds-at-none) ∙ c.self.view_is
 
 pub returns-in_err-outcome-clause-late : goal.returns-in_err-outcome-clause-late
 returns-in_err-outcome-clause-late c =
@@ -59,3 +73,23 @@ returns-clause-ok c =
     (row_steps c.self.inside.number a line hands c.self.invariant.table c.args.job c.args.arrival.now rows new c.in-Some.row.now c.deliver.new.row c.deliver.new.works told found ((c.get_mut.follows.holds c.deliver.new.row).3 (ap is_some found)).0
     c.in_ok-outcome.ensures.ok c.in_ok-outcome.ensures.line c.deliver.ensures.others
     (sym (live-is a rows c.self.invariant.jobs c.args.job) ∙ ap is_some found) c.in_ok-outcome.ensures.told))
+
+pub returns-clause-judged : goal.returns-clause-judged
+returns-clause-judged c view h =
+    let a = c.self.inside.admission in
+    let line = c.self.inside.works in
+    let rows = c.self.inside.rows.entries in
+    let new = (c.get_mut.follows.lender c.deliver.new.row).entries in
+    let told = given_of c.in_ok-outcome.outcome in
+    let found = sym c.get_mut.ensures.value ∙ ap option_copied_mut c.in-Some.is in
+    let done = c.in_ok-outcome.ensures in
+    ap (λ (g : Given). option_map (judge c.args.self.now.number view) (arrived c.args.arrival.now g.reply)) c.of_row-2.ensures.given
+    ∙ ap (λ (n : Hosted). option_map (judge n.number view) (arrived c.args.arrival.now told.reply)) (sym c.self.view_is)
+    ∙ row_judged c.self.inside.number a line c.self.inside.hands c.self.invariant.table c.args.job c.args.arrival.now rows new c.in-Some.row.now c.deliver.new.row c.deliver.new.works told found ((c.get_mut.follows.holds c.deliver.new.row).3 (ap is_some found)).0
+    done.ok done.line c.deliver.ensures.others (sym (live-is a rows c.self.invariant.jobs c.args.job) ∙ ap is_some found) done.told
+    c.in_ok-outcome.judged done.judged view (subst (λ n. Shows n c.args.job.0 view) (sym c.self.view_is) h)
+    ∙ sym c.of_row-2.ensures.judged
+
+pub returns-clause-stale : goal.returns-clause-stale
+returns-clause-stale c late =
+    false_true (ap is_accepted (sym (ap (λ (g : Given). g.reply) c.of_row-2.ensures.given ∙ c.in_ok-outcome.ensures.told) ∙ late))
