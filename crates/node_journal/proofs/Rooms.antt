@@ -124,6 +124,16 @@ all_few hands e told number job notes j after entry are some is =
     (stays_few (job_of_event e) job takers j made (has_no_room (job_of_event e) takers job (length j.list)) refl some
     (made_few (job_of_event e) job takers entry (notes_for number (inputs_noted notes) job) (notes_few hands e told number job notes are)))
 
+-- after a message, which tells nobody
+pub arrival_few : (own number job : ℕ) (notes : List Note) (j after : Journal) (entry : Line) → notes ≡ []
+    → after ≡ with_lines (folded_if (has_no_room own [] job (length j.list)) j) ((if own == job then entry ∷ [] else []) ++ notes_for number (inputs_noted notes) job)
+    → length after.list ≤ most_lines
+arrival_few own number job notes j after entry silent is =
+    let made : List Line = (if own == job then entry ∷ [] else []) ++ notes_for number (inputs_noted notes) job in
+    subst (λ (k : Journal). length k.list ≤ most_lines) (sym is)
+    (stays_few own job [] j made (has_no_room own [] job (length j.list)) refl (omega arith)
+    (made_few own job [] entry (notes_for number (inputs_noted notes) job) (subst (λ ns. length (notes_for number (inputs_noted ns) job) ≤ 0) (sym silent) (omega arith))))
+
 pub fold_few : (b : Bool) (j after : Journal) → after ≡ folded_if b j → length j.list ≤ most_lines → length after.list ≤ most_lines
 fold_few b j after is few = subst (λ (k : Journal). length k.list ≤ 65536) (sym is) (by b)
   where

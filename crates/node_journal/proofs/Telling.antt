@@ -1,5 +1,5 @@
 -- A journal after one step more tells of its node as before.
-use Rattle.std.proofs.Common.{◌≡◌, ℕ, Bool, true, false, cond, ◌==◌, List, [], ◌∷◌, ◌++◌, map, append-nil, append_assoc, Option, Some, None, refl, sym, ap, subst, ◌∙◌, arith}
+use Rattle.std.proofs.Common.{◌≡◌, ℕ, Bool, true, false, cond, ◌==◌, List, [], ◌∷◌, ◌++◌, map, append-nil, append_assoc, Option, Some, None, is_some, refl, sym, ap, subst, ◌∙◌, arith}
 use Rattle.std.specs.Prelude.{if◌then◌else◌, filter, option_map, option_to_list, ◌↔◌, Result, Ok, Err, OnOk, OnErr}
 use Rattle.std.proofs.lemmas.Bool.Decides.{nat_tests}
 use Rattle.std.proofs.lemmas.List.{map-append}
@@ -7,13 +7,16 @@ use Rattle.std.proofs.Math.Logic.{∥∥₁_map, ∥∥₁_elim}
 use mathlib.Core.Bool.{Bool-set}
 use Rattle.obj_id.specs.declared.commands.Reply.{Reply}
 use Rattle.obj_id.specs.declared.commands.Reply.TheVariants as reply
+use Rattle.obj_id.specs.declared.ids.JobNo.{JobNo}
+use Rattle.obj_id.specs.declared.messages.Arrival.{Arrival}
 use Rattle.obj_id.specs.declared.refusals.Refusal.{Refusal}
+use Rattle.obj_id.specs.declared.refusals.Refusal.TheVariants.{Stale}
 use Rattle.private_store.specs.declared.inputs.Input.{Input}
 use Rattle.private_store.specs.declared.inputs.Input.TheVariants as input
 use Rattle.private_store.specs.declared.inputs.Judged.{Judged}
 use Rattle.private_store.specs.declared.schedules.Event.{Event}
 use Rattle.private_store.specs.declared.schedules.Event.TheVariants as event
-use Rattle.private_store.specs.declared.schedules.NodeEvent.TheVariants.{Own}
+use Rattle.private_store.specs.declared.schedules.NodeEvent.TheVariants.{Own, Arrive}
 use Rattle.private_store.specs.Contents.{View, judge}
 use Rattle.private_store.specs.Answers.{wants_memory, is_small_reply}
 use Rattle.private_store.specs.NodeInputs.{JobInput, Before, own_here, notes_here, only_of, inputs_to}
@@ -22,11 +25,11 @@ use Rattle.private_store.specs.Replay.{Line as Replayed, replayed, brief_after, 
 use Rattle.private_store.proofs.AnswersAre.{view_never_wants, answers_whole}
 use Rattle.private_store.proofs.Tests.{none_some}
 use Rattle.private_store.proofs.StepsKept.{no_store_kept, view_keeps}
-use Rattle.job_admission.specs.Admissions.{Admissions}
+use Rattle.job_admission.specs.Admissions.{Admissions, live_at}
 use Rattle.node_core.specs.Hosted.{Hosted, Shows, ShowsAll}
-use Rattle.node_core.specs.Steps.{Given, JobJudged, Steps, StepsFrom, IsStepOf, IsGiven, before_of, job_of_event, judged_notes}
+use Rattle.node_core.specs.Steps.{Given, JobJudged, Steps, StepsFrom, IsStepOf, IsGiven, before_of, job_of_event, judged_notes, answered, stale_unless}
 use Rattle.node_core.specs.OneJob.{input_of}
-use Rattle.node_core.specs.Judged.{IsJudged, IsSmall, IsSmallCall}
+use Rattle.node_core.specs.Judged.{IsJudged, arrived, IsArrivalJudged, IsSmall, IsSmallCall}
 use Rattle.node_journal.specs.declared.entries.Entry.{Entry}
 use Rattle.node_journal.specs.declared.entries.Line.{Line}
 use Rattle.node_journal.specs.declared.entries.Line.TheVariants as line
@@ -218,18 +221,18 @@ module _ (old new : Hosted) (e : Event) (given : Given) (number : ℕ) (steps : 
         by false o t is = subst (λ ls. IsTold (v job) (record j { list = ls })) (sym (append-nil j.list)) h
 
     one_told : (job : ℕ) (j : Journal) → IsTold (v job) j
-        → IsTold (view_from old.number (v job) (inputs_to before (Own e) given.reply job)) (with_lines j (lines_made number e was given job))
+        → IsTold (view_from old.number (v job) (inputs_to before (Own e) given.reply job)) (with_lines j (lines_made number (Own e) was given job))
     one_told job j h =
         let own : List Line = if job_of_event e == job then line.Entry entry ∷ [] else [] in
         let mine : List Input = if_own (job_of_event e == job) (input_of e given.reply) in
-        subst (λ xs. IsTold (view_from old.number (v job) xs) (with_lines j (lines_made number e was given job))) (sym (inputs_are job))
-        (subst (λ w. IsTold w (with_lines j (lines_made number e was given job))) (sym (from-append old.number (v job) mine (only_of job noted)))
+        subst (λ xs. IsTold (view_from old.number (v job) xs) (with_lines j (lines_made number (Own e) was given job))) (sym (inputs_are job))
+        (subst (λ w. IsTold w (with_lines j (lines_made number (Own e) was given job))) (sym (from-append old.number (v job) mine (only_of job noted)))
         (subst (λ notes. IsTold (view_from old.number (view_from old.number (v job) mine) (only_of job noted)) (with_lines j (own ++ notes_for number notes job))) (sym from.notes)
         (subst (λ ls. IsTold (view_from old.number (view_from old.number (v job) mine) (only_of job noted)) (record j { list = ls })) (append_assoc j.list own (notes_for number (judged_notes old.number v noted) job))
         (notes_told old.number number job v noted (here_notes before (Own e) given.reply) (view_from old.number (v job) mine) (with_lines j own) (own_told job j h)))))
 
   -- the fact under the lock
-  told_next : (before after : ℕ → Journal) → ((job : ℕ) → after job ≡ with_lines (before job) (lines_made number e was given job)) → Tells old before → Tells new after
+  told_next : (before after : ℕ → Journal) → ((job : ℕ) → after job ≡ with_lines (before job) (lines_made number (Own e) was given job)) → Tells old before → Tells new after
   told_next before after is h = record {
     views = λ job. view_from old.number (h.views job) (inputs_to (before_of old h.views) (Own e) given.reply job);
     shown = (steps.each h.views h.shown).views;
@@ -239,7 +242,7 @@ module _ (old new : Hosted) (e : Event) (given : Given) (number : ℕ) (steps : 
   }
 
   -- also where lists are folded first
-  pub all_told : (before after : ℕ → Journal) (full : ℕ → Bool) → ((job : ℕ) → after job ≡ with_lines (folded_if (full job) (before job)) (lines_made number e was given job)) → ∥ Tells old before ∥₁ → ∥ Tells new after ∥₁
+  pub all_told : (before after : ℕ → Journal) (full : ℕ → Bool) → ((job : ℕ) → after job ≡ with_lines (folded_if (full job) (before job)) (lines_made number (Own e) was given job)) → ∥ Tells old before ∥₁ → ∥ Tells new after ∥₁
   all_told before after full is h = ∥∥₁_map h (λ t. told_next (λ job. folded_if (full job) (before job)) after is (told_folded old before full t))
 
   -- what a session is answered
@@ -268,6 +271,106 @@ call_small old e told before small call h = ∥∥₁_elim h (Bool-set _ _) (λ 
     by (event.JobEnd job) call is = absurd cc
     by event.Take call is = absurd cc
     by (event.Finish job number a) call is = absurd cc
+
+-- ---- a message
+
+module _ (old new : Hosted) (to : JobNo) (a : Arrival) (given : Given) (number : ℕ) (steps : Steps old (Arrive to a) given new) (was : Option Judged) (is_judged : IsArrivalJudged old to a given.reply was)
+    (stale : given.reply ≡ reply.Refused Stale → new ≡ old) (silent : given.notes ≡ []) where
+  abbrev x : Input
+  x = input.Arrive a
+
+  abbrev came : Line
+  came = line.Entry (entry_for number was given.reply)
+
+  abbrev made : ℕ → List Line
+  made job = lines_made number (Arrive to a) was given job
+
+  made_is : (job : ℕ) → made job ≡ (if to.0 == job then came ∷ [] else [])
+  made_is job =
+      let own : List Line = if to.0 == job then came ∷ [] else [] in
+      ap (λ notes. own ++ notes_for number notes job) silent ∙ append-nil own
+
+  own_is : (job : ℕ) → (to.0 == job) ≡ true → to.0 ≡ job
+  own_is job t = grind (arith, nat_tests)
+
+  -- another job's journal
+  others_told : (view : View) (j : Journal) → IsTold view j → IsTold view (with_lines j [])
+  others_told view j h = subst (λ ls. IsTold view (record j { list = ls })) (sym (append-nil j.list)) h
+
+  module _ (v : ℕ → View) (shows : ShowsAll old v) where
+    abbrev before_it : Before
+    before_it = before_of old v
+
+    came_from : StepsFrom old v (Arrive to a) given new
+    came_from = steps.each v shows
+
+    word_is : (told : Reply (List ℕ)) → given.reply ≡ told → was ≡ option_map (judge old.number (v to.0)) (arrived a told)
+    word_is told is = sym (is_judged (v to.0) (shows to.0)) ∙ ap (λ t. option_map (judge old.number (v to.0)) (arrived a t)) is
+
+    -- its job takes it
+    module _ (ok : given.reply ≡ reply.Ok) where
+      own_input : (job : ℕ) → inputs_to before_it (Arrive to a) given.reply job ≡ if_own (to.0 == job) (Some x)
+      own_input job =
+          ap (λ t. only_of job (option_to_list (cond (wants_memory t) None (Some (record { job = to.0; input = x }))) ++ [])) ok
+          ∙ own_inputs to.0 job (Some x)
+
+      here_told : (job : ℕ) → to.0 ≡ job → (j : Journal) → IsTold (v job) j → IsTold (view_step old.number (v job) x).view (with_lines j (came ∷ []))
+      here_told job own j h =
+          line_told old.number (v job) x j came (kept_reply given.reply) h
+          (ap (option_map (λ y. record { input = y; reply = kept_reply given.reply })) (word_is reply.Ok ok ∙ ap (λ k. Some (judge old.number (v k) x)) own))
+          (ap kept_reply (came_from.told.reply ∙ ap (λ k. (view_step old.number (v k) x).reply) own) ∙ ap unlisted (answers_whole old.number (v job) x h.kept))
+
+      taken_told : (job : ℕ) (j : Journal) → IsTold (v job) j → IsTold (view_from old.number (v job) (inputs_to before_it (Arrive to a) given.reply job)) (with_lines j (made job))
+      taken_told job j h =
+          subst (λ xs. IsTold (view_from old.number (v job) xs) (with_lines j (made job))) (sym (own_input job))
+          (subst (λ ls. IsTold (view_from old.number (v job) (if_own (to.0 == job) (Some x))) (with_lines j ls)) (sym (made_is job)) (by (to.0 == job) refl))
+        where
+          by : (b : Bool) → (to.0 == job) ≡ b → IsTold (view_from old.number (v job) (if_own b (Some x))) (with_lines j (cond b (came ∷ []) []))
+          by true t = here_told job (own_is job t) j h
+          by false t = others_told (v job) j h
+
+    -- its job isn't live
+    module _ (late : given.reply ≡ reply.Refused Stale) where
+      nothing_told : (view : View) (j : Journal) → IsTold view j → IsTold view (with_lines j (came ∷ []))
+      nothing_told view j h =
+          let ls : List Line = j.list in
+          let lines : lines_of (ls ++ came ∷ []) ≡ lines_of ls =
+          lines_of-snoc ls came
+          ∙ ap (λ o. lines_of ls ++ option_to_list (option_map (λ y. record { input = y; reply = kept_reply given.reply }) o)) (word_is (reply.Refused Stale) late)
+          ∙ append-nil (lines_of ls) in
+          record {
+            kept = h.kept;
+            replays = ap (replayed j.base) lines ∙ h.replays;
+            due = subst (AreDue j.base) (sym lines) h.due;
+          }
+
+      stale_told : (job : ℕ) (j : Journal) → IsTold (v job) j → IsTold (v job) (with_lines j (made job))
+      stale_told job j h = subst (λ ls. IsTold (v job) (with_lines j ls)) (sym (made_is job)) (by (to.0 == job))
+        where
+          by : (b : Bool) → IsTold (v job) (with_lines j (cond b (came ∷ []) []))
+          by true = nothing_told (v job) j h
+          by false = others_told (v job) j h
+
+  arrival_next : (before after : ℕ → Journal) → ((job : ℕ) → after job ≡ with_lines (before job) (made job)) → Tells old before → Tells new after
+  arrival_next before after is h = by (is_some (live_at old.admissions to)) (came_from h.views h.shown).operator
+    where
+      by : (live : Bool) → given.reply ≡ answered (stale_unless live) → Tells new after
+      by true ok = record {
+        views = λ job. view_from old.number (h.views job) (inputs_to (before_of old h.views) (Arrive to a) given.reply job);
+        shown = (came_from h.views h.shown).views;
+        told = λ job.
+            subst (IsTold (view_from old.number (h.views job) (inputs_to (before_of old h.views) (Arrive to a) given.reply job))) (sym (is job))
+            (taken_told h.views h.shown ok job (before job) (h.told job));
+      }
+      by false late = subst (λ node. Tells node after) (sym (stale late)) (record {
+        views = h.views;
+        shown = h.shown;
+        told = λ job. subst (IsTold (h.views job)) (sym (is job)) (stale_told h.views h.shown late job (before job) (h.told job));
+      })
+
+  -- also where its list is folded first
+  pub arrival_told : (before after : ℕ → Journal) (full : ℕ → Bool) → ((job : ℕ) → after job ≡ with_lines (folded_if (full job) (before job)) (made job)) → ∥ Tells old before ∥₁ → ∥ Tells new after ∥₁
+  arrival_told before after full is h = ∥∥₁_map h (λ t. arrival_next (λ job. folded_if (full job) (before job)) after is (told_folded old before full t))
 
 -- ---- a node in which nothing has happened
 

@@ -9,13 +9,15 @@ use Rattle.private_store.specs.declared.inputs.Judged.{Judged}
 use Rattle.private_store.specs.declared.inputs.Judged.TheVariants as judged
 use Rattle.private_store.specs.declared.schedules.Event.{Event}
 use Rattle.private_store.specs.declared.schedules.Event.TheVariants as event
+use Rattle.private_store.specs.declared.schedules.NodeEvent.{NodeEvent}
+use Rattle.private_store.specs.declared.schedules.NodeEvent.TheVariants.{Own, Arrive}
 use Rattle.private_store.specs.Contents.{View}
 use Rattle.private_store.specs.Hands.{Hand}
 use Rattle.private_store.specs.Kept.{IsViewKept}
 use Rattle.private_store.specs.Replay.{Brief, Line as Replayed, unbegun_brief, replayed, answers_due, brief_of}
 use Rattle.node_core.specs.Hosted.{Hosted, ShowsAll}
 use Rattle.node_core.specs.Foreseen.{takers_of}
-use Rattle.node_core.specs.Steps.{Given, JobJudged, job_of_event}
+use Rattle.node_core.specs.Steps.{Given, JobJudged, job_of}
 use Rattle.node_journal.specs.declared.entries.Entry.{Entry}
 use Rattle.node_journal.specs.declared.entries.Agreement.{Agreement}
 use Rattle.node_journal.specs.declared.entries.Agreement.TheVariants as agree
@@ -52,9 +54,9 @@ abbrev pub notes_for : ℕ → List JobJudged → ℕ → List Line
 notes_for number notes job = map (λ note. line.Note number note.input) (filter (λ note. note.job == job) notes)
 
 -- the lines of a job that an event makes: the entry, if the event is of the job, and then what it was told
-abbrev pub lines_made : ℕ → Event → Option Judged → Given → ℕ → List Line
+abbrev pub lines_made : ℕ → NodeEvent → Option Judged → Given → ℕ → List Line
 lines_made number e was given job =
-    (if job_of_event e == job then line.Entry (entry_for number was given.reply) ∷ [] else []) ++ notes_for number given.notes job
+    (if job_of e == job then line.Entry (entry_for number was given.reply) ∷ [] else []) ++ notes_for number given.notes job
 
 -- ---- the replay
 
@@ -137,9 +139,14 @@ lines_due own takers job = count_by (λ taker. taker.0 == job) takers + (if own 
 abbrev pub has_no_room : ℕ → List JobNo → ℕ → ℕ → Bool
 has_no_room own takers job lines = nat_lt most_lines (lines + lines_due own takers job)
 
+-- the jobs that it tells of hands if it is accepted, one for each note: a message tells nobody
+abbrev pub takers_at : List Hand → NodeEvent → List JobNo
+takers_at hands (Own e) = takers_of hands e
+takers_at hands (Arrive job a) = []
+
 -- whether the job's list is folded before the event is taken: it might have no room for what the event makes
-abbrev pub is_folded_by : List Hand → Event → ℕ → List Line → Bool
-is_folded_by hands e job ls = has_no_room (job_of_event e) (takers_of hands e) job (length ls)
+abbrev pub is_folded_by : List Hand → NodeEvent → ℕ → List Line → Bool
+is_folded_by hands e job ls = has_no_room (job_of e) (takers_at hands e) job (length ls)
 
 -- ---- beginnings
 

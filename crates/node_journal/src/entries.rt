@@ -2,10 +2,12 @@
 ghost use Rattle.std.specs.Prelude.{◌≡◌};
 ghost use Rattle.obj_id.specs.declared.commands.Reply.TheVariants as reply;
 ghost use Rattle.node_core.specs.Steps.{job_of_event};
-ghost use Rattle.node_journal.specs.Journals.{begins, is_entry, step_of};
+ghost use Rattle.node_journal.specs.Journals.{begins, entry_for, is_entry, step_of};
 ghost use Rattle.node_journal.specs.Replies.{kept_reply};
 
+use crate::copies::copy_of;
 use bytes::Bytes;
+use node_core::Outcome;
 use obj_id::{Items, JobNo, Reply, Work};
 use private_store::{Event, Judged};
 use std::alloc::Global;
@@ -17,7 +19,7 @@ use std::sync::ledger::Ledger;
 pub struct Entry {
     /// From 1, over all jobs of the node.
     pub number: u64,
-    /// What the event was to its job, without contents: none if the operator was refused, or a Finish was stale.
+    /// What the event was to its job, without contents: none if the operator was refused, or a Finish or a message was stale.
     pub input: Option<Judged>,
     /// The answer without contents: bytes as their number, and a list without its items.
     pub reply: Reply<u64>,
@@ -110,7 +112,7 @@ impl<L: Ledger> Receipt<L> {
         self.job
     }
 
-    /// What the event was to its job, without contents: none if the operator was refused, or a Finish was stale.
+    /// What the event was to its job, without contents: none if the operator was refused, or a Finish or a message was stale.
     pub fn input(&self) -> &Option<Judged>
         ensures { result.now ≡ self.now.entry.input }
     {
@@ -125,8 +127,19 @@ impl<L: Ledger> Receipt<L> {
     }
 }
 
+/// The entry of this number, of a step that gave this. Takes no memory.
+pub(crate) fn entry_of(alloc: Global, number: u64, outcome: &Outcome) -> Entry
+    ensures { result ≡ entry_for number outcome.now.judged outcome.now.reply }
+{
+    Entry {
+        number,
+        input: copy_of(&outcome.judged),
+        reply: kept_reply_of(alloc, &outcome.reply),
+    }
+}
+
 /// The reply as a journal keeps it. Takes no memory.
-pub(crate) fn kept_reply_of(alloc: Global, reply: &Reply<Bytes>) -> Reply<u64>
+fn kept_reply_of(alloc: Global, reply: &Reply<Bytes>) -> Reply<u64>
     ensures { result ≡ kept_reply reply.now }
 {
     match reply {

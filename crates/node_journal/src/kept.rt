@@ -1,24 +1,24 @@
 //! A node with its journal, under one name.
 ghost use Rattle.std.specs.Prelude.{◌≡◌, ℕ, ◌+◌, ◌==◌, ◌⊎◌, ◌≤◌, [], true, false, length, Some, None, IfOk, IfErr, OnOk, OnErr, IsErrOf, IsOk, is_some};
 ghost use Rattle.std.specs.List.{list_any};
+ghost use Rattle.obj_id.specs.declared.commands.Reply.TheVariants as reply;
 ghost use Rattle.obj_id.specs.declared.refusals.Refusal.{Refusal};
-ghost use Rattle.obj_id.specs.declared.refusals.Refusal.TheVariants.{NoMemory, NotAdmitted, TooMany};
+ghost use Rattle.obj_id.specs.declared.refusals.Refusal.TheVariants.{NoMemory, NotAdmitted, TooMany, Stale};
 ghost use Rattle.private_store.specs.declared.schedules.NodeEvent.TheVariants as node_event;
 ghost use Rattle.private_store.specs.Answers.{wants_memory, is_small_reply};
 ghost use Rattle.job_admission.specs.Admissions.{largest_memory, sessions_entered, enter_check, entered};
 ghost use Rattle.spill_work.specs.Line.{front_of};
 ghost use Rattle.node_core.specs.Steps.{job_of_event, Steps};
-ghost use Rattle.node_core.specs.Judged.{IsJudged, IsSmall};
+ghost use Rattle.node_core.specs.Judged.{IsJudged, IsArrivalJudged, IsSmall};
 ghost use Rattle.node_core.specs.Outcomes.{given_of};
 ghost use Rattle.node_journal.specs.Logs.{journal_of, list_of};
 ghost use Rattle.node_journal.specs.Journals.{entry_for, lines_made, is_entry, rise_above, Tells, AreNumbered, agreement, folded_if, is_folded_by, most_lines, with_lines, is_call};
 
-use crate::copies::copy_of;
-use crate::entries::{Agreement, Entry, Line, Receipt, job_of, kept_reply_of};
+use crate::entries::{Agreement, Line, Receipt, entry_of, job_of};
 use crate::folding::{MOST_LINES, base_of, bases_of};
 use crate::logs::Logs;
 use node_core::{Node, Outcome};
-use obj_id::{JobKey, JobNo, Refusal};
+use obj_id::{Arrival, JobKey, JobNo, Refusal};
 use private_store::Event;
 use std::alloc::Global;
 use std::marker::PhantomData;
@@ -79,7 +79,7 @@ impl<L: Ledger> Kept<L> {
     pub fn step(&mut self, event: &Event) -> Result<(Outcome, Receipt<L>), Refusal>
         ensures node { IfOk result (λ r. Steps self.old.node (node_event.Own event.now) (given_of r.0) self.new.node) }
         ensures journal { IfOk result (λ r. (job : ℕ) → journal_of self.new.logs job
-            ≡ with_lines (folded_if (is_folded_by self.old.node.hands event.now job (list_of self.old.logs job)) (journal_of self.old.logs job)) (lines_made (self.old.count + 1) event.now r.0.judged (given_of r.0) job)) }
+            ≡ with_lines (folded_if (is_folded_by self.old.node.hands (node_event.Own event.now) job (list_of self.old.logs job)) (journal_of self.old.logs job)) (lines_made (self.old.count + 1) (node_event.Own event.now) r.0.judged (given_of r.0) job)) }
         ensures receipt { IfOk result (λ r. (r.1.node ≡ self.old.number) × (r.1.job.0 ≡ job_of_event event.now) × (r.1.entry ≡ entry_for (self.old.count + 1) r.0.judged r.0.reply)) }
         ensures judged { IfOk result (λ r. IsJudged self.old.node event.now r.0.reply r.0.judged) }
         ensures count { OnOk result (self.new.count ≡ self.old.count + 1) }
@@ -107,11 +107,53 @@ impl<L: Ledger> Kept<L> {
         let receipt = Receipt {
             node: *number,
             job: job_of(event),
-            entry: Entry {
-                number: next,
-                input: copy_of(&outcome.judged),
-                reply: kept_reply_of(*alloc, &outcome.reply),
-            },
+            entry: entry_of(*alloc, next, &outcome),
+            name: PhantomData,
+        };
+        Ok((outcome, receipt))
+    }
+
+    /// A message of a job arrives, by `Node::arrive`, and adds one entry to the job's list, which the receipt names. It tells
+    /// nobody of a hand, so there is no note. The list is folded first if it has 65,536 lines: its base is then the replay of
+    /// its old base and lines, and it has the new entry alone.
+    ///
+    /// `NoMemory` alone, if the message, its entry or a fold finds no memory, or if 1,152,921,504,606,846,975 entries were
+    /// made: then nothing has changed.
+    pub fn arrive(
+        &mut self,
+        job: JobNo,
+        arrival: &Arrival,
+    ) -> Result<(Outcome, Receipt<L>), Refusal>
+        ensures node { IfOk result (λ r. Steps self.old.node (node_event.Arrive job arrival.now) (given_of r.0) self.new.node) }
+        ensures journal { IfOk result (λ r. (other : ℕ) → journal_of self.new.logs other
+            ≡ with_lines (folded_if (is_folded_by self.old.node.hands (node_event.Arrive job arrival.now) other (list_of self.old.logs other)) (journal_of self.old.logs other)) (lines_made (self.old.count + 1) (node_event.Arrive job arrival.now) r.0.judged (given_of r.0) other)) }
+        ensures receipt { IfOk result (λ r. (r.1.node ≡ self.old.number) × (r.1.job.0 ≡ job.0) × (r.1.entry ≡ entry_for (self.old.count + 1) r.0.judged r.0.reply)) }
+        ensures judged { IfOk result (λ r. IsArrivalJudged self.old.node job arrival.now r.0.reply r.0.judged) }
+        ensures silent { IfOk result (λ r. r.0.notes ≡ []) }
+        ensures count { OnOk result (self.new.count ≡ self.old.count + 1) }
+        ensures number { self.new.number ≡ self.old.number }
+        ensures memory { (r : Refusal) → IsErrOf result r → r ≡ NoMemory }
+        ensures same { OnErr result ((self.new.node ≡ self.old.node) × (self.new.count ≡ self.old.count)) }
+        ensures unchanged { OnErr result ((other : ℕ) → journal_of self.new.logs other ≡ journal_of self.old.logs other) }
+    {
+        if self.count >= LAST_ENTRY {
+            return Err(Refusal::NoMemory);
+        }
+        let Kept {
+            alloc,
+            node,
+            number,
+            logs,
+            count,
+            seat: _,
+        } = self;
+        let next = *count + 1;
+        let outcome = record_arrival(*alloc, node, logs, next, job, arrival)?;
+        *count = next;
+        let receipt = Receipt {
+            node: *number,
+            job,
+            entry: entry_of(*alloc, next, &outcome),
             name: PhantomData,
         };
         Ok((outcome, receipt))
@@ -250,7 +292,7 @@ fn record(
     ensures judged { IfOk result (λ o. IsJudged node.old event.now o.reply o.judged) }
     ensures small { IfOk result (λ o. IsSmall node.old event.now o.reply) }
     ensures logs { IfOk result (λ o. (job : ℕ) → journal_of logs.new job
-        ≡ with_lines (folded_if (is_folded_by node.old.hands event.now job (list_of logs.old job)) (journal_of logs.old job)) (lines_made number event.now o.judged (given_of o) job)) }
+        ≡ with_lines (folded_if (is_folded_by node.old.hands (node_event.Own event.now) job (list_of logs.old job)) (journal_of logs.old job)) (lines_made number (node_event.Own event.now) o.judged (given_of o) job)) }
     ensures few { IfOk result (λ o. (job : ℕ) → length (list_of logs.new job) ≤ most_lines) }
     ensures memory { (r : Refusal) → IsErrOf result r → r ≡ NoMemory }
     ensures err { OnErr result (node.new ≡ node.old) }
@@ -266,14 +308,41 @@ fn record(
     // the bases are those before the step
     let bases = bases_of(alloc, node, logs, job, takers.as_slice())?;
     let outcome = node.apply(event)?;
-    let reply = kept_reply_of(alloc, &outcome.reply);
-    let entry = Entry {
-        number,
-        input: copy_of(&outcome.judged),
-        reply,
-    };
     logs.fold_all(bases);
-    logs.add(job, Line::Entry(entry));
+    logs.add(job, Line::Entry(entry_of(alloc, number, &outcome)));
     logs.add_notes(number, outcome.notes.as_slice());
+    Ok(outcome)
+}
+
+/// The message arrives, and the entry of this number is written; the job's list is folded before if it has no room. An error
+/// changes neither.
+fn record_arrival(
+    alloc: Global,
+    node: &mut Node,
+    logs: &mut Logs,
+    number: u64,
+    job: JobNo,
+    arrival: &Arrival,
+) -> Result<Outcome, Refusal>
+    requires told { ∥ Tells node.old (journal_of logs.old) ∥₁ }
+    requires few { (other : ℕ) → length (list_of logs.old other) ≤ most_lines }
+    ensures node { IfOk result (λ o. Steps node.old (node_event.Arrive job arrival.now) (given_of o) node.new) }
+    ensures judged { IfOk result (λ o. IsArrivalJudged node.old job arrival.now o.reply o.judged) }
+    ensures silent { IfOk result (λ o. o.notes ≡ []) }
+    ensures stale { IfOk result (λ o. o.reply ≡ reply.Refused Stale → node.new ≡ node.old) }
+    ensures logs { IfOk result (λ o. (other : ℕ) → journal_of logs.new other
+        ≡ with_lines (folded_if (is_folded_by node.old.hands (node_event.Arrive job arrival.now) other (list_of logs.old other)) (journal_of logs.old other)) (lines_made number (node_event.Arrive job arrival.now) o.judged (given_of o) other)) }
+    ensures few { IfOk result (λ o. (other : ℕ) → length (list_of logs.new other) ≤ most_lines) }
+    ensures memory { (r : Refusal) → IsErrOf result r → r ≡ NoMemory }
+    ensures err { OnErr result (node.new ≡ node.old) }
+    ensures unchanged { OnErr result ((other : ℕ) → journal_of logs.new other ≡ journal_of logs.old other) }
+{
+    // all growth comes before the node's step
+    logs.reserve(job, &[])?;
+    // the base is that before the step
+    let bases = bases_of(alloc, node, logs, job, &[])?;
+    let outcome = node.arrive(job, arrival)?;
+    logs.fold_all(bases);
+    logs.add(job, Line::Entry(entry_of(alloc, number, &outcome)));
     Ok(outcome)
 }

@@ -1,6 +1,7 @@
 use Rattle.std.proofs.Common.{◌≡◌, ◌==◌, ◌<◌, ◌≤◌, ◌+◌, List, [], ◌∷◌, ◌++◌, length, map, refl, sym, ap, subst, ◌∙◌, arith}
 use Rattle.std.specs.Prelude.{if◌then◌else◌}
 use Rattle.obj_id.specs.declared.ids.JobNo.{JobNo}
+use Rattle.private_store.specs.declared.schedules.NodeEvent.TheVariants.{Own}
 use Rattle.node_core.specs.declared.outcome.Note.{Note}
 use Rattle.node_core.specs.Foreseen.{AreTakers}
 use Rattle.node_core.specs.Outcomes.{inputs_noted}
@@ -38,13 +39,13 @@ returns-clause-logs c = λ job.
     let kept = c.in_ok-reserve.ensures.journals job in
     let full = c.in_ok-bases.ensures.full job ∙ (λ i. has_no_room (c.job_of-job.ensures i) (takers i) job (length (kept i).list)) in
     let first : Journal = journal_of c.fold_all.new.self job in
-    let first_is : first ≡ folded_if (is_folded_by hands e job (list_of c.args.logs.now job)) (journal_of c.args.logs.now job) =
+    let first_is : first ≡ folded_if (is_folded_by hands (Own e) job (list_of c.args.logs.now job)) (journal_of c.args.logs.now job) =
     c.fold_all.ensures.journal job ∙ (λ i. folded_if (full i) (kept i)) in
     added (job_of_event e == job) first (journal_of c.add.new.self job) (journal_of c.add_notes.new.self job)
     (line.Entry (entry_for c.args.number outcome.judged outcome.reply)) (notes_for c.args.number (inputs_noted outcome.notes) job)
     (c.add.ensures.journal job
     ∙ (λ i. if c.job_of-job.ensures i == job
-    then with_lines first (line.Entry (record { number = c.args.number; input = c.copy_of.ensures i; reply = c.kept_reply_of-reply.ensures i }) ∷ [])
+    then with_lines first (line.Entry (c.entry_of.ensures i) ∷ [])
     else first))
     (c.add_notes.ensures job ∙ ap (λ ns. with_lines (journal_of c.add.new.self job) (notes_for c.args.number (inputs_noted ns) job)) c.as_slice-4.ensures)
     ∙ ap (λ j. with_lines j ((if job_of_event e == job then line.Entry (entry_for c.args.number outcome.judged outcome.reply) ∷ [] else []) ++ notes_for c.args.number (inputs_noted outcome.notes) job)) first_is
