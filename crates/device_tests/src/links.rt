@@ -1,0 +1,174 @@
+//! The links: what comes out of one, when it is full, and when each end comes to its end.
+ghost use Rattle.std.specs.Prelude.{IfOk};
+ghost use Rattle.fetch_link.specs.Ends.{AreEnds};
+
+use assertions::same;
+use fetch_link::{LinkReceiver, LinkSender, MOST_IN_FLIGHT, Sent, open, reunite};
+use std::alloc::{AllocError, Global};
+use std::process::Abort;
+use std::sync::Wait;
+use std::test::Fail;
+use std::thread;
+
+/// More messages than a link holds at once.
+const MANY: u64 = 5_000;
+
+/// A link; once more if memory ran out.
+fn opened(alloc: Global) -> Result<(LinkSender<u64>, LinkReceiver<u64>), AllocError>
+    ensures { IfOk result (λ ends. AreEnds ends.0 ends.1) }
+{
+    match open(alloc) {
+        Ok(ends) => Ok(ends),
+        Err(_) => open(alloc),
+    }
+}
+
+/// Sends 0, 1, 2 and so on for as long as they are accepted. How many were, and what became of the next.
+fn fill<R: Wait>(rt: &R, sender: &mut LinkSender<u64>) -> (u64, Sent) {
+    for number in 0..MANY {
+        let sent = sender.send_next(rt, number);
+        if sent != Sent::Accepted {
+            return (number, sent);
+        }
+    }
+    (MANY, Sent::Accepted)
+}
+
+/// Receives until there is nothing more. How many there were, unless one of them wasn't the next number.
+fn drain<R: Wait>(rt: &R, receiver: &mut LinkReceiver<u64>) -> Option<u64> {
+    for due in 0..MANY {
+        match receiver.receive_next(rt) {
+            Some(number) if number == due => {}
+            Some(_) => return None,
+            None => return Some(due),
+        }
+    }
+    receiver.receive_next(rt).is_none().then_some(MANY)
+}
+
+/// Sends the number as soon as there is room. Whether the link was open.
+fn send_once_there_is_room<R: Wait>(rt: &R, sender: &mut LinkSender<u64>, number: u64) -> bool {
+    for _ in rt.forever() {
+        match sender.send_next(rt, number) {
+            Sent::Accepted => return true,
+            Sent::Full => thread::yield_now(),
+            Sent::Ended => return false,
+        }
+    }
+    false
+}
+
+/// Sends all numbers and closes. How many were accepted.
+fn send_all<R: Wait>(rt: &R, sender: &mut LinkSender<u64>) -> u64 {
+    for number in 0..MANY {
+        if !send_once_there_is_room(rt, sender, number) {
+            return number;
+        }
+    }
+    sender.close();
+    MANY
+}
+
+fn pass_some<R: Wait + Abort>(
+    rt: &R,
+    sender: &mut LinkSender<u64>,
+    receiver: &mut LinkReceiver<u64>,
+) {
+    let sent = [7, 8, 9].map(|number| sender.send_next(rt, number));
+    same!(rt; sent, [Sent::Accepted; 3]);
+    same!(rt; receiver.receive_next(rt), Some(7));
+    same!(rt; receiver.receive_next(rt), Some(8));
+    same!(rt; sender.send_next(rt, 10), Sent::Accepted);
+    same!(rt; receiver.receive_next(rt), Some(9));
+}
+
+#[test]
+fn messages_are_received_in_the_order_in_which_they_were_sent(rt: HostRuntime) -> Result<(), Fail> {
+    let (mut sender, mut receiver) = opened(rt.alloc())?;
+    pass_some(&rt, &mut sender, &mut receiver);
+    Ok(())
+}
+
+fn fill_again<R: Wait + Abort>(
+    rt: &R,
+    sender: &mut LinkSender<u64>,
+    receiver: &mut LinkReceiver<u64>,
+) {
+    same!(rt; fill(rt, sender), (1024, Sent::Full));
+    same!(rt; MOST_IN_FLIGHT, 1024);
+    same!(rt; receiver.receive_next(rt), Some(0));
+    same!(rt; sender.send_next(rt, 1024), Sent::Accepted);
+    same!(rt; sender.send_next(rt, 1025), Sent::Full);
+    same!(rt; receiver.receive_next(rt), Some(1));
+}
+
+#[test]
+fn the_message_after_1024_finds_no_room(rt: HostRuntime) -> Result<(), Fail> {
+    let (mut sender, mut receiver) = opened(rt.alloc())?;
+    fill_again(&rt, &mut sender, &mut receiver);
+    Ok(())
+}
+
+fn close_and_drain<R: Wait + Abort>(
+    rt: &R,
+    sender: &mut LinkSender<u64>,
+    receiver: &mut LinkReceiver<u64>,
+) {
+    same!(rt; fill(rt, sender), (1024, Sent::Full));
+    sender.close();
+    same!(rt; sender.send_next(rt, 1024), Sent::Ended);
+    same!(rt; drain(rt, receiver), Some(1024));
+    sender.close();
+    same!(rt; sender.send_next(rt, 1024), Sent::Ended);
+    same!(rt; receiver.receive_next(rt), None);
+}
+
+#[test]
+fn a_closed_end_sends_no_more_and_what_was_accepted_is_received(
+    rt: HostRuntime,
+) -> Result<(), Fail> {
+    let (mut sender, mut receiver) = opened(rt.alloc())?;
+    close_and_drain(&rt, &mut sender, &mut receiver);
+    Ok(())
+}
+
+/// Sends a number and is dropped.
+fn send_one<R: Wait>(rt: &R, mut sender: LinkSender<u64>) -> Sent {
+    sender.send_next(rt, 0)
+}
+
+#[test]
+fn a_sending_end_that_is_dropped_is_closed(rt: HostRuntime) -> Result<(), Fail> {
+    let (sender, mut receiver) = opened(rt.alloc())?;
+    same!(rt; send_one(&rt, sender), Sent::Accepted);
+    same!(rt; drain(&rt, &mut receiver), Some(1));
+    Ok(())
+}
+
+#[test]
+fn without_a_receiver_nothing_is_accepted(rt: HostRuntime) -> Result<(), Fail> {
+    let (mut sender, receiver) = opened(rt.alloc())?;
+    same!(rt; sender.send_next(&rt, 0), Sent::Accepted);
+    drop(receiver);
+    same!(rt; sender.send_next(&rt, 1), Sent::Ended);
+    Ok(())
+}
+
+#[test]
+fn ends_are_taken_back_with_a_message_between_them(rt: HostRuntime) -> Result<(), Fail> {
+    let (mut sender, mut receiver) = opened(rt.alloc())?;
+    let sent = [sender.send_next(&rt, 7), sender.send_next(&rt, 8)];
+    let received = receiver.receive_next(&rt);
+    reunite(sender, receiver);
+    same!(rt; (sent, received), ([Sent::Accepted; 2], Some(7)));
+    Ok(())
+}
+
+#[test]
+fn another_thread_receives_all_that_is_sent(rt: HostRuntime) -> Result<(), Fail> {
+    let (mut sender, mut receiver) = opened(rt.alloc())?;
+    let receiving = thread::spawn(&rt, move || drain(&rt, &mut receiver))?;
+    let accepted = send_all(&rt, &mut sender);
+    same!(rt; (accepted, receiving.join(&rt)), (MANY, Some(MANY)));
+    Ok(())
+}
