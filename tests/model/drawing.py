@@ -65,12 +65,13 @@ LARGE = Size(
 
 
 class Drawn(NamedTuple):
-    """A schedule with the model's answers, one for each line."""
+    """A schedule with the model's answers, one for each line, and its journal."""
 
     nodes: int
     memory: int
     lines: List[str]
     answers: List[str]
+    journal: str
 
 
 def draw(seed: int, without: Collection[str] = (), tally: Optional[Counter] = None) -> Drawn:
@@ -105,7 +106,8 @@ class Drawing:
             self.draw_step()
             if step % STEPS_BETWEEN_CHECKS == 0:
                 check_world(self.world)
-        return Drawn(len(self.world.nodes), self.world.nodes[0].memory, self.lines, self.answers)
+        world = self.world
+        return Drawn(len(world.nodes), world.nodes[0].memory, self.lines, self.answers, world.journal.text)
 
     def say(self, line: str, word: Optional[str] = None) -> str:
         """Adds a line, which is counted under a word of its own or its first one."""

@@ -85,23 +85,38 @@ def fail(copy: Copy, failure: Refusal) -> None:
     copy.fetch.phase, copy.fetch.failure, copy.fetch.missing = Phase.FAILED, failure, []
 
 
-def take_chunk(store: PrivateStore, sender: Place, message: Chunk) -> None:
+def chunk_word(store: PrivateStore, sender: Place, message: Chunk) -> str:
+    """What a chunk is to the fetch that it names: ignored, a part, the last part of a whole, or of what is damaged."""
     copy = fetch_in(store, message.one, message.number, Phase.PULLING)
     if copy is None or copy.fetch is None or copy.fetch.source != sender or message.index not in copy.fetch.missing:
-        return
+        return "ignored"
+    if len(message.content) != min(CHUNK, copy.length - message.index * CHUNK):
+        return "ignored"
+    if len(copy.fetch.missing) > 1:
+        return "part"
+    return "whole" if copy.matches(with_chunk(copy, message)) else "damaged"
+
+
+def with_chunk(copy: Copy, message: Chunk) -> bytearray:
+    content = bytearray(copy.content)
     start = message.index * CHUNK
-    if len(message.content) != min(CHUNK, copy.length - start):
+    content[start : start + len(message.content)] = message.content
+    return content
+
+
+def take_chunk(store: PrivateStore, sender: Place, message: Chunk) -> None:
+    word = chunk_word(store, sender, message)
+    if word == "ignored":
         return
-    copy.content[start : start + len(message.content)] = message.content
+    copy = store.copies[message.one]
+    assert copy.fetch is not None and copy.digest is not None
+    copy.content = with_chunk(copy, message)
     copy.fetch.missing.remove(message.index)
-    if copy.fetch.missing:
-        return
-    if not copy.matches(copy.content):
+    if word == "damaged":
         fail(copy, Refusal.Damaged)
-        return
-    assert copy.digest is not None
-    copy.state, copy.fetch = State.SEALED, None
-    store.send(DIRECTORY, AddLocation(message.one, store.node, copy.length, copy.digest))
+    elif word == "whole":
+        copy.state, copy.fetch = State.SEALED, None
+        store.send(DIRECTORY, AddLocation(message.one, store.node, copy.length, copy.digest))
 
 
 def give_up(store: PrivateStore, sender: Place, message: NotHere) -> None:
@@ -124,9 +139,13 @@ def serve(store: PrivateStore, asker: Place, message: Pull) -> None:
 
 
 def is_served(copy: Copy, message: Pull) -> bool:
+    return pull_matches(copy, message) and not copy.doomed and copy.fault is None
+
+
+def pull_matches(copy: Copy, message: Pull) -> bool:
+    """Whether the copy was sealed with what a Pull names."""
     fits = (copy.length, copy.digest) == (message.length, message.digest)
-    is_whole = copy.state in (State.SEALED, State.RESTORING, State.AWAY)
-    return fits and is_whole and not copy.doomed and copy.fault is None
+    return fits and copy.state in (State.SEALED, State.RESTORING, State.AWAY)
 
 
 def send_chunks(store: PrivateStore, asker: Place, copy: Copy, message: Pull) -> None:

@@ -5,6 +5,8 @@ from __future__ import annotations
 from typing import Dict, List, NamedTuple, Optional, Tuple
 
 from .ids import ObjectId
+from .journal import command_text, message_text, received_text, withdrawn_text
+from .messages import Message, Place
 from .store import Hand, PrivateStore
 from .words import MOST_JOBS, Refusal, is_quota, refuse_if
 
@@ -51,6 +53,8 @@ class Node:
         self.kept: Dict[Tuple[int, int], TakenWork] = {}
         self.device: Dict[Tuple[int, int], bytes] = {}
         self.hands: List[StandingHand] = []
+        # what the last step was to the jobs, as a journal has it, its own job first; whoever steps the node takes it from here
+        self.inputs: List[Tuple[int, str]] = []
 
     def store(self, job: int) -> PrivateStore:
         """The job's store, which also those jobs have that were never admitted."""
@@ -70,6 +74,7 @@ class Node:
         self.windows[job] = Window(start, window)
         self.greatest_job = job
         self.store(job).begin(window, device_quota)
+        self.inputs.append((job, f"begin {window} {device_quota}"))
         return "ok"
 
     def place_for(self, length: int) -> Optional[int]:
@@ -89,6 +94,7 @@ class Node:
         refuse_if(not self.may_grow(job, window), Refusal.NoRoom)
         self.windows[job] = Window(self.windows[job].start, window)
         store.requota(window, device_quota)
+        self.inputs.append((job, f"quota {window} {device_quota}"))
         return "ok"
 
     def may_grow(self, job: int, length: int) -> bool:
@@ -106,6 +112,7 @@ class Node:
         self.untaken = [work for work in self.untaken if work[0] != job]
         self.taken = [work for work in self.taken if work[0] != job]
         self.store(job).end()
+        self.inputs.append((job, "end"))
         self.end_hands([hand for hand in self.hands if hand.giver == job])
         return "ok"
 
@@ -134,6 +141,7 @@ class Node:
                 self.device.pop((job, number), None)
             refuse_if(True, Refusal.Stale)
         self.taken.remove((job, number))
+        self.inputs.append((job, f"answer {number} {self.store(job).answer_word(number, content)}"))
         self.store(job).answer(number, content)
         return "ok"
 
@@ -147,9 +155,18 @@ class Node:
             return None
         return bytes([content[0] ^ 1]) + content[1:] if damage else content
 
+    # other nodes and the directory
+
+    def arrive(self, job: int, sender: Place, message: Message) -> str:
+        refuse_if(job not in self.windows, Refusal.Stale)
+        self.inputs.append((job, message_text(self.store(job), sender, message)))
+        self.store(job).arrive(sender, message)
+        return "ok"
+
     # sessions
 
     def command(self, job: int, session: int, word: str, values: Tuple) -> str:
+        self.inputs.append((job, command_text(job, session, word, values)))
         store = self.store(job)
         reply = store.command(session, word, values)
         if reply == "ok":
@@ -169,7 +186,9 @@ class Node:
         given = self.store(giver).given[-1]
         self.hands.append(StandingHand(given.depth, one, giver, taker, given.hangs_on or 0))
         content = bytes(self.store(one.job).copies[one].content)
-        self.store(taker).receive(one, content, Hand(giver, given.depth))
+        hand = Hand(giver, given.depth)
+        self.inputs.append((taker, received_text(taker, one, len(content), hand)))
+        self.store(taker).receive(one, content, hand)
 
     def end_hands(self, ended: List[StandingHand]) -> None:
         """Ends these hands, and with each all that hang on it."""
@@ -180,4 +199,6 @@ class Node:
             ended = ended + reached
         self.hands = [hand for hand in self.hands if hand not in ended]
         for hand in sorted(ended):
-            self.store(hand.taker).withdrawn(hand.one, Hand(hand.giver, hand.depth))
+            told = Hand(hand.giver, hand.depth)
+            self.inputs.append((hand.taker, withdrawn_text(hand.taker, hand.one, told)))
+            self.store(hand.taker).withdrawn(hand.one, told)

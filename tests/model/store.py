@@ -172,6 +172,13 @@ class PrivateStore:
             self.read_ended(copy, content)
         self.sweep(work.one)
 
+    def answer_word(self, number: int, content: Optional[bytes]) -> str:
+        """What the device's answer to a work in flight comes to."""
+        if content is None:
+            return "fail"
+        work = self.works[number]
+        return "ok" if work.is_write or self.copies[work.one].matches(content) else "damage"
+
     def write_ended(self, copy: Copy, number: int, is_written: bool) -> None:
         if is_written:
             copy.backed_by = number

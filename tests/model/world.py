@@ -4,6 +4,7 @@ from __future__ import annotations
 
 from typing import Dict, List, Tuple
 
+from .journal import Journal
 from .messages import DIRECTORY, Directory, Message, Place, damaged
 from .node import Node
 from .words import Refused
@@ -15,6 +16,7 @@ class World:
         self.directories: Dict[int, Directory] = {}
         # all messages of a job that were ever sent from a place to another
         self.sent: Dict[Tuple[int, Place, Place], List[Message]] = {}
+        self.journal = Journal()
 
     def admit(self, node: int, job: int, window: int, device_quota: int) -> str:
         return self.operate(node, "admit", job, window, device_quota)
@@ -48,11 +50,7 @@ class World:
             if answer is not None:
                 self.post(job, DIRECTORY, *answer)
             return "net ok"
-        if job not in self.nodes[receiver].windows:
-            return "net refused 24 Stale"
-        self.nodes[receiver].store(job).arrive(sender, message)
-        self.collect(receiver, job)
-        return "net ok"
+        return f"net {self.step(receiver, job, 'arrive', job, sender, message)}"
 
     def post(self, job: int, sender: Place, receiver: Place, message: Message) -> None:
         self.sent.setdefault((job, sender, receiver), []).append(message)
@@ -64,6 +62,8 @@ class World:
         except Refused as refused:
             answer = str(refused)
         self.collect(node, job)
+        self.journal.write_step(node, self.nodes[node].inputs, answer)
+        self.nodes[node].inputs = []
         return answer
 
     def collect(self, node: int, job: int) -> None:
