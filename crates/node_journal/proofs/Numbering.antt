@@ -1,14 +1,15 @@
 -- Numbers of lines.
-use Rattle.std.proofs.Common.{◌≡◌, ℕ, ◌+◌, Bool, true, false, cond, ◌==◌, List, [], ◌∷◌, ◌++◌, map, append-nil, append_assoc, refl, ap, subst, sym, ◌∙◌, arith}
+use Rattle.std.proofs.Common.{◌≡◌, ◌≢◌, ◌⊎◌, inl, inr, ℕ, ◌+◌, ◌<◌, Bool, true, false, cond, ◌==◌, List, [], ◌∷◌, ◌++◌, map, append-nil, append_assoc, refl, ap, subst, sym, ◌∙◌, arith}
 use Rattle.std.specs.Prelude.{nat_lt, nat_le, if◌then◌else◌, filter}
-use Rattle.std.specs.List.{list_all}
+use Rattle.std.specs.List.{list_all, list_any}
 use Rattle.std.proofs.lemmas.Bool.Decides.{nat_tests}
-use Rattle.private_store.proofs.Tests.{both, both_left, both_right}
+use Rattle.private_store.proofs.Tests.{both, both_left, both_right, or_cases, true_false}
 use Rattle.node_core.specs.Steps.{JobJudged}
 use Rattle.node_journal.specs.declared.entries.Entry.{Entry}
 use Rattle.node_journal.specs.declared.entries.Line.{Line}
 use Rattle.node_journal.specs.declared.entries.Line.TheVariants as line
-use Rattle.node_journal.specs.Journals.{Journal, fresh, notes_for, step_of, last_of, follows, rise_above, AreNumbered, folded_if, with_lines}
+use Rattle.node_journal.specs.declared.entries.Agreement.TheVariants as agree
+use Rattle.node_journal.specs.Journals.{Journal, fresh, notes_for, agreement, is_entry, step_of, last_of, follows, rise_above, AreNumbered, folded_if, with_lines}
 
 abbrev all_within : ℕ → List Line → Bool
 all_within most ls = list_all (λ (l : Line). nat_le (step_of l) most) ls
@@ -115,3 +116,46 @@ fold_numbered count b j after e h = subst (AreNumbered count) (sym e) (folded_nu
 
 pub none_numbered : (job : ℕ) (j : Journal) → j ≡ fresh job → AreNumbered 0 j
 none_numbered job j is = subst (AreNumbered 0) (sym is) (record { covered = refl; rise = refl; above = refl; most = refl })
+
+-- ---- what a journal doesn't say No of
+
+entry_within : (count n : ℕ) (l : Line) → is_entry n l ≡ true → nat_le (step_of l) count ≡ true → nat_le n count ≡ true
+entry_within count n (line.Entry entry) is le = grind (arith, nat_tests, is, le)
+entry_within count n (line.Note m x) is le = true_false is
+
+any_within : (count n : ℕ) (ls : List Line) → list_any (is_entry n) ls ≡ true → all_within count ls ≡ true → nat_le n count ≡ true
+any_within count n [] is le = true_false is
+any_within count n (l ∷ ls) is le =
+    by (any_within count n ls) (or_cases (is_entry n l) (list_any (is_entry n) ls) is)
+  where
+    by : (list_any (is_entry n) ls ≡ true → all_within count ls ≡ true → nat_le n count ≡ true) → (is_entry n l ≡ true) ⊎ (list_any (is_entry n) ls ≡ true) → nat_le n count ≡ true
+    by rest (inl here) = entry_within count n l here (both_left (nat_le (step_of l) count) (all_within count ls) le)
+    by rest (inr there) = rest there (both_right (nat_le (step_of l) count) (all_within count ls) le)
+
+-- it is of this node
+pub agreed_here : (here : Bool) (n : ℕ) (j : Journal) → agreement here n j ≢ agree.No → here ≡ true
+agreed_here true n j not = refl
+agreed_here false n j not = absurd (not refl)
+
+-- and of a step that was made
+pub agreed_within : (count n : ℕ) (here : Bool) (j : Journal) → AreNumbered count j → agreement here n j ≢ agree.No → nat_le n count ≡ true
+agreed_within count n false j h not = absurd (not refl)
+agreed_within count n true j h not = by (nat_le n j.covered) refl (list_any (is_entry n) j.list) refl
+  where
+    below : nat_le n j.covered ≡ true → nat_le n count ≡ true
+    below le = grind (arith, nat_tests, le, h.covered)
+
+    by : (b : Bool) → nat_le n j.covered ≡ b → (c : Bool) → list_any (is_entry n) j.list ≡ c → nat_le n count ≡ true
+    by true le c e = below le
+    by false le true e = any_within count n j.list e h.most
+    by false le false e =
+        absurd (not (ap (λ b. cond b agree.Folded (cond (list_any (is_entry n) j.list) agree.Yes agree.No)) le ∙ ap (λ b. cond b agree.Yes agree.No) e))
+
+pub same_here : (a b : ℕ) → (a == b) ≡ true → a ≡ b
+same_here a b h = grind (arith, nat_tests, h)
+
+pub less_than_next : (n count : ℕ) (next told : Entry) → nat_le n count ≡ true → next ≡ told → told.number ≡ count + 1 → n < next.number
+less_than_next n count next told le is number = by next.number (ap (λ (e : Entry). e.number) is ∙ number)
+  where
+    by : (m : ℕ) → m ≡ count + 1 → n < m
+    by m e = grind (arith, nat_tests, le, e)

@@ -1,5 +1,5 @@
 //! A node with its journal, under one name.
-ghost use Rattle.std.specs.Prelude.{◌≡◌, ℕ, ◌+◌, ◌==◌, ◌⊎◌, ◌≤◌, [], true, false, length, Some, None, IfOk, IfErr, OnOk, OnErr, IsErrOf, IsOk, is_some};
+ghost use Rattle.std.specs.Prelude.{◌≡◌, ◌≢◌, ◌↔◌, ℕ, ◌+◌, ◌==◌, ◌⊎◌, ◌<◌, ◌≤◌, [], true, false, length, Some, None, IfOk, IfErr, OnOk, OnErr, IsErrOf, IsOk, is_some};
 ghost use Rattle.std.specs.List.{list_any};
 ghost use Rattle.obj_id.specs.declared.commands.Reply.TheVariants as reply;
 ghost use Rattle.obj_id.specs.declared.refusals.Refusal.{Refusal};
@@ -11,6 +11,7 @@ ghost use Rattle.spill_work.specs.Line.{front_of};
 ghost use Rattle.node_core.specs.Steps.{job_of_event, Steps};
 ghost use Rattle.node_core.specs.Judged.{IsJudged, IsArrivalJudged, IsSmall};
 ghost use Rattle.node_core.specs.Outcomes.{given_of};
+ghost use Rattle.node_journal.specs.declared.entries.Agreement.TheVariants.{No};
 ghost use Rattle.node_journal.specs.Logs.{journal_of, list_of};
 ghost use Rattle.node_journal.specs.Journals.{entry_for, lines_made, is_entry, rise_above, Tells, AreNumbered, agreement, folded_if, is_folded_by, most_lines, with_lines, is_call};
 
@@ -157,6 +158,36 @@ impl<L: Ledger> Kept<L> {
             name: PhantomData,
         };
         Ok((outcome, receipt))
+    }
+
+    /// The same as `step`, if the entry that the receipt names is there or was folded; the new receipt then has a greater
+    /// number.
+    ///
+    /// `Stale` if the journal says No of the receipt, and `NoMemory` as `step`: then nothing has changed.
+    pub fn step_after(
+        &mut self,
+        receipt: &Receipt<L>,
+        event: &Event,
+    ) -> Result<(Outcome, Receipt<L>), Refusal>
+        ensures stale { IsErrOf result Stale ↔ (agreement (receipt.now.node == self.old.number) receipt.now.entry.number (journal_of self.old.logs receipt.now.job.0) ≡ No) }
+        ensures later { IfOk result (λ r. (r.1.node ≡ receipt.now.node) × (receipt.now.entry.number < r.1.entry.number)) }
+        ensures node { IfOk result (λ r. Steps self.old.node (node_event.Own event.now) (given_of r.0) self.new.node) }
+        ensures journal { IfOk result (λ r. (job : ℕ) → journal_of self.new.logs job
+            ≡ with_lines (folded_if (is_folded_by self.old.node.hands (node_event.Own event.now) job (list_of self.old.logs job)) (journal_of self.old.logs job)) (lines_made (self.old.count + 1) (node_event.Own event.now) r.0.judged (given_of r.0) job)) }
+        ensures receipt { IfOk result (λ r. (r.1.node ≡ self.old.number) × (r.1.job.0 ≡ job_of_event event.now) × (r.1.entry ≡ entry_for (self.old.count + 1) r.0.judged r.0.reply)) }
+        ensures judged { IfOk result (λ r. IsJudged self.old.node event.now r.0.reply r.0.judged) }
+        ensures count { OnOk result (self.new.count ≡ self.old.count + 1) }
+        ensures answered { IfOk result (λ r. is_call event.now ≡ true → wants_memory r.0.reply ≡ false) }
+        ensures small { IfOk result (λ r. is_call event.now ≡ true → is_small_reply r.0.reply ≡ true) }
+        ensures number { self.new.number ≡ self.old.number }
+        ensures memory { (r : Refusal) → IsErrOf result r → r ≢ Stale → r ≡ NoMemory }
+        ensures same { OnErr result ((self.new.node ≡ self.old.node) × (self.new.count ≡ self.old.count)) }
+        ensures unchanged { OnErr result ((job : ℕ) → journal_of self.new.logs job ≡ journal_of self.old.logs job) }
+    {
+        if matches!(self.agrees(receipt), Agreement::No) {
+            return Err(Refusal::Stale);
+        }
+        self.step(event)
     }
 
     /// Folds the job's lines into its base: the new base is the replay of the old one and its lines, covers the number of the
