@@ -1,7 +1,7 @@
 //! A node with its journal behind a lock.
-ghost use Rattle.std.specs.Prelude.{◌≡◌, ◌≤◌, true, false, Some, None, MatchOption, IfErr};
+ghost use Rattle.std.specs.Prelude.{◌≡◌, ◌⊎◌, ◌<◌, ◌≤◌, true, false, Some, None, MatchOption, IfSome, IfErr};
 ghost use Rattle.obj_id.specs.declared.commands.Reply.TheVariants as reply;
-ghost use Rattle.obj_id.specs.declared.refusals.Refusal.TheVariants.{NoMemory};
+ghost use Rattle.obj_id.specs.declared.refusals.Refusal.TheVariants.{NoMemory, Stale};
 ghost use Rattle.private_store.specs.Answers.{wants_memory, is_small_reply};
 ghost use Rattle.job_admission.specs.Admissions.{largest_memory};
 ghost use Rattle.node_core.specs.Steps.{job_of_event};
@@ -20,6 +20,9 @@ use std::sync::atomic::{AtomicBool, Ordering};
 use std::sync::ledger::{Ledger, Share};
 use std::sync::{Condvar, Mutex, Wait};
 use std::{mem, slice};
+
+/// The sessions that a node has open at most.
+const MOST_SESSIONS: u64 = 1_024;
 
 /// What was counted at a node. Each number stays at its type's last value.
 #[derive(Clone, Copy, Debug, PartialEq, Eq)]
@@ -112,7 +115,30 @@ impl<L: Ledger> SharedNode<L> {
         (reply, receipt)
     }
 
-    /// The same, tried again while the answer is Pending and the node isn't shut. Each try is an entry; the answer and the
+    /// The same, if the journal has the entry of a receipt or folded it; the new receipt then is of the same node, and has a
+    /// greater number. There is none if the reply is `NoMemory`, or `Stale`, since the journal says No of the receipt: then
+    /// nothing was stepped.
+    pub fn call_after<R: Wait>(
+        &self,
+        rt: &R,
+        receipt: &Receipt<L>,
+        job: JobNo,
+        session: u32,
+        command: Command<Bytes>,
+    ) -> (Reply<Bytes>, Option<Receipt<L>>)
+        ensures called { MatchOption result.1 ((result.0 ≡ reply.Refused NoMemory) ⊎ (result.0 ≡ reply.Refused Stale)) (λ r. (wants_memory result.0 ≡ false) × IsCalled job session command result.0 (record { job = r.job; entry = r.entry })) }
+        ensures later { IfSome result.1 (λ r. (r.node ≡ receipt.now.node) × (receipt.now.entry.number < r.entry.number)) }
+        ensures small { is_small_reply result.0 ≡ true }
+    {
+        let mut kept = self.kept.lock(rt);
+        let stepped = step_call_after(&mut *kept, receipt, job, session, command);
+        self.settle(rt, &*kept, &stepped);
+        drop(kept);
+        let Stepped { reply, receipt, .. } = stepped;
+        (reply, receipt)
+    }
+
+    /// The same as `call`, tried again while the answer is Pending and the node isn't shut. Each try is an entry; the answer and the
     /// receipt are those of the last.
     pub fn call_wait<R: Wait>(
         &self,
@@ -248,10 +274,14 @@ impl<L: Ledger> SharedNode<L> {
         }
     }
 
-    /// A session begins.
-    pub(crate) fn open_session<R: Wait>(&self, rt: &R) {
+    /// A session begins, unless as many are open as may be: whether it does.
+    pub(crate) fn open_session<R: Wait>(&self, rt: &R) -> bool {
         let mut open = self.open.lock(rt);
-        *open = open.saturating_add(1);
+        if *open >= MOST_SESSIONS {
+            return false;
+        }
+        *open += 1;
+        true
     }
 
     /// A session has ended.
@@ -334,7 +364,26 @@ fn step_call<L: Ledger>(
     let event = Event::Call(job, session, command);
     match kept.step(&event) {
         Ok((outcome, receipt)) => made(outcome, receipt),
-        Err(_) => refused(),
+        Err(_) => refused(Refusal::NoMemory),
+    }
+}
+
+/// The same, if the journal doesn't say No of the receipt.
+fn step_call_after<L: Ledger>(
+    kept: &mut Kept<L>,
+    receipt: &Receipt<L>,
+    job: JobNo,
+    session: u32,
+    command: Command<Bytes>,
+) -> Stepped<L>
+    ensures called { MatchOption result.receipt ((result.reply ≡ reply.Refused NoMemory) ⊎ (result.reply ≡ reply.Refused Stale)) (λ r. (wants_memory result.reply ≡ false) × IsCalled job session command result.reply (record { job = r.job; entry = r.entry })) }
+    ensures later { IfSome result.receipt (λ r. (r.node ≡ receipt.now.node) × (receipt.now.entry.number < r.entry.number)) }
+    ensures small { is_small_reply result.reply ≡ true }
+{
+    let event = Event::Call(job, session, command);
+    match kept.step_after(receipt, &event) {
+        Ok((outcome, given)) => made(outcome, given),
+        Err(refusal) => refused(refusal),
     }
 }
 
@@ -344,7 +393,7 @@ pub(crate) fn step_event<L: Ledger>(kept: &mut Kept<L>, event: &Event) -> Steppe
 {
     match kept.step(event) {
         Ok((outcome, receipt)) => made(outcome, receipt),
-        Err(_) => refused(),
+        Err(_) => refused(Refusal::NoMemory),
     }
 }
 
@@ -368,13 +417,13 @@ fn made<L: Ledger>(outcome: Outcome, receipt: Receipt<L>) -> Stepped<L>
     }
 }
 
-/// A step that found no memory.
-fn refused<L: Ledger>() -> Stepped<L>
-    ensures reply { result.reply ≡ reply.Refused NoMemory }
+/// A step that wasn't made.
+fn refused<L: Ledger>(refusal: Refusal) -> Stepped<L>
+    ensures reply { result.reply ≡ reply.Refused refusal }
     ensures receipt { result.receipt ≡ None }
 {
     Stepped {
-        reply: Reply::Refused(Refusal::NoMemory),
+        reply: Reply::Refused(refusal),
         receipt: None,
         lost: 0,
         erase: Erase::NoKey,
