@@ -36,6 +36,10 @@ faults:
 sessions: build
 	tests/sessions
 
+# Malicious clients at a built program (see tests/attack --help).
+attack: build
+	tests/attack
+
 # The Python client at a built program.
 client-test: build
 	python3 clients/python/tests/test_client.py
@@ -52,4 +56,4 @@ model: build
 bench: build
 	bench/growth
 
-.PHONY: test check build run sessions client-test pipeline model faults bench
+.PHONY: test check build run sessions attack client-test pipeline model faults bench

@@ -2,7 +2,6 @@
 use crate::{Session, SharedNode};
 use session_engine::serve;
 use std::alloc::{AllocError, Global};
-use std::io::Write;
 use std::net::Shutdown;
 use std::os::fd::OwnedFd;
 use std::os::unix::net::{UnixListener, UnixStream};
@@ -15,9 +14,6 @@ use std::{io, thread};
 /// How long a listener rests after it failed to accept, in milliseconds: while no descriptor is left it would fail again at
 /// once.
 const REST: u64 = 10;
-
-/// The frame of `17 TooMany`.
-const TOO_MANY: [u8; 6] = [0, 0, 0, 2, 0x8f, 17];
 
 /// A listener that accepts streams in a thread.
 #[derive(Drop)]
@@ -39,8 +35,8 @@ impl Listening {
 
 /// Serves each stream that the listener accepts, in a thread of its own, until the node is shut and the listener ended.
 ///
-/// A stream that comes while 1,024 sessions of the node are open is answered `TooMany` and closed. One that can't be
-/// accepted, or for which there is no memory or no thread, is closed. The others are served.
+/// A stream that can't be accepted, that comes while 1,024 sessions of the node are open, or for which there is no memory or no
+/// thread, is closed without an answer, and the others are served.
 pub fn listen<L: Ledger + Send + Sync + 'static, R: Threads + Wait + Clock + Copy + Send + 'static>(
     rt: R,
     alloc: Global,
@@ -82,7 +78,6 @@ fn start_session<L: Ledger + Send + Sync + 'static, R: Threads + Wait + Copy + S
 ) -> Result<(), AllocError> {
     let theirs = Arc::try_clone(node)?;
     if !node.open_session(&rt) {
-        turn_away(&stream);
         return Ok(());
     }
     let job = move || serve_stream(&rt, alloc, &*theirs, &stream);
@@ -90,13 +85,6 @@ fn start_session<L: Ledger + Send + Sync + 'static, R: Threads + Wait + Copy + S
         node.end_session(&rt);
     }
     Ok(())
-}
-
-/// Tells a client that as many sessions are open as may be. It fits a socket that nothing was written to.
-fn turn_away(stream: &UnixStream) {
-    let mut writer = stream;
-    let _ = writer.write_all(&TOO_MANY);
-    let _ = stream.shutdown(Shutdown::Both);
 }
 
 /// Serves a session over the stream, to its end.

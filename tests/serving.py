@@ -1,0 +1,60 @@
+"""What scripts that talk to a running program share: frames, ids, the operator's lines, and its start and end."""
+
+import socket
+import struct
+import subprocess
+from pathlib import Path
+
+ROOT = Path(__file__).resolve().parent.parent
+PROGRAM = ROOT / "crates/store_server/out/store_server"
+
+
+def key(job):
+    return bytes([job]) * 32
+
+
+def frame(kind, body=b""):
+    return struct.pack(">IB", 1 + len(body), kind) + body
+
+
+def ident(job, index):
+    return bytes(12) + struct.pack(">QII", 1, job, index)
+
+
+def receive(stream, length):
+    data = b""
+    while len(data) < length:
+        piece = stream.recv(length - len(data))
+        if not piece:
+            return data
+        data += piece
+    return data
+
+
+def ask(stream, sent, expected):
+    stream.sendall(sent)
+    got = receive(stream, len(expected))
+    assert got == expected, f"sent {sent.hex()}: got {got.hex()}, should be {expected.hex()}"
+
+
+def start(words, folder, nodes=2, memory=65536):
+    words = words + ["serve", "--socket", f"{folder}/store", "--nodes", str(nodes), "--memory", str(memory), "--spill", f"{folder}/spill"]
+    return subprocess.Popen(words, stdin=subprocess.PIPE, stdout=subprocess.PIPE, stderr=subprocess.PIPE, text=True)
+
+
+def tell(program, line, expected):
+    program.stdin.write(line + "\n")
+    program.stdin.flush()
+    got = program.stdout.readline()
+    assert got == expected + "\n", f"{line}: got {got!r}, should be {expected!r}"
+
+
+def ended(program, rest, status, said=""):
+    """What the program still prints once its input has ended, and its end."""
+    out, err = program.communicate(timeout=60)
+    assert (out, err, program.returncode) == (rest, said, status), f"got {out!r}, {err!r}, {program.returncode}"
+
+
+def enter(stream, path, job):
+    stream.connect(path)
+    ask(stream, frame(0x01, struct.pack(">I", job) + key(job)), frame(0x80))
