@@ -1,5 +1,5 @@
 -- What an event is to its own job.
-use Rattle.std.proofs.Common.{◌≡◌, ℕ, Bool, true, false, cond, ◌==◌, List, [], ◌∷◌, map, Option, Some, None, option_to_list, refl, sym, ap, subst, ◌∙◌}
+use Rattle.std.proofs.Common.{◌≡◌, ℕ, Bool, true, false, cond, ◌==◌, List, [], ◌∷◌, map, Option, Some, None, option_to_list, refl, sym, ap, subst}
 use Rattle.std.specs.Prelude.{option_map}
 use Rattle.obj_id.specs.declared.commands.Reply.{Reply}
 use Rattle.obj_id.specs.declared.commands.Reply.TheVariants as reply
@@ -8,10 +8,8 @@ use Rattle.private_store.specs.declared.inputs.Input.TheVariants as input
 use Rattle.private_store.specs.declared.schedules.Event.{Event}
 use Rattle.private_store.specs.declared.schedules.Event.TheVariants as event
 use Rattle.private_store.specs.declared.schedules.NodeEvent.TheVariants.{Own}
-use Rattle.private_store.specs.Answers.{wants_memory, brings_within}
-use Rattle.private_store.specs.Contents.{View, judge}
+use Rattle.private_store.specs.Answers.{wants_memory}
 use Rattle.private_store.specs.NodeInputs.{JobInput, Before, own_here, only_of}
-use Rattle.node_core.specs.OneJob.{input_of}
 use Rattle.node_core.specs.Steps.{answered, stale_unless}
 use Rattle.node_core.proofs.AllJobs.{own_of, IsFinishAnswer}
 
