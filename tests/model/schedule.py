@@ -54,7 +54,11 @@ class Transcript(NamedTuple):
 
 def run(text: str, nodes: int = 1, memory: int = DEFAULT_MEMORY) -> Transcript:
     """The transcript of a schedule."""
-    world = World(nodes, memory)
+    return run_in(World(nodes, memory), text)
+
+
+def run_in(world: World, text: str) -> Transcript:
+    """The same in this world, which keeps the journal."""
     answers: List[str] = []
     *lines, rest = text.split("\n")
     for number, line in enumerate(lines, 1):
