@@ -56,4 +56,10 @@ model: build
 bench: build
 	bench/growth
 
-.PHONY: test check build run sessions attack client-test pipeline model faults bench
+# Draws the example's picture from the journal that the plain model keeps of it.
+picture:
+	cd tests && python3 -B -m model journal < ../docs/pictures/spilling.schedule > ../docs/pictures/spilling.log
+	bench/picture docs/pictures/spilling.log -o docs/pictures/spilling.svg
+	rm docs/pictures/spilling.log
+
+.PHONY: test check build run sessions attack client-test pipeline model faults bench picture

@@ -1,0 +1,104 @@
+"""What scripts that draw share: a picture of lines, boxes and texts as SVG, and round numbers for axes."""
+
+from __future__ import annotations
+
+from pathlib import Path
+from typing import Iterable, List, Sequence, Tuple
+from xml.sax.saxutils import escape, quoteattr
+
+INK = "#222222"
+PALE_INK = "#666666"
+GRID = "#dddddd"
+# told apart by those who see few colours too
+COLOURS = ("#4477aa", "#ee7733", "#228833", "#aa3377")
+# roughly how wide a letter is, as a part of its height
+LETTER = 0.56
+
+Point = Tuple[float, float]
+
+
+class Drawing:
+    """A picture with a white ground. Places are in pixels from the upper left corner."""
+
+    def __init__(self, width: float, height: float, title: str) -> None:
+        self.size = (width, height)
+        self.title = title
+        self.parts: List[str] = []
+
+    def box(
+        self, left: float, top: float, width: float, height: float, fill: str, edge: str = "none", opacity: float = 1
+    ) -> None:
+        self._add("rect", x=left, y=top, width=width, height=height, fill=fill, stroke=edge, fill_opacity=opacity)
+
+    def line(self, points: Sequence[Point], colour: str = INK, width: float = 1) -> None:
+        self._add("polyline", points=_places(points), fill="none", stroke=colour, stroke_width=width)
+
+    def area(self, points: Sequence[Point], fill: str, edge: str = "none") -> None:
+        self._add("polygon", points=_places(points), fill=fill, stroke=edge)
+
+    def text(self, x: float, y: float, words: str, size: float = 12, anchor: str = "start", colour: str = INK) -> None:
+        """Words whose line stands at this height, and which start, have their middle or end there."""
+        self._add("text", escape(words), x=x, y=y, font_size=size, text_anchor=anchor, fill=colour)
+
+    def text_upwards(self, x: float, y: float, words: str, size: float = 12) -> None:
+        """Words that are read from below, with their middle there."""
+        place = f"rotate(-90 {_number(x)} {_number(y)})"
+        self._add("text", escape(words), x=x, y=y, font_size=size, text_anchor="middle", fill=INK, transform=place)
+
+    def save(self, path: Path) -> None:
+        path.write_text(self.svg(), encoding="utf-8")
+
+    def svg(self) -> str:
+        width, height = (_number(length) for length in self.size)
+        head = (
+            f'<svg xmlns="http://www.w3.org/2000/svg" width="{width}" height="{height}" viewBox="0 0 {width} {height}" '
+            f'font-family="sans-serif" role="img">'
+        )
+        ground = f'<rect width="{width}" height="{height}" fill="white"/>'
+        return "\n".join([head, f"<title>{escape(self.title)}</title>", ground, *self.parts, "</svg>", ""])
+
+    def _add(self, name: str, content: str = "", **marks: object) -> None:
+        """An element. What goes without saying isn't said."""
+        said = []
+        for mark, value in marks.items():
+            value = value if isinstance(value, str) else _number(value)
+            if (mark, value) not in (("stroke", "none"), ("fill_opacity", "1")):
+                said.append(f"{mark.replace('_', '-')}={quoteattr(value)}")
+        self.parts.append(f"<{name} {' '.join(said)}>{content}</{name}>" if content else f"<{name} {' '.join(said)}/>")
+
+
+def text_width(words: str, size: float = 12) -> float:
+    """Roughly how wide the words are."""
+    return LETTER * size * len(words)
+
+
+def _places(points: Sequence[Point]) -> str:
+    return " ".join(f"{_number(x)},{_number(y)}" for x, y in points)
+
+
+def _number(value: float) -> str:
+    """The same digits on every machine."""
+    return f"{value:.2f}".rstrip("0").rstrip(".")
+
+
+def round_steps(greatest: int, most: int) -> List[int]:
+    """0 and equal steps of 1, 2 or 5 times a power of ten up to the greatest number, and no more of them than this."""
+    return _steps(greatest, most, (step * 10**power for power in range(20) for step in (1, 2, 5)))
+
+
+def round_bytes(greatest: int, most: int) -> List[int]:
+    """The same with powers of two from 16 on."""
+    return _steps(greatest, most, (16 << power for power in range(60)))
+
+
+def _steps(greatest: int, most: int, sizes: Iterable[int]) -> List[int]:
+    size = next(size for size in sizes if greatest // size <= most)
+    return list(range(0, greatest + 1, size))
+
+
+def bytes_text(count: int) -> str:
+    """A number of bytes with the largest unit that it is a multiple of."""
+    for unit, size in (("GiB", 1 << 30), ("MiB", 1 << 20), ("KiB", 1 << 10)):
+        if count and count % size == 0:
+            return f"{count // size:,} {unit}"
+    return f"{count:,}"
