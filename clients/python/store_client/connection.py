@@ -76,7 +76,7 @@ class Connection:
         self._socket = socket.socket(socket.AF_UNIX)
         try:
             self._socket.connect(path)
-            self._ask(Reply.OK, frame(Command.HELLO, numbers(job) + key))
+            self._tell(frame(Command.HELLO, numbers(job) + key))
         except OSError as error:
             self._socket.close()
             raise ConnectionLost(f"{path}: {error.strerror}") from error
@@ -153,11 +153,12 @@ class Connection:
     def write(self, id: ObjectId, offset: int, data: Buffer) -> None:
         """At most 65,536 bytes from the offset on, while the copy is being written."""
         fields = id.to_bytes() + numbers(offset)
-        self._ask(Reply.OK, head(Command.WRITE, len(fields) + len(data)) + fields, data)
+        with memoryview(data) as whole, whole.cast("B") as view:
+            self._tell(head(Command.WRITE, len(fields) + len(view)) + fields, view)
 
     def seal(self, id: ObjectId) -> None:
         """The copy is immutable from now on."""
-        self._ask(Reply.OK, frame(Command.SEAL, id.to_bytes()))
+        self._tell(frame(Command.SEAL, id.to_bytes()))
 
     def hold(self, id: ObjectId, wait: bool = False) -> int:
         """One more hold of the session on the sealed copy, or what brings it here. Its length in bytes."""
@@ -170,35 +171,35 @@ class Connection:
 
     def release(self, id: ObjectId) -> None:
         """One hold of the session less."""
-        self._ask(Reply.OK, frame(Command.RELEASE, id.to_bytes()))
+        self._tell(frame(Command.RELEASE, id.to_bytes()))
 
     def unpin(self, id: ObjectId, task: Task) -> None:
         """The owner task keeps the object no longer."""
-        self._ask(Reply.OK, frame(Command.UNPIN, id.to_bytes() + task.value))
+        self._tell(frame(Command.UNPIN, id.to_bytes() + task.value))
 
     def borrow(self, id: ObjectId, task: Task) -> None:
         """The task refers to the object, and keeps it."""
-        self._ask(Reply.OK, frame(Command.BORROW, id.to_bytes() + task.value))
+        self._tell(frame(Command.BORROW, id.to_bytes() + task.value))
 
     def give_up(self, id: ObjectId, task: Task) -> None:
         """The task refers to the object no longer."""
-        self._ask(Reply.OK, frame(Command.GIVE_UP, id.to_bytes() + task.value))
+        self._tell(frame(Command.GIVE_UP, id.to_bytes() + task.value))
 
     def delete(self, id: ObjectId) -> None:
         """The copy is removed once nobody holds it."""
-        self._ask(Reply.OK, frame(Command.DELETE, id.to_bytes()))
+        self._tell(frame(Command.DELETE, id.to_bytes()))
 
     def end_task(self, task: Task) -> None:
         """The task's objects go out of scope, and what it borrowed is given up."""
-        self._ask(Reply.OK, frame(Command.END_TASK, task.value))
+        self._tell(frame(Command.END_TASK, task.value))
 
     def grant(self, id: ObjectId, job: int) -> None:
         """The job may peek at the object, also one that another job granted to this one."""
-        self._ask(Reply.OK, frame(Command.GRANT, id.to_bytes() + numbers(job)))
+        self._tell(frame(Command.GRANT, id.to_bytes() + numbers(job)))
 
     def withdraw(self, id: ObjectId, job: int) -> None:
         """The job may peek at the object no longer."""
-        self._ask(Reply.OK, frame(Command.WITHDRAW, id.to_bytes() + numbers(job)))
+        self._tell(frame(Command.WITHDRAW, id.to_bytes() + numbers(job)))
 
     def peek(self, id: ObjectId, offset: int, length: int) -> bytes:
         """At most 65,536 bytes of an object that another job granted."""
@@ -214,7 +215,7 @@ class Connection:
 
     def leave(self) -> None:
         """All holds of the session are given up."""
-        self._ask(Reply.OK, frame(Command.LEAVE))
+        self._tell(frame(Command.LEAVE))
 
     # ---- how
 
@@ -237,6 +238,11 @@ class Connection:
                     raise
                 time.sleep(min(rest, left))
                 rest = min(2 * rest, _LONGEST_REST)
+
+    def _tell(self, *parts: Buffer) -> None:
+        """A command that is answered Ok."""
+        if self._ask(Reply.OK, *parts):
+            raise self._broken("an Ok came with more bytes")
 
     def _ask(self, due: Reply, *parts: Buffer) -> bytes:
         """The body of the reply, which is of this kind."""
@@ -287,7 +293,9 @@ class Connection:
     def _send(self, parts: tuple[Buffer, ...]) -> None:
         try:
             for part in parts:
-                self._socket.sendall(part)
+                # the last part of a Write of no bytes
+                if len(part):
+                    self._socket.sendall(part)
         except OSError as error:
             raise self._gone(error.strerror or "the server is gone") from error
 

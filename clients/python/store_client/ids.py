@@ -73,6 +73,8 @@ class ObjectId:
         short = _SHORT_OBJECT.fullmatch(text)
         if short:
             owner, number, index = short.groups()
+            if owner is not None and int(owner) == job:
+                raise ValueError(f"{text!r} is no id: the job's own are written without its number")
             return cls(Task.numbered(int(number)), job if owner is None else int(owner), int(index))
         return cls.from_bytes(_from_hex(text, 28, "id"))
 

@@ -6,8 +6,12 @@ The server is the built program, or the one that STORE_PROGRAM names.
 from __future__ import annotations
 
 import array
+import dataclasses
 import os
-import re
+import pty
+import shutil
+import signal
+import socket
 import subprocess
 import sys
 import tempfile
@@ -22,6 +26,9 @@ sys.path.insert(0, str(ROOT / "clients/python"))
 import store_client  # noqa: E402
 from store_client import Kind, ObjectId, State, Task, frames  # noqa: E402
 
+VECTORS = ROOT / "docs/rules/frames.vectors"
+# seconds that a process may take, on a machine that does much else
+PATIENCE = 120
 PROGRAM = os.environ.get("STORE_PROGRAM", str(ROOT / "crates/store_server/out/store_server"))
 
 
@@ -30,16 +37,18 @@ def key(job: int) -> bytes:
 
 
 class Server:
-    """A running store of one node: job 1 with a window of 32 MiB, job 2 with one of 64 bytes."""
+    """A running store of one node: job 1 with a window of 32 MiB, job 2 with one of 64 bytes, job 3 with a device too."""
 
     def __init__(self) -> None:
         self.folder = tempfile.TemporaryDirectory()
         self.path = f"{self.folder.name}/store.0"
         words = [PROGRAM, "serve", "--socket", f"{self.folder.name}/store", "--nodes", "1"]
         words += ["--memory", str(2**26), "--spill", f"{self.folder.name}/spill"]
+        self.spill = Path(self.folder.name, "spill/0")
         self.program = subprocess.Popen(words, stdin=subprocess.PIPE, stdout=subprocess.PIPE, text=True)
         self.tell(f"admit 0 1 {2**25} 0 {key(1).hex()}")
         self.tell(f"admit 0 2 64 0 {key(2).hex()}")
+        self.tell(f"admit 0 3 144 1024 {key(3).hex()}")
 
     def tell(self, line: str) -> None:
         self.program.stdin.write(line + "\n")
@@ -52,50 +61,187 @@ class Server:
         return store_client.connect(self.path, job, key(job))
 
     def close(self) -> None:
-        self.program.communicate(timeout=60)
+        try:
+            self.program.communicate(timeout=PATIENCE)
+        finally:
+            self.program.kill()
+            self.folder.cleanup()
+
+
+class Script:
+    """What stands in for a server: it takes one session, keeps what is sent, and answers with what it was told to."""
+
+    def __init__(self, replies: list[bytes]) -> None:
+        self.folder = tempfile.TemporaryDirectory()
+        self.path = f"{self.folder.name}/socket"
+        self.sent: list[bytes] = []
+        self.listener = socket.socket(socket.AF_UNIX)
+        self.listener.bind(self.path)
+        self.listener.listen()
+        self.thread = threading.Thread(target=self.serve, args=(replies,))
+        self.thread.start()
+
+    def serve(self, replies: list[bytes]) -> None:
+        with self.listener, self.listener.accept()[0] as stream, stream.makefile("rb") as file:
+            for reply in replies:
+                start = file.read(4)
+                self.sent.append(start + file.read(int.from_bytes(start, "big")))
+                stream.sendall(reply)
+
+    def close(self) -> None:
+        self.thread.join()
         self.folder.cleanup()
 
 
+def spelled(reply: object) -> str:
+    """What a call gave, as a schedule's answer spells it for job 1."""
+    if reply is None:
+        return "ok"
+    if isinstance(reply, bytes):
+        return f"bytes {reply.hex() or '-'}"
+    if isinstance(reply, store_client.Placed):
+        return f"placed {reply.offset} {reply.length}"
+    if isinstance(reply, store_client.Usage):
+        return " ".join(["usage", *map(str, dataclasses.astuple(reply))])
+    if isinstance(reply, store_client.Refused):
+        return f"refused {reply.number} {type(reply).__name__}"
+    if isinstance(reply, int):
+        return f"got {reply}"
+    own = [f" {item.id.text(1)}:{item.state.name.lower()}:{item.kind.name.lower()}:{item.length}" for item in reply[0]]
+    granted = [f" {item.id.text(1)}:granted:{item.length}:{item.depth}" for item in reply[1]]
+    return "".join(["list", *own, *granted])
+
+
+def read_bytes(text: str) -> bytes:
+    return b"" if text == "-" else bytes.fromhex(text)
+
+
+def read_id(text: str) -> ObjectId:
+    return ObjectId.parse(text, 1)
+
+
+# of each command, the call that sends it, what its fields are, and the word of a reply that is due
+CALLS = {
+    "create": (store_client.Connection.create, (read_id, int), "placed"),
+    "copy": (lambda store, id, length: store.create(id, length, Kind.SECONDARY), (read_id, int), "placed"),
+    "createwait": (lambda store, id, length: store.create(id, length, wait=True), (read_id, int), "placed"),
+    "copywait": (lambda store, id, length: store.create(id, length, Kind.SECONDARY, True), (read_id, int), "placed"),
+    "write": (store_client.Connection.write, (read_id, int, read_bytes), "ok"),
+    "seal": (store_client.Connection.seal, (read_id,), "ok"),
+    "get": (store_client.Connection.hold, (read_id,), "got"),
+    "getwait": (lambda store, id: store.hold(id, wait=True), (read_id,), "got"),
+    "read": (store_client.Connection.read, (read_id, int, int), "bytes"),
+    "release": (store_client.Connection.release, (read_id,), "ok"),
+    "unpin": (store_client.Connection.unpin, (read_id, Task.parse), "ok"),
+    "borrow": (store_client.Connection.borrow, (read_id, Task.parse), "ok"),
+    "giveup": (store_client.Connection.give_up, (read_id, Task.parse), "ok"),
+    "delete": (store_client.Connection.delete, (read_id,), "ok"),
+    "endtask": (store_client.Connection.end_task, (Task.parse,), "ok"),
+    "grant": (store_client.Connection.grant, (read_id, int), "ok"),
+    "withdraw": (store_client.Connection.withdraw, (read_id, int), "ok"),
+    "peek": (store_client.Connection.peek, (read_id, int, int), "bytes"),
+    "list": (store_client.Connection.list, (), "list"),
+    "usage": (store_client.Connection.usage, (), "usage"),
+    "leave": (store_client.Connection.leave, (), "ok"),
+}
+# for each reply a call that may get it
+ASKED_BY = {"ok": "seal t1.1", "refused": "seal t1.1", "placed": "create t1.1 20", "got": "get t1.1", "bytes": "read t1.1 0 5"}
+
+
+def documented() -> tuple[list[tuple[bytes, str]], list[tuple[bytes, str]]]:
+    """The documented frames, and what each says: commands and replies."""
+    text = VECTORS.read_text(encoding="ascii")
+    lines = [line.split(" ", 1) for line in text.splitlines() if line and not line.startswith("#")]
+    vectors = [(bytes.fromhex(digits), said) for digits, said in lines]
+    return [one for one in vectors if one[0][4] < 0x80], [one for one in vectors if one[0][4] >= 0x80]
+
+
+def call(store: store_client.Connection, said: str) -> object:
+    """What the command that is so spelled gives, or the refusal."""
+    word, *fields = said.split(" ")
+    method, readers, _ = CALLS[word]
+    try:
+        return method(store, *(read(field) for read, field in zip(readers, fields)))
+    except store_client.Refused as refused:
+        return refused
+
+
 class Frames(unittest.TestCase):
-    """The vectors that docs/rules/frames.md gives."""
+    """Each frame of the documented ones: a command as the client sends it, a reply as it is told to who called."""
 
     def setUp(self) -> None:
-        text = (ROOT / "docs/rules/frames.md").read_text(encoding="utf-8")
-        section = text.split("## Vectors")[1].split("\n## ")[0]
-        self.vectors = {}
-        for row in section.splitlines():
-            cells = [cell.strip() for cell in row.strip("|").split("|")]
-            if len(cells) == 2 and "`" in cells[1]:
-                self.vectors[cells[0]] = bytes.fromhex("".join(re.findall(r"`([0-9a-f]+)`", cells[1])))
-        self.one = Task.numbered(1).object(1, 1)
+        self.commands, self.replies = documented()
+        self.frame_of = {said.split(" ")[0]: frame for frame, said in self.replies}
 
-    def test_ids(self) -> None:
-        self.assertEqual(self.one.to_bytes(), self.vectors["id of job 1, task 1, index 1"])
-        self.assertEqual(ObjectId.from_bytes(self.one.to_bytes()), self.one)
+    def ask(self, said: str, reply: bytes) -> tuple[bytes, object]:
+        """What the client sends for a command, and what it makes of the reply."""
+        script = Script([self.frame_of["ok"], reply])
+        self.addCleanup(script.close)
+        with store_client.connect(script.path, 1, key(1)) as store:
+            told = call(store, said)
+        script.thread.join()
+        return script.sent[1], told
+
+    def test_each_kind_is_there(self) -> None:
+        self.assertEqual({frame[4] for frame, _ in self.commands}, set(frames.Command))
+        self.assertEqual({frame[4] for frame, _ in self.replies}, set(frames.Reply))
+        self.assertEqual({frame[5] for frame, said in self.replies if said.startswith("refused")}, set(range(1, 25)))
 
     def test_commands(self) -> None:
-        id = self.one.to_bytes()
-        start = self.vectors["Create of it, primary, 20 bytes"]
-        create = frames.frame(frames.Command.CREATE, id + b"\0" + frames.numbers(20))
-        self.assertEqual(create, start[:5] + id + start[5:])
-        self.assertEqual(frames.frame(frames.Command.GET, id), self.vectors["Get of it"] + id)
+        for frame, said in self.commands:
+            if not said.startswith("hello"):
+                due = CALLS[said.split(" ")[0]][2]
+                self.assertEqual(self.ask(said, self.frame_of[due])[0].hex(), frame.hex(), said)
+
+    def test_hello(self) -> None:
+        frame, said = self.commands[0]
+        _, job, secret = said.split(" ")
+        script = Script([self.frame_of["ok"]])
+        self.addCleanup(script.close)
+        store_client.connect(script.path, int(job), bytes.fromhex(secret)).close()
+        self.assertEqual(script.sent[0].hex(), frame.hex())
 
     def test_replies(self) -> None:
-        self.assertEqual(frames.frame(frames.Reply.OK), self.vectors["Ok"])
-        self.assertEqual(frames.frame(frames.Reply.PLACED, frames.numbers(0, 32)), self.vectors["Placed 0 32"])
-        self.assertEqual(frames.frame(frames.Reply.GOT, frames.numbers(20)), self.vectors["Got 20"])
-        self.assertEqual(frames.frame(frames.Reply.BYTES), self.vectors["Bytes, none"])
-        self.assertEqual(frames.frame(frames.Reply.REFUSED, b"\x09"), self.vectors["Refused 9"])
+        for frame, said in self.replies:
+            word = said.split(" ")[0]
+            self.assertEqual(spelled(self.ask(ASKED_BY.get(word, word), frame)[1]), said)
 
-    def test_texts(self) -> None:
-        for text, job, read in [("t1.1", 1, self.one), ("1/t1.1", 2, self.one), (self.one.to_bytes().hex(), 9, self.one)]:
-            self.assertEqual(ObjectId.parse(text, job), read)
-        self.assertEqual((self.one.text(1), self.one.text(2)), ("t1.1", "1/t1.1"))
+    def test_what_is_no_reply(self) -> None:
+        kinds = ("00000001" "99", "00000002" "8f00", "00000002" "8f19", "00000001" "8f", "00000003" "8f0909")
+        for digits in ("00000000" "80", "ffffffff" "80", "00000002" "8000", "00000009" "81" "0000000000000020", *kinds):
+            with self.assertRaises(store_client.ProtocolError, msg=digits):
+                self.ask("seal t1.1", bytes.fromhex(digits))
+        for digits in ("00000005" "84" "00000001", "0000000a" "84" "0000000000000000" "00"):
+            with self.assertRaises(store_client.ProtocolError, msg=digits):
+                self.ask("list", bytes.fromhex(digits))
+        with self.assertRaises(store_client.ConnectionLost):
+            self.ask("list", bytes.fromhex("00000009" "84" "000000"))
+
+
+class Texts(unittest.TestCase):
+    def test_ids(self) -> None:
+        one = Task.numbered(1).object(1, 1)
+        digits = "0000000000000000000000000000000000000001" "00000001" "00000001"
+        self.assertEqual(one.to_bytes().hex(), digits)
+        self.assertEqual(ObjectId.from_bytes(one.to_bytes()), one)
+        for text, job in [("t1.1", 1), ("1/t1.1", 2), (digits, 1), (digits, 9)]:
+            self.assertEqual(ObjectId.parse(text, job), one)
+        self.assertEqual((one.text(1), one.text(2)), ("t1.1", "1/t1.1"))
         random = ObjectId(Task(b"\x01" * 20), 1, 7)
-        self.assertEqual(ObjectId.parse(random.text(1), 1), random)
-        for text in ("t1", "t1.0", "t01.1", "0/t1.1", "AB" * 28, ""):
-            with self.assertRaises(ValueError):
+        self.assertEqual((ObjectId.parse(random.text(1), 1), len(random.text(1))), (random, 56))
+
+    def test_what_is_no_id(self) -> None:
+        no_index = "0000000000000000000000000000000000000001" "00000001" "00000000"
+        for text in ("t1", "t1.0", "t01.1", "+t1.1", "0/t1.1", "1/t1.1", "t1.4294967296", f"t{2**64}.1", no_index, "AB" * 28, ""):
+            with self.assertRaises(ValueError, msg=text):
                 ObjectId.parse(text, 1)
+
+    def test_tasks(self) -> None:
+        for text in ("t0", "t1", f"t{2**64 - 1}", "01" * 20):
+            self.assertEqual(str(Task.parse(text)), text)
+        for text in ("t01", f"t{2**64}", "t", "1", "AB" * 20):
+            with self.assertRaises(ValueError, msg=text):
+                Task.parse(text)
 
 
 class Sessions(unittest.TestCase):
@@ -106,10 +252,19 @@ class Sessions(unittest.TestCase):
         self.addCleanup(self.store.close)
         self.one = self.store.task(1).object(1)
 
-    def refused(self, refusal: type, call, *words) -> None:
+    def refused(self, refusal: type, method, *words) -> None:
         with self.assertRaises(refusal) as caught:
-            call(*words)
+            method(*words)
         self.assertIs(type(caught.exception), refusal)
+
+    def test_frames_say_what_a_schedule_says(self) -> None:
+        """The documented commands are answered alike as frames of a session and as lines of a schedule."""
+        said = [said for _, said in documented()[0] if not said.startswith("hello")]
+        lines = [f"admit 0 1 {2**25} 0", "admit 0 2 64 0", *(f"cmd 0 1 1 {words.replace('wait ', ' ')}" for words in said)]
+        words = [PROGRAM, "run", "--memory", str(2**26)]
+        done = subprocess.run(words, input="".join(line + "\n" for line in lines), capture_output=True, text=True, check=True)
+        answers = [line.split(" ", 3)[3] for line in done.stdout.splitlines()[2:]]
+        self.assertEqual([spelled(call(self.store, words)) for words in said], answers)
 
     def test_bytes_come_back(self) -> None:
         for length in (1, 65_536, 65_537, 2**24):
@@ -171,6 +326,32 @@ class Sessions(unittest.TestCase):
             other.create(mine, 64)
             self.refused(store_client.Full, other.create, other.task(1).object(2), 16)
 
+    def fill(self, store: store_client.Connection, count: int) -> list[ObjectId]:
+        """So many objects of 16 bytes."""
+        return [store.put(bytes([index]) * 16, store.task(1).object(index)) for index in range(1, count + 1)]
+
+    def test_a_device_that_fails(self) -> None:
+        with self.server.connect(3) as store:
+            self.fill(store, 9)
+            shutil.rmtree(self.server.spill)
+            two = store.task(2).object(1)
+            self.refused(store_client.DeviceFailed, lambda: store.create(two, 16, wait=True))
+            self.server.spill.mkdir()
+            store.create(two, 16, wait=True)
+
+    def test_what_was_damaged_on_the_device(self) -> None:
+        with self.server.connect(3) as store:
+            one, *_ = self.fill(store, 9)
+            store.create(store.task(2).object(1), 16, wait=True)
+            (self.server.spill / "3.1").write_bytes(b"another content!")
+            store.delete(store.task(2).object(1))
+            self.refused(store_client.Damaged, store.get, one)
+            self.refused(store_client.Damaged, store.get, one)
+
+    def test_what_no_call_of_a_program_should_send(self) -> None:
+        self.refused(store_client.Malformed, self.store.create, self.one, 16, 7)
+        self.refused(store_client.ConnectionLost, self.store.usage)
+
     def test_what_is_listed(self) -> None:
         self.store.put(b"abc", self.one)
         self.store.create(self.store.task(1).object(2), 5, Kind.SECONDARY)
@@ -186,6 +367,8 @@ class Sessions(unittest.TestCase):
             self.refused(store_client.NotGranted, other.peek, one, 0, 1)
             self.refused(store_client.BadId, store.grant, one, 1)
             self.refused(store_client.Absent, store.grant, store.task(1).object(2), 2)
+            store.create(store.task(1).object(3), 16)
+            self.refused(store_client.NotResident, store.grant, store.task(1).object(3), 2)
             store.grant(one, 2)
             self.refused(store_client.Exists, store.grant, one, 2)
             self.refused(store_client.Granted, store.delete, one)
@@ -242,7 +425,7 @@ class Sessions(unittest.TestCase):
         thread.start()
         time.sleep(0.2)
         self.server.program.kill()
-        thread.join(10)
+        thread.join(PATIENCE)
         self.assertEqual(answers, [store_client.ConnectionLost])
         for _ in range(2):
             self.refused(store_client.ConnectionLost, self.store.usage)
@@ -268,12 +451,35 @@ class Sessions(unittest.TestCase):
             thread.join()
         self.assertEqual(faults, [])
 
-    def test_the_command_line(self) -> None:
+    def command_line(self) -> tuple[list[str], dict[str, str]]:
+        """The words of a command line but for the command, and the environment."""
         words = [sys.executable, "-m", "store_client", "--socket", self.server.path, "--job", "1", "--key", key(1).hex()]
-        place = {**os.environ, "PYTHONPATH": str(ROOT / "clients/python")}
+        return words, {**os.environ, "PYTHONPATH": str(ROOT / "clients/python")}
+
+    def test_usage_is_watched(self) -> None:
+        words, place = self.command_line()
+        with subprocess.Popen(words + ["watch", "--every", "0.01"], stdout=subprocess.PIPE, env=place, text=True) as watch:
+            self.assertEqual(watch.stdout.readline(), "window 0/33554432, device 0/0, copies 0, works 0\n")
+            self.store.create(self.one, 5)
+            self.assertEqual(watch.stdout.readline(), "window 16/33554432, device 0/0, copies 1, works 0\n")
+            watch.send_signal(signal.SIGINT)
+            self.assertEqual((watch.wait(PATIENCE), watch.stdout.read()), (130, ""))
+
+    def test_a_terminal_is_told_how_far_it_is(self) -> None:
+        words, place = self.command_line()
+        ours, theirs = pty.openpty()
+        with open(ours, "rb", buffering=0) as ours, open(theirs, "wb", buffering=0) as theirs:
+            data = bytes(2**18)
+            done = subprocess.run(words + ["put", "-", "--id", "t1.1"], input=data, stdout=subprocess.PIPE, stderr=theirs,
+                                  env=place, check=False, timeout=PATIENCE)
+            self.assertEqual((done.returncode, done.stdout), (0, b"t1.1\n"))
+            self.assertEqual(ours.read(1000).decode().split(), "put: 25 % put: 50 % put: 75 % put: 100 %".split())
+
+    def test_the_command_line(self) -> None:
+        words, place = self.command_line()
 
         def run(*more: str, data: bytes = b"") -> bytes:
-            done = subprocess.run(words + list(more), input=data, capture_output=True, env=place, check=False, timeout=60)
+            done = subprocess.run(words + list(more), input=data, capture_output=True, env=place, check=False, timeout=PATIENCE)
             self.assertEqual((done.returncode, done.stderr), (0, b""))
             return done.stdout
 
@@ -282,7 +488,7 @@ class Sessions(unittest.TestCase):
         self.assertEqual(run("list"), b"t1.1 sealed primary 5\n")
         self.assertEqual(run("usage"), b"window 16/33554432, device 0/0, copies 1, works 0\n")
         run("delete", "t1.1")
-        failed = subprocess.run(words + ["delete", "t1.1"], capture_output=True, env=place, check=False, timeout=60)
+        failed = subprocess.run(words + ["delete", "t1.1"], capture_output=True, env=place, check=False, timeout=PATIENCE)
         self.assertEqual(failed.returncode, 1)
         self.assertTrue(failed.stderr.startswith(b"store_client: 4 Absent"))
 
@@ -290,7 +496,7 @@ class Sessions(unittest.TestCase):
 class Examples(unittest.TestCase):
     def test_arrays_pass_along(self) -> None:
         place = {**os.environ, "STORE_PROGRAM": PROGRAM}
-        done = subprocess.run([str(ROOT / "examples/pipeline.py")], capture_output=True, env=place, check=False, timeout=120, text=True)
+        done = subprocess.run([str(ROOT / "examples/pipeline.py")], capture_output=True, env=place, check=False, timeout=PATIENCE, text=True)
         self.assertEqual((done.returncode, done.stderr), (0, ""))
         lines = done.stdout.splitlines()
         totals = [sum(number * number for number in range(start, start + 100_000)) for start in (0, 100_000, 200_000)]
