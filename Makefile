@@ -44,6 +44,13 @@ attack: build
 client-test: build
 	python3 clients/python/tests/test_client.py
 
+# The same and tests/sessions at the program that is there already, as the gate leaves it, with no new proof; and pictures, which
+# need none.
+try-built:
+	timeout 300 tests/sessions
+	timeout 600 python3 -B clients/python/tests/test_client.py
+	timeout 300 tests/pictures
+
 # Processes of two jobs that pass arrays along through a built program.
 pipeline: build
 	examples/pipeline.py
@@ -62,4 +69,4 @@ picture:
 	bench/picture docs/pictures/spilling.log -o docs/pictures/spilling.svg
 	rm docs/pictures/spilling.log
 
-.PHONY: test check build run sessions attack client-test pipeline model faults bench picture
+.PHONY: test check build run sessions attack client-test try-built pipeline model faults bench picture
