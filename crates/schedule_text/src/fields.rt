@@ -89,6 +89,13 @@ pub fn id_job(fields: &[&str], speaker: JobNo) -> Option<(ObjectId, JobNo)>
     ensures { Reads result (IsIdJob speaker.0 (map (λ field. field.now) fields.now)) }
 {
     let [id, other] = fields else { return None };
+    object_and_job(id, other, speaker)
+}
+
+/// An object and a job, each in its field.
+fn object_and_job(id: &str, other: &str, speaker: JobNo) -> Option<(ObjectId, JobNo)>
+    ensures { Reads result (λ read. IsObject speaker.0 id.now read.0 × IsJob other.now read.1) }
+{
     Some((object(id, speaker)?, job(other)?))
 }
 
@@ -97,6 +104,13 @@ pub fn id_task(fields: &[&str], job: JobNo) -> Option<(ObjectId, TaskNo)>
     ensures { Reads result (IsIdTask job.0 (map (λ field. field.now) fields.now)) }
 {
     let [id, other] = fields else { return None };
+    object_and_task(id, other, job)
+}
+
+/// An object and a task, each in its field.
+fn object_and_task(id: &str, other: &str, job: JobNo) -> Option<(ObjectId, TaskNo)>
+    ensures { Reads result (λ read. IsObject job.0 id.now read.0 × IsTaskField other.now read.1) }
+{
     Some((object(id, job)?, task(other)?))
 }
 
