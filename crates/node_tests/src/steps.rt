@@ -8,11 +8,12 @@ use crate::lines::step_of;
 use assertions::same;
 use obj_id::{Command, JobNo, Refusal, Reply, Usage};
 use private_store::{Event, Step, StepAnswer};
+use run_laws::run_two;
 use schedule_text::{Prefix, answer_line};
 use std::alloc::{AllocError, Global};
 use std::process::Abort;
 use std::test::Fail;
-use world_core::{Shape, Trace, World, run_two};
+use world_core::{Shape, Trace, World};
 
 /// The bytes of a node's memory, where a test needs no other number.
 const MEMORY: u64 = 1_073_741_824;

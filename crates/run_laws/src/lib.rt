@@ -1,12 +1,23 @@
-//! Laws of runs of worlds. Each function does nothing; its contract is a theorem about every run, whatever its schedule is.
+//! Laws of runs of worlds, and two runs beside each other. A law is a function that does nothing; its contract is a theorem
+//! about every run, whatever its schedule is.
 #![tactic(auto)]
 
-ghost use Rattle.std.specs.Prelude.{◌≡◌, ℕ, List};
+ghost use Rattle.std.specs.Prelude.{◌≡◌, ℕ, List, true, filter, IfOk, IsErrOf};
+ghost use Rattle.std.specs.List.{list_all};
+ghost use Rattle.obj_id.specs.declared.refusals.Refusal.{Refusal};
+ghost use Rattle.obj_id.specs.declared.refusals.Refusal.TheVariants.{NoMemory};
 ghost use Rattle.private_store.specs.declared.schedules.Step.{Step};
 ghost use Rattle.private_store.specs.declared.schedules.Traced.{Traced};
+ghost use Rattle.private_store.specs.Trace.{replies_of, is_answered, Agree};
 ghost use Rattle.hand_laws.specs.Moments.{AtEachMoment};
 ghost use Rattle.hand_laws.specs.Telling.{heard_where_due, counting, ShowsAlike};
+ghost use Rattle.world_core.specs.Worlds.{is_shape, is_within};
 ghost use Rattle.world_core.specs.Runs.{IsRun};
+
+use obj_id::Refusal;
+use private_store::Step;
+use std::alloc::Global;
+use world_core::{Shape, Trace, run};
 
 /// The laws of hands hold at every moment of every run: the standing hands of a node are a table; a job sees an object
 /// exactly if a chain of at most three of them leads to it; a withdrawal ends in its one step all that hangs on it, and
@@ -24,3 +35,29 @@ pub fn others_hands_dont_show_in_runs()
         → IsRun nodes memory first a → IsRun nodes memory second b
         → counting (heard_where_due job) job a ≡ counting (heard_where_due job) job b → ShowsAlike nodes job a b }
 {}
+
+/// Runs two schedules, each in a new world. A job whose inputs are the same in both is given equal replies, but for want of
+/// memory, whatever all others do. Two runs that differ in other jobs' Grants, Withdraws and Peeks of a job's objects alone,
+/// as `others_hands_dont_show_in_runs` has it, give the job the same inputs and the same replies. `NoMemory` where there is
+/// none for a world or a trace.
+pub fn run_two(
+    alloc: Global,
+    shape: Shape,
+    first: Vec<Step>,
+    second: Vec<Step>,
+) -> Result<(Trace, Trace), Refusal>
+    requires shape { is_shape shape ≡ true }
+    requires first { list_all (is_within shape.nodes) first.items ≡ true }
+    requires second { list_all (is_within shape.nodes) second.items ≡ true }
+    ensures first { IfOk result (λ traces. IsRun shape.nodes shape.memory first.items traces.0) }
+    ensures second { IfOk result (λ traces. IsRun shape.nodes shape.memory second.items traces.1) }
+    ensures replies { IfOk result (λ traces. (job : ℕ) → Agree shape.nodes job traces.0 traces.1
+        → filter is_answered (replies_of job traces.0) ≡ filter is_answered (replies_of job traces.1)) }
+    ensures hands { IfOk result (λ traces. (job : ℕ) → counting (heard_where_due job) job traces.0 ≡ counting (heard_where_due job) job traces.1
+        → ShowsAlike shape.nodes job traces.0 traces.1) }
+    ensures memory { (r : Refusal) → IsErrOf result r → r ≡ NoMemory }
+{
+    let first = run(alloc, shape, first)?;
+    let second = run(alloc, shape, second)?;
+    Ok((first, second))
+}

@@ -24,7 +24,7 @@ use node_core::{Node, Outcome};
 use obj_id::{JobNo, Place, Refusal, Reply};
 use owner_directory::Directory;
 use private_store::{Event, Step, StepAnswer};
-pub use runs::{Trace, run, run_two};
+pub use runs::{Trace, run};
 use std::alloc::{AllocError, Global};
 use std::marker::Model;
 pub use within::is_within;

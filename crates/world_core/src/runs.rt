@@ -1,12 +1,12 @@
 //! Runs of whole schedules.
-ghost use Rattle.std.specs.Prelude.{◌≡◌, ℕ, List, [], ◌∷◌, ◌++◌, true, map, filter, IfOk, OnOk, OnErr, IsErrOf};
+ghost use Rattle.std.specs.Prelude.{◌≡◌, ℕ, List, [], ◌∷◌, ◌++◌, true, map, IfOk, OnOk, OnErr, IsErrOf};
 ghost use Rattle.std.specs.List.{list_all};
 ghost use Rattle.obj_id.specs.declared.refusals.Refusal.{Refusal};
 ghost use Rattle.obj_id.specs.declared.refusals.Refusal.TheVariants.{NoMemory};
-ghost use Rattle.private_store.specs.Trace.{replies_of, is_answered, Agree, IsPrivate};
+ghost use Rattle.private_store.specs.Trace.{IsPrivate};
 ghost use Rattle.private_store.specs.Shared.{AreSharedAnswers};
 ghost use Rattle.world_core.specs.Worlds.{is_shape, is_within};
-ghost use Rattle.world_core.specs.Runs.{IsRun, all_replied};
+ghost use Rattle.world_core.specs.Runs.{all_replied};
 
 use crate::{Shape, World};
 use obj_id::Refusal;
@@ -78,26 +78,4 @@ pub fn run(alloc: Global, shape: Shape, schedule: Vec<Step>) -> Result<Trace, Re
         trace.push(Traced { step, answer })?;
     }
     Ok(trace)
-}
-
-/// Runs two schedules, each in a new world. A job whose inputs are the same in both is given equal
-/// replies, but for want of memory, whatever all others do.
-pub fn run_two(
-    alloc: Global,
-    shape: Shape,
-    first: Vec<Step>,
-    second: Vec<Step>,
-) -> Result<(Trace, Trace), Refusal>
-    requires shape { is_shape shape ≡ true }
-    requires first { list_all (is_within shape.nodes) first.items ≡ true }
-    requires second { list_all (is_within shape.nodes) second.items ≡ true }
-    ensures first { IfOk result (λ traces. IsRun shape.nodes shape.memory first.items traces.0) }
-    ensures second { IfOk result (λ traces. IsRun shape.nodes shape.memory second.items traces.1) }
-    ensures replies { IfOk result (λ traces. (job : ℕ) → Agree shape.nodes job traces.0 traces.1
-        → filter is_answered (replies_of job traces.0) ≡ filter is_answered (replies_of job traces.1)) }
-    ensures memory { (r : Refusal) → IsErrOf result r → r ≡ NoMemory }
-{
-    let first = run(alloc, shape, first)?;
-    let second = run(alloc, shape, second)?;
-    Ok((first, second))
 }
