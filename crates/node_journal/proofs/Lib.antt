@@ -8,3 +8,4 @@ mod Lives
 mod Bases
 mod Rooms
 mod Bisected
+mod Posting

@@ -1,3 +1,4 @@
 pub mod Replies
 pub mod Journals
 pub mod Logs
+pub mod Posts

@@ -13,13 +13,17 @@ ghost use Rattle.node_core.specs.Judged.{IsJudged, IsArrivalJudged, IsSmall};
 ghost use Rattle.node_core.specs.Outcomes.{given_of};
 ghost use Rattle.node_journal.specs.declared.entries.Agreement.TheVariants.{No};
 ghost use Rattle.node_journal.specs.Logs.{journal_of, list_of};
+ghost use Rattle.node_journal.specs.Posts.{IsAstray, is_entered};
+ghost use Rattle.private_store.specs.Cluster.{arrival_of};
+ghost use Rattle.obj_id.specs.declared.messages.Arrival.{Arrival};
 ghost use Rattle.node_journal.specs.Journals.{entry_for, lines_made, is_entry, rise_above, Tells, AreNumbered, agreement, folded_if, is_folded_by, most_lines, with_lines, is_call};
 
 use crate::entries::{Agreement, Line, Receipt, entry_of, job_of};
 use crate::folding::{MOST_LINES, base_of, bases_of};
 use crate::logs::Logs;
+use crate::posts::{Made, Posted, arrival};
 use node_core::{Node, Outcome};
-use obj_id::{Arrival, JobKey, JobNo, Refusal};
+use obj_id::{Arrival, JobKey, JobNo, Place, Refusal};
 use private_store::Event;
 use std::alloc::Global;
 use std::marker::PhantomData;
@@ -77,15 +81,15 @@ impl<L: Ledger> Kept<L> {
     ///
     /// `NoMemory` alone, if the event, its entry or a fold finds no memory, if 1,152,921,504,606,846,975 entries were made,
     /// or if the event tells 65,536 hands or more: then nothing has changed.
-    pub fn step(&mut self, event: &Event) -> Result<(Outcome, Receipt<L>), Refusal>
-        ensures node { IfOk result (λ r. Steps self.old.node (node_event.Own event.now) (given_of r.0) self.new.node) }
+    pub fn step(&mut self, event: &Event) -> Result<Made<L>, Refusal>
+        ensures node { IfOk result (λ r. Steps self.old.node (node_event.Own event.now) (given_of r.outcome) self.new.node) }
         ensures journal { IfOk result (λ r. (job : ℕ) → journal_of self.new.logs job
-            ≡ with_lines (folded_if (is_folded_by self.old.node.hands (node_event.Own event.now) job (list_of self.old.logs job)) (journal_of self.old.logs job)) (lines_made (self.old.count + 1) (node_event.Own event.now) r.0.judged (given_of r.0) job)) }
-        ensures receipt { IfOk result (λ r. (r.1.node ≡ self.old.number) × (r.1.job.0 ≡ job_of_event event.now) × (r.1.entry ≡ entry_for (self.old.count + 1) r.0.judged r.0.reply)) }
-        ensures judged { IfOk result (λ r. IsJudged self.old.node event.now r.0.reply r.0.judged) }
+            ≡ with_lines (folded_if (is_folded_by self.old.node.hands (node_event.Own event.now) job (list_of self.old.logs job)) (journal_of self.old.logs job)) (lines_made (self.old.count + 1) (node_event.Own event.now) r.outcome.judged (given_of r.outcome) job)) }
+        ensures receipt { IfOk result (λ r. (r.receipt.node ≡ self.old.number) × (r.receipt.job.0 ≡ job_of_event event.now) × (r.receipt.entry ≡ entry_for (self.old.count + 1) r.outcome.judged r.outcome.reply)) }
+        ensures judged { IfOk result (λ r. IsJudged self.old.node event.now r.outcome.reply r.outcome.judged) }
         ensures count { OnOk result (self.new.count ≡ self.old.count + 1) }
-        ensures answered { IfOk result (λ r. is_call event.now ≡ true → wants_memory r.0.reply ≡ false) }
-        ensures small { IfOk result (λ r. is_call event.now ≡ true → is_small_reply r.0.reply ≡ true) }
+        ensures answered { IfOk result (λ r. is_call event.now ≡ true → wants_memory r.outcome.reply ≡ false) }
+        ensures small { IfOk result (λ r. is_call event.now ≡ true → is_small_reply r.outcome.reply ≡ true) }
         ensures number { self.new.number ≡ self.old.number }
         ensures memory { (r : Refusal) → IsErrOf result r → r ≡ NoMemory }
         ensures same { OnErr result ((self.new.node ≡ self.old.node) × (self.new.count ≡ self.old.count)) }
@@ -111,26 +115,55 @@ impl<L: Ledger> Kept<L> {
             entry: entry_of(*alloc, next, &outcome),
             name: PhantomData,
         };
-        Ok((outcome, receipt))
+        Ok(Made { outcome, receipt })
     }
 
-    /// A message of a job arrives, by `Node::arrive`, and adds one entry to the job's list, which the receipt names. It tells
-    /// nobody of a hand, so there is no note. The list is folded first if it has 65,536 lines: its base is then the replay of
-    /// its old base and lines, and it has the new entry alone.
+    /// A message that was posted to this node arrives, by `Node::arrive`, and adds one entry to its job's list, which the receipt
+    /// names. It tells nobody of a hand, so there is no note. The list is folded first if it has 65,536 lines: its base is then
+    /// the replay of its old base and lines, and it has the new entry alone.
     ///
-    /// `NoMemory` alone, if the message, its entry or a fold finds no memory, or if 1,152,921,504,606,846,975 entries were
-    /// made: then nothing has changed.
-    pub fn arrive(
-        &mut self,
-        job: JobNo,
-        arrival: &Arrival,
-    ) -> Result<(Outcome, Receipt<L>), Refusal>
-        ensures node { IfOk result (λ r. Steps self.old.node (node_event.Arrive job arrival.now) (given_of r.0) self.new.node) }
+    /// `Stale` if it was posted to another place, or isn't made for a node; and `NoMemory` if the message, its entry or a fold
+    /// finds no memory, or if 1,152,921,504,606,846,975 entries were made. Then nothing has changed.
+    pub fn arrive(&mut self, posted: Posted<L>) -> Result<Made<L>, Refusal>
+        ensures stale { IsErrOf result Stale ↔ IsAstray self.old.number posted }
+        ensures node { IfOk result (λ r. (a : Arrival) → arrival_of posted.from posted.message ≡ Some a → Steps self.old.node (node_event.Arrive posted.job a) (given_of r.outcome) self.new.node) }
+        ensures journal { IfOk result (λ r. (a : Arrival) → arrival_of posted.from posted.message ≡ Some a → (other : ℕ) → journal_of self.new.logs other
+            ≡ with_lines (folded_if (is_folded_by self.old.node.hands (node_event.Arrive posted.job a) other (list_of self.old.logs other)) (journal_of self.old.logs other)) (lines_made (self.old.count + 1) (node_event.Arrive posted.job a) r.outcome.judged (given_of r.outcome) other)) }
+        ensures receipt { IfOk result (λ r. (r.receipt.node ≡ self.old.number) × (r.receipt.job.0 ≡ posted.job.0) × (r.receipt.entry ≡ entry_for (self.old.count + 1) r.outcome.judged r.outcome.reply)) }
+        ensures judged { IfOk result (λ r. (a : Arrival) → arrival_of posted.from posted.message ≡ Some a → IsArrivalJudged self.old.node posted.job a r.outcome.reply r.outcome.judged) }
+        ensures entered { IfOk result (λ r. (a : Arrival) → arrival_of posted.from posted.message ≡ Some a → is_entered a r.outcome.reply r.outcome.judged ≡ true) }
+        ensures silent { IfOk result (λ r. r.outcome.notes ≡ []) }
+        ensures count { OnOk result (self.new.count ≡ self.old.count + 1) }
+        ensures number { self.new.number ≡ self.old.number }
+        ensures memory { (r : Refusal) → IsErrOf result r → r ≢ Stale → r ≡ NoMemory }
+        ensures same { OnErr result ((self.new.node ≡ self.old.node) × (self.new.count ≡ self.old.count)) }
+        ensures unchanged { OnErr result ((other : ℕ) → journal_of self.new.logs other ≡ journal_of self.old.logs other) }
+    {
+        let Posted {
+            job,
+            from,
+            to,
+            message,
+            ..
+        } = posted;
+        if to != Place::Node(self.number) {
+            return Err(Refusal::Stale);
+        }
+        match arrival(from, message) {
+            None => Err(Refusal::Stale),
+            Some(arrival) => self.take_in(job, &arrival),
+        }
+    }
+
+    /// The message arrives, and its entry is added. The error is out of memory, and then nothing has changed.
+    fn take_in(&mut self, job: JobNo, arrival: &Arrival) -> Result<Made<L>, Refusal>
+        ensures node { IfOk result (λ r. Steps self.old.node (node_event.Arrive job arrival.now) (given_of r.outcome) self.new.node) }
         ensures journal { IfOk result (λ r. (other : ℕ) → journal_of self.new.logs other
-            ≡ with_lines (folded_if (is_folded_by self.old.node.hands (node_event.Arrive job arrival.now) other (list_of self.old.logs other)) (journal_of self.old.logs other)) (lines_made (self.old.count + 1) (node_event.Arrive job arrival.now) r.0.judged (given_of r.0) other)) }
-        ensures receipt { IfOk result (λ r. (r.1.node ≡ self.old.number) × (r.1.job.0 ≡ job.0) × (r.1.entry ≡ entry_for (self.old.count + 1) r.0.judged r.0.reply)) }
-        ensures judged { IfOk result (λ r. IsArrivalJudged self.old.node job arrival.now r.0.reply r.0.judged) }
-        ensures silent { IfOk result (λ r. r.0.notes ≡ []) }
+            ≡ with_lines (folded_if (is_folded_by self.old.node.hands (node_event.Arrive job arrival.now) other (list_of self.old.logs other)) (journal_of self.old.logs other)) (lines_made (self.old.count + 1) (node_event.Arrive job arrival.now) r.outcome.judged (given_of r.outcome) other)) }
+        ensures receipt { IfOk result (λ r. (r.receipt.node ≡ self.old.number) × (r.receipt.job.0 ≡ job.0) × (r.receipt.entry ≡ entry_for (self.old.count + 1) r.outcome.judged r.outcome.reply)) }
+        ensures judged { IfOk result (λ r. IsArrivalJudged self.old.node job arrival.now r.outcome.reply r.outcome.judged) }
+        ensures entered { IfOk result (λ r. is_entered arrival.now r.outcome.reply r.outcome.judged ≡ true) }
+        ensures silent { IfOk result (λ r. r.outcome.notes ≡ []) }
         ensures count { OnOk result (self.new.count ≡ self.old.count + 1) }
         ensures number { self.new.number ≡ self.old.number }
         ensures memory { (r : Refusal) → IsErrOf result r → r ≡ NoMemory }
@@ -157,7 +190,7 @@ impl<L: Ledger> Kept<L> {
             entry: entry_of(*alloc, next, &outcome),
             name: PhantomData,
         };
-        Ok((outcome, receipt))
+        Ok(Made { outcome, receipt })
     }
 
     /// The same as `step`, if the entry that the receipt names is there or was folded; the new receipt then has a greater
@@ -168,17 +201,17 @@ impl<L: Ledger> Kept<L> {
         &mut self,
         receipt: &Receipt<L>,
         event: &Event,
-    ) -> Result<(Outcome, Receipt<L>), Refusal>
+    ) -> Result<Made<L>, Refusal>
         ensures stale { IsErrOf result Stale ↔ (agreement (receipt.now.node == self.old.number) receipt.now.entry.number (journal_of self.old.logs receipt.now.job.0) ≡ No) }
-        ensures later { IfOk result (λ r. (r.1.node ≡ receipt.now.node) × (receipt.now.entry.number < r.1.entry.number)) }
-        ensures node { IfOk result (λ r. Steps self.old.node (node_event.Own event.now) (given_of r.0) self.new.node) }
+        ensures later { IfOk result (λ r. (r.receipt.node ≡ receipt.now.node) × (receipt.now.entry.number < r.receipt.entry.number)) }
+        ensures node { IfOk result (λ r. Steps self.old.node (node_event.Own event.now) (given_of r.outcome) self.new.node) }
         ensures journal { IfOk result (λ r. (job : ℕ) → journal_of self.new.logs job
-            ≡ with_lines (folded_if (is_folded_by self.old.node.hands (node_event.Own event.now) job (list_of self.old.logs job)) (journal_of self.old.logs job)) (lines_made (self.old.count + 1) (node_event.Own event.now) r.0.judged (given_of r.0) job)) }
-        ensures receipt { IfOk result (λ r. (r.1.node ≡ self.old.number) × (r.1.job.0 ≡ job_of_event event.now) × (r.1.entry ≡ entry_for (self.old.count + 1) r.0.judged r.0.reply)) }
-        ensures judged { IfOk result (λ r. IsJudged self.old.node event.now r.0.reply r.0.judged) }
+            ≡ with_lines (folded_if (is_folded_by self.old.node.hands (node_event.Own event.now) job (list_of self.old.logs job)) (journal_of self.old.logs job)) (lines_made (self.old.count + 1) (node_event.Own event.now) r.outcome.judged (given_of r.outcome) job)) }
+        ensures receipt { IfOk result (λ r. (r.receipt.node ≡ self.old.number) × (r.receipt.job.0 ≡ job_of_event event.now) × (r.receipt.entry ≡ entry_for (self.old.count + 1) r.outcome.judged r.outcome.reply)) }
+        ensures judged { IfOk result (λ r. IsJudged self.old.node event.now r.outcome.reply r.outcome.judged) }
         ensures count { OnOk result (self.new.count ≡ self.old.count + 1) }
-        ensures answered { IfOk result (λ r. is_call event.now ≡ true → wants_memory r.0.reply ≡ false) }
-        ensures small { IfOk result (λ r. is_call event.now ≡ true → is_small_reply r.0.reply ≡ true) }
+        ensures answered { IfOk result (λ r. is_call event.now ≡ true → wants_memory r.outcome.reply ≡ false) }
+        ensures small { IfOk result (λ r. is_call event.now ≡ true → is_small_reply r.outcome.reply ≡ true) }
         ensures number { self.new.number ≡ self.old.number }
         ensures memory { (r : Refusal) → IsErrOf result r → r ≢ Stale → r ≡ NoMemory }
         ensures same { OnErr result ((self.new.node ≡ self.old.node) × (self.new.count ≡ self.old.count)) }

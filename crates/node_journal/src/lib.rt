@@ -7,7 +7,9 @@ mod entries;
 mod folding;
 mod kept;
 mod logs;
+mod posts;
 
 pub use entries::{Agreement, Entry, Line, Receipt};
 pub use folding::MOST_LINES;
 pub use kept::Kept;
+pub use posts::{Made, Mail, Parts, Posted};

@@ -1,36 +1,12 @@
-use Rattle.std.proofs.Common.{◌+◌, ◌==◌, ◌≤◌, length, refl, sym, ap, subst, ◌∙◌}
-use Rattle.private_store.specs.declared.schedules.NodeEvent.TheVariants.{Arrive}
-use Rattle.node_core.specs.Outcomes.{inputs_noted}
-use Rattle.node_journal.specs.Journals.{Journal, AreNumbered, is_folded_by, most_lines}
-use Rattle.node_journal.specs.Logs.{list_of}
-use Rattle.node_journal.proofs.Telling.{arrival_told, told_alike}
-use Rattle.node_journal.proofs.Numbering.{all_numbered}
+use Rattle.std.proofs.Common.{sym, subst, ◌∙◌}
+use Rattle.std.proofs.lemmas.Result.{IfOk-weaker}
+use Rattle.node_core.specs.Judged.{IsArrivalJudged}
+use Rattle.node_journal.proofs.Posting.{one_arrival}
 use Rattle.node_journal.proofs.kept.Kept.arrive.Goals as goal
 
-pub invariant_of-self : goal.invariant_of-self
-invariant_of-self g c =
-    let old = c.args.self.now in
-    let left = c.in_err-outcome.ensures in
-    record {
-      seated = old.seated;
-      blank = old.blank;
-      named = ap (λ n. n.number) left.err ∙ old.named;
-      numbered = λ job. subst (AreNumbered old.count) (sym (left.unchanged job)) (old.numbered job);
-      few = λ job. subst (λ (j : Journal). length j.list ≤ most_lines) (sym (left.unchanged job)) (old.few job);
-      told = told_alike old.node _ _ _ left.err left.unchanged old.told;
-    }
-
-pub invariant_of-self-2 : goal.invariant_of-self-2
-invariant_of-self-2 g c =
-    let old = c.args.self.now in
-    let done = c.in_ok-outcome.ensures in
-    let to = c.args.job in
-    let a = c.args.arrival.now in
-    record {
-      seated = old.seated;
-      blank = old.blank;
-      named = done.node.number ∙ old.named;
-      numbered = λ job. all_numbered old.count job (to.0 == job) (is_folded_by old.node.hands (Arrive to a) job (list_of old.logs job)) _ _ _ _ refl (done.logs job) (old.numbered job);
-      few = done.few;
-      told = arrival_told old.node _ to a _ (old.count + 1) done.node _ done.judged done.stale (ap inputs_noted done.silent) _ _ (λ job. is_folded_by old.node.hands (Arrive to a) job (list_of old.logs job)) done.logs old.told;
-    }
+pub returns-in-Some-clause-judged : goal.returns-in-Some-clause-judged
+returns-in-Some-clause-judged g c =
+    let old = c.args.self.now.node in
+    IfOk-weaker c.take_in.result _ _
+    (λ r told a is. subst (λ x. IsArrivalJudged old c.args.posted.job x r.outcome.reply r.outcome.judged) (one_arrival _ _ _ (sym c.arrival.ensures ∙ c.in-Some.is) is) told)
+    c.take_in.ensures.judged

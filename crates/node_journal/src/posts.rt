@@ -1,0 +1,204 @@
+//! What a step gives: its answer, its receipt, and the messages that it sends.
+ghost use Rattle.std.specs.Prelude.{◌≡◌, ◌++◌, ◌⊎◌, ◌≢◌, Some, None, MatchOption, IfOk, IfSome, IsErrOf, OnErr, option_map};
+ghost use Rattle.std.specs.Option.{option_to_list};
+ghost use Rattle.obj_id.specs.declared.messages.Place.TheVariants as place;
+ghost use Rattle.obj_id.specs.declared.refusals.Refusal.{Refusal};
+ghost use Rattle.obj_id.specs.declared.refusals.Refusal.TheVariants.{NoMemory};
+ghost use Rattle.private_store.specs.Cluster.{arrival_of};
+ghost use Rattle.node_journal.specs.Posts.{posts_left, post_of, told_directory, Passes};
+
+use crate::entries::Receipt;
+use bytes::Bytes;
+use node_core::{Erase, Outcome};
+use obj_id::{Arrival, Items, JobNo, Message, Place, Refusal, Reply};
+use owner_directory::{Directory, DirectoryReply};
+use std::marker::PhantomData;
+use std::sync::ledger::Ledger;
+use std::vec::IntoIter;
+
+/// A step that was made: what it gave, with the receipt of its entry.
+#[derive(Drop)]
+pub struct Made<L: Ledger> {
+    pub(crate) outcome: Outcome,
+    pub(crate) receipt: Receipt<L>,
+}
+
+/// What a step gave, in parts.
+#[derive(Drop)]
+pub struct Parts<L: Ledger> {
+    pub reply: Reply<Bytes>,
+    /// The device keys that are to be erased.
+    pub erase: Erase,
+    pub mail: Mail<L>,
+    pub receipt: Receipt<L>,
+}
+
+impl<L: Ledger> Made<L> {
+    /// The answer, the keys to erase, the messages that the step sends, and the receipt. Takes no memory.
+    pub fn into_parts(self) -> Parts<L>
+        ensures reply { result.reply ≡ self.outcome.reply }
+        ensures erase { result.erase ≡ self.outcome.erase }
+        ensures mail { posts_left result.mail ≡ self.outcome.messages }
+        ensures sender { (result.mail.job ≡ self.receipt.job) × (result.mail.node ≡ self.receipt.node) × (result.mail.entry ≡ self.receipt.entry.number) }
+        ensures receipt { result.receipt ≡ self.receipt }
+    {
+        let Made { outcome, receipt } = self;
+        let Outcome {
+            reply,
+            messages,
+            erase,
+            notes: _,
+            judged: _,
+        } = outcome;
+        let mail = Mail {
+            job: receipt.job,
+            node: receipt.node,
+            entry: receipt.entry.number,
+            rest: messages.into_vec().into_iter(),
+            name: PhantomData,
+        };
+        Parts {
+            reply,
+            erase,
+            mail,
+            receipt,
+        }
+    }
+}
+
+/// What a step sends, message by message. It isn't copied, and a step alone makes it.
+#[derive(Drop)]
+pub struct Mail<L: Ledger> {
+    pub(crate) job: JobNo,
+    pub(crate) node: u32,
+    pub(crate) entry: u64,
+    pub(crate) rest: IntoIter<(Place, Message)>,
+    pub(crate) name: PhantomData<L>,
+}
+
+/// Gives each message once, in order, from the node and entry whose step sent it. Takes no memory.
+impl<L: Ledger> Iterator for Mail<L> {
+    ghost use Rattle.std.specs.Iterator.{at_most};
+    ghost use Rattle.std.specs.Vec.Iter.{into_iter_len};
+    ghost use Rattle.node_journal.specs.Posts.{Delivers};
+
+    type Item = Posted<L>;
+
+    ghost next_gives = { Delivers };
+
+    ghost remaining = { λ mail. at_most (into_iter_len mail.rest) };
+
+    fn next(&mut self) -> Option<Posted<L>> {
+        match self.rest.next() {
+            None => None,
+            Some((to, message)) => Some(Posted {
+                job: self.job,
+                from: Place::Node(self.node),
+                to,
+                entry: self.entry,
+                message,
+                name: PhantomData,
+            }),
+        }
+    }
+}
+
+/// A message on its way: a step sent it, or the directory as its answer to one that a step sent. It isn't copied, and who
+/// hands it in uses it up.
+#[derive(Drop)]
+pub struct Posted<L: Ledger> {
+    pub(crate) job: JobNo,
+    pub(crate) from: Place,
+    pub(crate) to: Place,
+    pub(crate) entry: u64,
+    pub(crate) message: Message,
+    pub(crate) name: PhantomData<L>,
+}
+
+impl<L: Ledger> Posted<L> {
+    /// The job that it is sent for.
+    pub fn job(&self) -> JobNo
+        ensures { result ≡ self.now.job }
+    {
+        self.job
+    }
+
+    /// The place that sent it.
+    pub fn from(&self) -> Place
+        ensures { result ≡ self.now.from }
+    {
+        self.from
+    }
+
+    /// The place that it is for.
+    pub fn to(&self) -> Place
+        ensures { result ≡ self.now.to }
+    {
+        self.to
+    }
+
+    /// The number of the entry, at the node whose step sent it or asked the directory for it.
+    pub fn entry(&self) -> u64
+        ensures { result ≡ self.now.entry }
+    {
+        self.entry
+    }
+
+    /// What it says.
+    pub fn message(&self) -> &Message
+        ensures { result.now ≡ self.now.message }
+    {
+        &self.message
+    }
+
+    /// Passes it through the directory, by `Directory::apply`: the directory's answer, if it sends one, is posted from it under
+    /// the same job and entry. A message that isn't for the directory changes nothing, and has no answer.
+    ///
+    /// The error is out of memory, and then the directory is as it was.
+    pub fn through(self, directory: &mut Directory) -> Result<Option<Posted<L>>, Refusal>
+        ensures passes { IfOk result (λ answer. Passes directory.old directory.new self.job (told_directory self.message) (option_to_list (option_map post_of answer))) }
+        ensures sender { IfOk result (λ answer. IfSome answer (λ p. (p.job ≡ self.job) × (p.from ≡ place.Directory) × (p.entry ≡ self.entry))) }
+        ensures memory { (r : Refusal) → IsErrOf result r → r ≡ NoMemory }
+        ensures err { OnErr result (directory.new ≡ directory.old) }
+    {
+        let Posted {
+            job,
+            entry,
+            message,
+            name,
+            ..
+        } = self;
+        let Message::ToDirectory(told) = message else {
+            return Ok(None);
+        };
+        match directory.apply(job, told)? {
+            DirectoryReply::Nothing => Ok(None),
+            DirectoryReply::Located {
+                to,
+                id,
+                number,
+                entries,
+            } => Ok(Some(Posted {
+                job,
+                from: Place::Directory,
+                to: Place::Node(to),
+                entry,
+                message: Message::Located(id, number, entries),
+                name,
+            })),
+        }
+    }
+}
+
+/// What a node makes of a message from this place, if it is one for a node. Takes no memory.
+pub(crate) fn arrival(from: Place, message: Message) -> Option<Arrival>
+    ensures { result ≡ arrival_of from message }
+{
+    match (from, message) {
+        (Place::Directory, Message::Located(id, number, entries)) => {
+            Some(Arrival::Located(id, number, entries))
+        }
+        (Place::Node(node), Message::ToPeer(told)) => Some(Arrival::FromPeer(node, told)),
+        _ => None,
+    }
+}
