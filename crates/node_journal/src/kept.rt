@@ -197,11 +197,7 @@ impl<L: Ledger> Kept<L> {
     /// number.
     ///
     /// `Stale` if the journal says No of the receipt, and `NoMemory` as `step`: then nothing has changed.
-    pub fn step_after(
-        &mut self,
-        receipt: &Receipt<L>,
-        event: &Event,
-    ) -> Result<Made<L>, Refusal>
+    pub fn step_after(&mut self, receipt: &Receipt<L>, event: &Event) -> Result<Made<L>, Refusal>
         ensures stale { IsErrOf result Stale ↔ (agreement (receipt.now.node == self.old.number) receipt.now.entry.number (journal_of self.old.logs receipt.now.job.0) ≡ No) }
         ensures later { IfOk result (λ r. (r.receipt.node ≡ receipt.now.node) × (receipt.now.entry.number < r.receipt.entry.number)) }
         ensures node { IfOk result (λ r. Steps self.old.node (node_event.Own event.now) (given_of r.outcome) self.new.node) }

@@ -3,9 +3,14 @@ ghost use Rattle.std.specs.Prelude.{◌≡◌, ◌↔◌, ◌≤◌, ◌<◌, ve
 ghost use Rattle.job_admission.specs.Admissions.{largest_memory};
 
 use crate::SharedNode;
+use crate::posting::{WayIn, Ways, receive};
+use crate::waiting::Waiting;
+use owner_directory::Directory;
 use std::alloc::{AllocError, Global};
 use std::sync::ledger::{Ledger, Share};
-use std::sync::{Arc, Wait};
+use std::sync::{Arc, Mutex, Wait};
+use std::thread::{JoinHandle, Threads};
+use std::{io, mem};
 
 /// What was counted in a cluster, over all nodes. Each number stays at its type's last value.
 #[derive(Clone, Copy, Debug, PartialEq, Eq)]
@@ -16,20 +21,26 @@ pub struct Report {
     pub receipts: u64,
     /// Those of them that were looked for and that their node's journal doesn't have: 0 in a right run.
     pub disagreeing: u64,
-    /// Messages that nobody was given.
+    /// Messages that didn't come to the place that they were sent to: a link was full or closed, or there was no memory.
     pub lost: u64,
     /// Device keys that weren't erased.
     pub erase_failures: u64,
 }
 
-/// The nodes of a process, by number.
+/// The nodes of a process, by number, with one directory and a link from each node to each other one.
 #[derive(Drop)]
 pub struct Cluster<L: Ledger> {
     nodes: Vec<Arc<SharedNode<L>>>,
+    waiting: Arc<Waiting>,
+    // links that nobody receives from yet
+    ends: Vec<WayIn<L>>,
+    receiving: Vec<JoinHandle<()>>,
+    alloc: Global,
 }
 
 impl<L: Ledger> Cluster<L> {
-    /// So many nodes, each with so many bytes of memory, on all parts of the name: one for each node.
+    /// So many nodes, each with so many bytes of memory, on all parts of the name: one for each node. What they send one another
+    /// is received once they are connected.
     pub fn start(
         alloc: Global,
         nodes: u32,
@@ -43,12 +54,49 @@ impl<L: Ledger> Cluster<L> {
     {
         let mut seats = seats;
         let mut all = Vec::new(alloc);
+        let mut ends = Vec::new(alloc);
+        let directory = Arc::new(alloc, Mutex::new(Directory::new(alloc)))?;
+        let waiting = Arc::new(alloc, Waiting::new())?;
         for number in 0..nodes {
             let seat = seats.split_off(1, 0);
-            let node = SharedNode::new(alloc, number, memory, seat);
+            let ways = Ways::open(alloc, number, nodes, &directory, &mut ends)?;
+            let woken = Arc::try_clone(&waiting)?;
+            let node = SharedNode::new(alloc, number, memory, seat, ways, woken);
             all.push(Arc::new(alloc, node)?)?;
         }
-        Ok(Cluster { nodes: all })
+        Ok(Cluster {
+            nodes: all,
+            waiting,
+            ends,
+            receiving: Vec::new(alloc),
+            alloc,
+        })
+    }
+
+    /// Lets each node receive what the others send it, each link in a thread of its own.
+    pub fn connect<R: Threads + Wait + Copy + Send + 'static>(&mut self, rt: R) -> io::Result<()>
+    where
+        L: Send + Sync + 'static,
+    {
+        let ends = mem::replace(&mut self.ends, Vec::new(self.alloc));
+        self.receiving.reserve(ends.len())?;
+        for way in ends {
+            if let Some(node) = self.nodes.get(way.node as usize) {
+                let thread = receive(rt, Arc::try_clone(node)?, way)?;
+                self.receiving.push(thread)?;
+            }
+        }
+        Ok(())
+    }
+
+    /// Closes the links, and waits for what was accepted to be received. What is sent from then on is lost.
+    pub fn disconnect<R: Threads + Wait>(&mut self, rt: &R) {
+        for node in &self.nodes {
+            node.close_links(rt);
+        }
+        for thread in mem::replace(&mut self.receiving, Vec::new(self.alloc)) {
+            thread.join(rt);
+        }
     }
 
     /// How many nodes there are.
@@ -67,9 +115,7 @@ impl<L: Ledger> Cluster<L> {
 
     /// Shuts all nodes: who waits for another answer is answered Pending, and no listener takes a stream any more.
     pub fn shut<R: Wait>(&self, rt: &R) {
-        for node in &self.nodes {
-            node.shut(rt);
-        }
+        self.waiting.shut(rt);
     }
 
     /// Waits for the open sessions to end, and says what was counted.

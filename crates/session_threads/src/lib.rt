@@ -1,13 +1,15 @@
 //! Nodes that many threads step: each behind a lock with its journal, sessions that call it, listeners that serve each stream
-//! in a thread of its own, and workers that carry out its device works.
+//! in a thread of its own, workers that carry out its device works, and links between the nodes.
 #![tactic(auto)]
 
 mod cluster;
 mod device_calls;
 mod frames;
 mod listening;
+mod posting;
 mod session;
 mod shared;
+mod waiting;
 mod working;
 
 pub use cluster::{Cluster, Report};

@@ -70,12 +70,10 @@ fn accept_all<L: Ledger + Send + Sync + 'static, R: Threads + Wait + Clock + Cop
 }
 
 /// Serves a stream in a thread of its own.
-fn start_session<L: Ledger + Send + Sync + 'static, R: Threads + Wait + Copy + Send + 'static>(
-    rt: R,
-    alloc: Global,
-    node: &Arc<SharedNode<L>>,
-    stream: UnixStream,
-) -> Result<(), AllocError> {
+fn start_session<
+    L: Ledger + Send + Sync + 'static,
+    R: Threads + Wait + Clock + Copy + Send + 'static,
+>(rt: R, alloc: Global, node: &Arc<SharedNode<L>>, stream: UnixStream) -> Result<(), AllocError> {
     let theirs = Arc::try_clone(node)?;
     if !node.open_session(&rt) {
         return Ok(());
@@ -88,7 +86,7 @@ fn start_session<L: Ledger + Send + Sync + 'static, R: Threads + Wait + Copy + S
 }
 
 /// Serves a session over the stream, to its end.
-fn serve_stream<L: Ledger, R: Wait>(
+fn serve_stream<L: Ledger, R: Wait + Clock>(
     rt: &R,
     alloc: Global,
     node: &SharedNode<L>,

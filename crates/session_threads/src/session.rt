@@ -9,16 +9,17 @@ use private_store::Awaited;
 use session_engine::Gate;
 use std::sync::Wait;
 use std::sync::ledger::Ledger;
+use std::time::Clock;
 
 /// A session at a node, with the receipt of its last step.
 #[derive(Drop)]
-pub struct Session<'a, L: Ledger, R: Wait> {
+pub struct Session<'a, L: Ledger, R: Wait + Clock> {
     rt: &'a R,
     node: &'a SharedNode<L>,
     last: Option<Receipt<L>>,
 }
 
-impl<'a, L: Ledger, R: Wait> Session<'a, L, R> {
+impl<'a, L: Ledger, R: Wait + Clock> Session<'a, L, R> {
     /// A session that has made no step.
     pub fn new(rt: &'a R, node: &'a SharedNode<L>) -> Session<'a, L, R> {
         Session {
@@ -37,7 +38,7 @@ impl<'a, L: Ledger, R: Wait> Session<'a, L, R> {
 }
 
 /// After each answer the last receipt is of this job, session, command and reply, or the reply is `NoMemory`.
-impl<'a, L: Ledger, R: Wait> Gate for Session<'a, L, R> {
+impl<'a, L: Ledger, R: Wait + Clock> Gate for Session<'a, L, R> {
     ghost use Rattle.std.specs.Prelude.{option_map};
     ghost use Rattle.session_threads.specs.Witnesses.{IsWitnessed};
 

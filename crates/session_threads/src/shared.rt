@@ -10,15 +10,18 @@ ghost use Rattle.session_engine.specs.Calls.{IsEntryRefusal};
 ghost use Rattle.session_threads.specs.Witnesses.{IsCalled, tried};
 
 use crate::device_calls::Place;
+use crate::posting::Ways;
+use crate::waiting::{Waiting, stirred_by};
 use bytes::Bytes;
-use node_core::{Erase, Outcome};
-use node_journal::{Agreement, Kept, Receipt};
+use node_core::Erase;
+use node_journal::{Agreement, Kept, Made, Mail, Parts, Posted, Receipt};
 use obj_id::{Command, DeviceKey, JobKey, JobNo, Quota, Refusal, Reply};
 use private_store::{Awaited, Event};
 use std::alloc::Global;
 use std::sync::atomic::{AtomicBool, Ordering};
 use std::sync::ledger::{Ledger, Share};
-use std::sync::{Condvar, Mutex, Wait};
+use std::sync::{Arc, Condvar, Mutex, Wait};
+use std::time::Clock;
 use std::{mem, slice};
 
 /// The sessions that a node has open at most.
@@ -31,7 +34,7 @@ pub(crate) struct Tally {
     pub receipts: u64,
     /// Those of them that were looked for and that the journal doesn't have.
     pub disagreeing: u64,
-    /// Messages that nobody was given.
+    /// Messages that didn't come to the place that they were sent to.
     pub lost: u64,
     /// Device keys whose erase failed, or for which there was no memory to wait in.
     pub unerased: u64,
@@ -44,11 +47,10 @@ pub(crate) struct Tally {
 #[derive(Drop)]
 pub struct SharedNode<L: Ledger> {
     pub(crate) kept: Mutex<Kept<L>>,
-    // an answer may have become another one, or the node is shut
-    changed: Condvar,
+    pub(crate) ways: Ways<L>,
+    waiting: Arc<Waiting>,
     // a work waits, or a key, or the worker is to end
     pub(crate) asked: Condvar,
-    shut: AtomicBool,
     // the worker is to end
     stopped: AtomicBool,
     // they wait to be erased
@@ -66,21 +68,28 @@ pub struct SharedNode<L: Ledger> {
 pub(crate) struct Stepped<L: Ledger> {
     pub reply: Reply<Bytes>,
     pub receipt: Option<Receipt<L>>,
-    lost: u64,
+    pub mail: Option<Mail<L>>,
     erase: Erase,
 }
 
 impl<L: Ledger> SharedNode<L> {
-    /// A node of this number, with so many bytes of memory and no job, on one part of the name.
-    pub fn new(alloc: Global, number: u32, memory: u64, seat: Share<L>) -> SharedNode<L>
+    /// A node of this number, with so many bytes of memory and no job, on one part of the name, with these ways out.
+    pub(crate) fn new(
+        alloc: Global,
+        number: u32,
+        memory: u64,
+        seat: Share<L>,
+        ways: Ways<L>,
+        waiting: Arc<Waiting>,
+    ) -> SharedNode<L>
         requires memory { memory ≤ largest_memory }
         requires seat { (seat.parts ≡ 1) × (seat.amount ≡ 0) }
     {
         SharedNode {
             kept: Mutex::new(Kept::new(alloc, number, memory, seat)),
-            changed: Condvar::new(),
+            ways,
+            waiting,
             asked: Condvar::new(),
-            shut: AtomicBool::new(false),
             stopped: AtomicBool::new(false),
             keys: Mutex::new(Vec::new(alloc)),
             place: Mutex::new(Place::Free),
@@ -111,8 +120,7 @@ impl<L: Ledger> SharedNode<L> {
         let stepped = step_call(&mut *kept, job, session, command);
         self.settle(rt, &*kept, &stepped);
         drop(kept);
-        let Stepped { reply, receipt, .. } = stepped;
-        (reply, receipt)
+        self.hand_out(rt, stepped)
     }
 
     /// The same, if the journal has the entry of a receipt or folded it; the new receipt then is of the same node, and has a
@@ -134,13 +142,13 @@ impl<L: Ledger> SharedNode<L> {
         let stepped = step_call_after(&mut *kept, receipt, job, session, command);
         self.settle(rt, &*kept, &stepped);
         drop(kept);
-        let Stepped { reply, receipt, .. } = stepped;
-        (reply, receipt)
+        self.hand_out(rt, stepped)
     }
 
-    /// The same as `call`, tried again while the answer is Pending and the node isn't shut. Each try is an entry; the answer and the
+    /// The same as `call`, tried again while the answer is Pending and the node isn't shut, each time that something may have
+    /// moved for the job, or chunks that were asked for don't come for two seconds. Each try is an entry; the answer and the
     /// receipt are those of the last.
-    pub fn call_wait<R: Wait>(
+    pub fn call_wait<R: Wait + Clock>(
         &self,
         rt: &R,
         job: JobNo,
@@ -150,16 +158,29 @@ impl<L: Ledger> SharedNode<L> {
         ensures called { MatchOption result.1 (result.0 ≡ reply.Refused NoMemory) (λ r. (wants_memory result.0 ≡ false) × IsCalled job session (tried awaited) result.0 (record { job = r.job; entry = r.entry })) }
         ensures small { is_small_reply result.0 ≡ true }
     {
-        let mut kept = self.kept.lock(rt);
         for _ in rt.forever() {
+            let mut kept = self.kept.lock(rt);
             let stepped = step_call(&mut *kept, job, session, command_of(&awaited));
             self.settle(rt, &*kept, &stepped);
-            let is_pending = matches!(&stepped.reply, Reply::Refused(Refusal::Pending));
+            // what moves from here on comes after the try
+            let seen = self.waiting.seen(rt, job);
+            drop(kept);
+            let Stepped {
+                reply,
+                receipt,
+                mail,
+                ..
+            } = stepped;
+            let is_pulling = self.post(rt, mail);
+            let is_pending = matches!(&reply, Reply::Refused(Refusal::Pending));
             if !is_pending || self.is_shut() {
-                let Stepped { reply, receipt, .. } = stepped;
                 return (reply, receipt);
             }
-            kept = self.changed.wait(rt, kept);
+            if is_pulling {
+                self.waiting.await_chunks(rt, job, seen);
+            } else {
+                self.waiting.await_move(rt, job, seen);
+            }
         }
         unreachable!()
     }
@@ -204,8 +225,7 @@ impl<L: Ledger> SharedNode<L> {
         let stepped = step_event(&mut *kept, event);
         self.settle(rt, &*kept, &stepped);
         drop(kept);
-        let Stepped { reply, receipt, .. } = stepped;
-        (reply, receipt)
+        self.hand_out(rt, stepped)
     }
 
     /// Lets a session into the job, whose key it shows, and gives its number.
@@ -215,8 +235,38 @@ impl<L: Ledger> SharedNode<L> {
         self.kept.lock(rt).enter(job, key)
     }
 
-    /// Counts what a step gave, lets its keys wait, and wakes the worker, if it has something to do, and who waits for another
-    /// answer, if this one says that something was done. The node is locked, so that nobody is between a look and a wait.
+    /// A message that was posted to the node arrives, with what the step gave. None if it is lost: it was posted to another place,
+    /// or there was no memory for it.
+    pub(crate) fn arrive<R: Wait>(&self, rt: &R, posted: Posted<L>) -> Option<Stepped<L>> {
+        let mut kept = self.kept.lock(rt);
+        let stepped = match kept.arrive(posted) {
+            Ok(made) => given(made),
+            Err(_) => return None,
+        };
+        self.settle(rt, &*kept, &stepped);
+        Some(stepped)
+    }
+
+    /// Hands over what a step has sent, and gives its answer and its receipt.
+    pub(crate) fn hand_out<R: Wait>(
+        &self,
+        rt: &R,
+        stepped: Stepped<L>,
+    ) -> (Reply<Bytes>, Option<Receipt<L>>)
+        ensures { (result.0 ≡ stepped.reply) × (result.1 ≡ stepped.receipt) }
+    {
+        let Stepped {
+            reply,
+            receipt,
+            mail,
+            erase: _,
+        } = stepped;
+        self.post(rt, mail);
+        (reply, receipt)
+    }
+
+    /// Counts what a step gave, lets its keys wait, and wakes the worker, if it has something to do, and who waits for what the step
+    /// may have moved. The node is locked, so that nobody is between a look and a wait.
     pub(crate) fn settle<R: Wait>(&self, rt: &R, kept: &Kept<L>, stepped: &Stepped<L>) {
         let (waiting, unerased) = self.keep_keys(rt, &stepped.erase);
         let mut tally = self.tally.lock(rt);
@@ -224,15 +274,23 @@ impl<L: Ledger> SharedNode<L> {
         if stepped.receipt.is_some() {
             counts.receipts = counts.receipts.saturating_add(1);
         }
-        counts.lost = counts.lost.saturating_add(stepped.lost);
         counts.unerased = counts.unerased.saturating_add(unerased);
         drop(tally);
         if waiting || kept.has_work() {
             self.asked.notify_all();
         }
-        // that a work was taken changes no answer
-        if !matches!(&stepped.reply, Reply::Refused(_) | Reply::Work(_)) {
-            self.changed.notify_all();
+        if let Some(receipt) = &stepped.receipt {
+            let stir = stirred_by(receipt, &stepped.reply);
+            self.waiting.note(rt, receipt.job(), stir);
+        }
+    }
+
+    /// So many messages were lost.
+    pub(crate) fn count_lost<R: Wait>(&self, rt: &R, lost: u64) {
+        if lost > 0 {
+            let mut tally = self.tally.lock(rt);
+            let counts = &mut *tally;
+            counts.lost = counts.lost.saturating_add(lost);
         }
     }
 
@@ -294,16 +352,7 @@ impl<L: Ledger> SharedNode<L> {
 
     /// Whether the node is shut.
     pub(crate) fn is_shut(&self) -> bool {
-        self.shut.load(Ordering::SeqCst)
-    }
-
-    /// Shuts the node: who waits for another answer is answered Pending, and no listener takes a stream any more.
-    pub(crate) fn shut<R: Wait>(&self, rt: &R) {
-        let kept = self.kept.lock(rt);
-        // under the lock, so that nobody is between its last try and its wait
-        self.shut.store(true, Ordering::SeqCst);
-        drop(kept);
-        self.changed.notify_all();
+        self.waiting.is_shut()
     }
 
     /// Whether the worker is to end.
@@ -363,7 +412,7 @@ fn step_call<L: Ledger>(
 {
     let event = Event::Call(job, session, command);
     match kept.step(&event) {
-        Ok((outcome, receipt)) => made(outcome, receipt),
+        Ok(made) => given(made),
         Err(_) => refused(Refusal::NoMemory),
     }
 }
@@ -382,7 +431,7 @@ fn step_call_after<L: Ledger>(
 {
     let event = Event::Call(job, session, command);
     match kept.step_after(receipt, &event) {
-        Ok((outcome, given)) => made(outcome, given),
+        Ok(made) => given(made),
         Err(refusal) => refused(refusal),
     }
 }
@@ -392,27 +441,26 @@ pub(crate) fn step_event<L: Ledger>(kept: &mut Kept<L>, event: &Event) -> Steppe
     ensures { MatchOption result.receipt (result.reply ≡ reply.Refused NoMemory) (λ r. (r.job.0 ≡ job_of_event event.now) × (r.entry.reply ≡ kept_reply result.reply)) }
 {
     match kept.step(event) {
-        Ok((outcome, receipt)) => made(outcome, receipt),
+        Ok(made) => given(made),
         Err(_) => refused(Refusal::NoMemory),
     }
 }
 
-/// A step that was made. Nobody is given its messages yet.
-fn made<L: Ledger>(outcome: Outcome, receipt: Receipt<L>) -> Stepped<L>
-    ensures reply { result.reply ≡ outcome.reply }
-    ensures receipt { result.receipt ≡ Some receipt }
+/// A step that was made.
+fn given<L: Ledger>(made: Made<L>) -> Stepped<L>
+    ensures reply { result.reply ≡ made.outcome.reply }
+    ensures receipt { result.receipt ≡ Some made.receipt }
 {
-    let Outcome {
+    let Parts {
         reply,
-        messages,
         erase,
-        notes: _,
-        judged: _,
-    } = outcome;
+        mail,
+        receipt,
+    } = made.into_parts();
     Stepped {
         reply,
         receipt: Some(receipt),
-        lost: messages.as_slice().len() as u64,
+        mail: Some(mail),
         erase,
     }
 }
@@ -425,7 +473,7 @@ fn refused<L: Ledger>(refusal: Refusal) -> Stepped<L>
     Stepped {
         reply: Reply::Refused(refusal),
         receipt: None,
-        lost: 0,
+        mail: None,
         erase: Erase::NoKey,
     }
 }

@@ -116,7 +116,7 @@ impl<L: Ledger> SharedNode<L> {
             self.leave_place(rt, Place::Free);
             return (WorkDone::Nothing, None);
         };
-        let Stepped { reply, receipt, .. } = stepped;
+        let (reply, receipt) = self.hand_out(rt, stepped);
         match reply {
             Reply::Work(work) => {
                 let finishing = call_device(device, &work);
@@ -156,7 +156,7 @@ impl<L: Ledger> SharedNode<L> {
         let stepped = step_event(&mut *kept, &finishing.event);
         self.settle(rt, &*kept, &stepped);
         drop(kept);
-        let Stepped { reply, receipt, .. } = stepped;
+        let (reply, receipt) = self.hand_out(rt, stepped);
         match reply {
             Reply::Refused(Refusal::NoMemory) => {
                 self.leave_place(rt, Place::Holds(finishing));

@@ -31,7 +31,7 @@ struct Served<L: Ledger> {
     doors: Vec<Door>,
 }
 
-/// Serves the sockets of all nodes, carries out the operator's lines that the reader gives, and writes their answers, and a
+/// Serves the sockets of all nodes, which fetch from one another, carries out the operator's lines that the reader gives, and writes their answers, and a
 /// report at the end.
 ///
 /// After a fault nothing is reported. Sessions that are open are waited for, whatever ended the operator's lines.
@@ -73,19 +73,23 @@ fn serve_named<
     let alloc = host.alloc();
     let nodes = serving.shape.nodes;
     let (_book, seats) = blank.open::<L>();
-    let Ok(cluster) = Cluster::start(alloc, nodes, serving.shape.memory, seats) else {
+    let Ok(mut cluster) = Cluster::start(alloc, nodes, serving.shape.memory, seats) else {
         return Err(Fault::NoMemory)
     };
     let mut served = Served {
         workers: Vec::new(alloc),
         doors: Vec::new(alloc),
     };
-    let outcome = match open_nodes(rt, host, &cluster, serving, &mut served) {
-        Ok(()) => serve_text(&rt, alloc, &cluster, nodes, reader, writer),
-        Err(fault) => Err(fault),
+    let outcome = match cluster.connect(rt) {
+        Err(_) => Err(Fault::NoMemory),
+        Ok(()) => match open_nodes(rt, host, &cluster, serving, &mut served) {
+            Ok(()) => serve_text(&rt, alloc, &cluster, nodes, reader, writer),
+            Err(fault) => Err(fault),
+        },
     };
     cluster.shut(&rt);
     close_nodes(&rt, served);
+    cluster.disconnect(&rt);
     let report = cluster.report(&rt);
     outcome?;
     write_report(alloc, &report, writer)

@@ -1,0 +1,118 @@
+//! Calls at nodes behind locks, with the receipts that they give.
+ghost use Rattle.std.specs.Prelude.{◌≡◌};
+
+use assertions::{holds, same};
+use bytes::Bytes;
+use node_journal::Receipt;
+use obj_id::{Command, JobKey, JobNo, Kind, ObjectId, Quota, Refusal, Reply, TaskNo};
+use session_threads::{Cluster, SharedNode};
+use std::alloc::{AllocError, Global};
+use std::marker::Brand;
+use std::process::Abort;
+use std::sync::Wait;
+use std::sync::ledger::{Blank, Ledger};
+use std::test::Fail;
+
+const JOB: JobNo = JobNo(1);
+
+const QUOTA: Quota = Quota {
+    window: 64,
+    device: 0,
+};
+
+const TOLD: &str = "Placed(0, 32) Ok Ok Got(20) ";
+
+/// The commands of an object that is created, filled, sealed and held.
+fn command(alloc: Global, id: ObjectId, turn: u64) -> Result<Command<Bytes>, AllocError> {
+    match turn {
+        0 => Ok(Command::Create(id, Kind::Primary, 20)),
+        1 => {
+            let hello = Vec::from_slice(alloc, b"Hello")?;
+            Ok(Command::Write(id, 0, Bytes::from_vec(hello)?))
+        }
+        2 => Ok(Command::Seal(id)),
+        _ => Ok(Command::Get(id)),
+    }
+}
+
+/// The answer to the command of this turn, which is called once more if memory ran out, and its receipt.
+fn called<L: Ledger, R: Wait>(
+    rt: &R,
+    alloc: Global,
+    node: &SharedNode<L>,
+    id: ObjectId,
+    turn: u64,
+) -> Result<(Reply<Bytes>, Option<Receipt<L>>), AllocError> {
+    let first = node.call(rt, JOB, 1, command(alloc, id, turn)?);
+    if matches!(&first.0, Reply::Refused(Refusal::NoMemory)) {
+        return Ok(node.call(rt, JOB, 1, command(alloc, id, turn)?));
+    }
+    Ok(first)
+}
+
+/// Calls the commands one after another: each answer is the one that is due, and each receipt names the next entry. The last.
+fn call_all<L: Ledger, R: Wait + Abort>(
+    rt: &R,
+    alloc: Global,
+    node: &SharedNode<L>,
+    id: ObjectId,
+) -> Result<Option<Receipt<L>>, Fail> {
+    let mut last = None;
+    let mut told = String::new(alloc);
+    for turn in 0..4u64 {
+        let (reply, receipt) = called(rt, alloc, node, id, turn)?;
+        told.push_str(format!(in alloc; "{reply:?} ")?.as_str())?;
+        let named = receipt.as_ref().map(|receipt| (
+            receipt.node(),
+            receipt.job(),
+            receipt.number(),
+        ));
+        same!(rt; named, Some((0, JOB, turn + 2)));
+        last = receipt;
+    }
+    same!(rt; told.as_str(), TOLD);
+    Ok(last)
+}
+
+/// Whether the reply says so much of what is used of the window.
+fn is_used(reply: &Reply<Bytes>, bytes: u64) -> bool {
+    matches!(reply, Reply::Usage(usage) if usage.window_used == bytes)
+}
+
+/// A command that is called after the receipt of an earlier one.
+fn call_later<L: Ledger, R: Wait + Abort>(rt: &R, cluster: &Cluster<L>, earlier: &Receipt<L>) {
+    if let Some(node) = cluster.node(0) {
+        let (reply, receipt) = node.call_after(rt, earlier, JOB, 1, Command::Usage);
+        holds!(rt; is_used(&reply, 32));
+        same!(rt; receipt.map(|receipt| receipt.number()), Some(6));
+    }
+    // another node's journal says No of it
+    if let Some(node) = cluster.node(1) {
+        let (reply, receipt) = node.call_after(rt, earlier, JOB, 1, Command::Usage);
+        holds!(rt; matches!(reply, Reply::Refused(Refusal::Stale)));
+        holds!(rt; receipt.is_none());
+    }
+}
+
+fn try_cluster<L: Ledger, R: Wait + Abort>(rt: &R, alloc: Global, blank: Blank) -> Result<(), Fail>
+    requires name { blank.name ≡ L.name }
+    requires parts { blank.parts ≡ L.parts }
+    requires two { blank.parts ≡ 2 }
+{
+    let id = ObjectId::new(TaskNo([0; 20]), JOB, 1).ok().ok_or("no id")?;
+    let (_book, seats) = blank.open::<L>();
+    let cluster = Cluster::start(alloc, 2, 1024, seats)?;
+    let node = cluster.node(0).ok_or("no node")?;
+    node.admit(rt, JOB, QUOTA, JobKey([0; 32]));
+    let last = call_all(rt, alloc, node, id)?;
+    call_later(rt, &cluster, &last.ok_or("no receipt")?);
+    node.end_job(rt, JOB);
+    let report = cluster.report(rt);
+    same!(rt; (report.entries, report.disagreeing, report.lost), (7, 0, 0));
+    Ok(())
+}
+
+#[test]
+fn a_call_comes_after_the_receipt_that_it_shows(rt: HostRuntime) -> Result<(), Fail> {
+    try_cluster::<Brand, HostRuntime>(&rt, rt.alloc(), Blank::new(2))
+}
