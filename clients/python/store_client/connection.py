@@ -125,8 +125,8 @@ class Connection:
     def get(self, id: ObjectId, timeout: Optional[float] = None, progress: Optional[Progress] = None) -> Held:
         """The object's bytes, held until `release` or the end of a `with`.
 
-        Waits until the object is here; with a timeout, in seconds, `Pending` is raised once that is over, and 0 waits not at
-        all.
+        Waits until the object is here, fetched from another node if need be; `Absent` is raised if no node has it sealed. With a
+        timeout, in seconds, `Pending` is raised once that is over, and 0 waits not at all.
         """
         length = self._got(id, timeout)
         try:

@@ -394,14 +394,15 @@ class Sessions(unittest.TestCase):
         self.refused(store_client.Gone, store.end_task, Task.numbered(1))
         self.refused(store_client.Gone, store.create, self.store.task(1).object(2), 16)
 
-    def test_a_get_waits_for_a_put(self) -> None:
-        # of an object that nobody made a Get begins a fetch, so it waits for one that is being written
+    def test_what_no_node_has_is_absent(self) -> None:
         self.store.create(self.one, 4)
         self.refused(store_client.NotSealed, self.store.get, self.one, 0)
         two = self.store.task(1).object(2)
-        began = time.monotonic()
-        self.refused(store_client.Pending, self.store.get, two, 0.2)
-        self.assertGreaterEqual(time.monotonic() - began, 0.2)
+        # the first Get begins a fetch, and the next one is told what came of it
+        self.refused(store_client.Pending, self.store.get, two, 0)
+        self.refused(store_client.Absent, self.store.get, two, 0)
+        self.refused(store_client.Absent, self.store.get, two)
+        self.refused(store_client.Absent, self.store.get, two, 30)
 
     def test_an_object_that_fails_to_be_written_is_removed(self) -> None:
         def stop(moved: int, whole: int) -> None:
