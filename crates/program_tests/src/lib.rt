@@ -1,4 +1,5 @@
-//! Tests of what no contract of a stream can tell: what a run says of a reader or a writer that fails.
+//! Tests of what no contract of a stream or a lock can tell: what a run says of a reader or a writer that fails, and which entries
+//! the receipts of calls name.
 #![tactic(auto)]
 
 #[cfg(test)]
