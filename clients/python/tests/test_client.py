@@ -413,16 +413,17 @@ class Sessions(unittest.TestCase):
         self.assertEqual(self.store.usage().copies, 0)
 
     def test_a_server_that_goes_away(self) -> None:
-        waiting = self.server.connect()
+        calling = self.server.connect()
         answers = []
 
-        def wait() -> None:
+        def call() -> None:
             try:
-                waiting.get(waiting.task(1).object(9))
+                while True:
+                    calling.usage()
             except store_client.StoreError as error:
                 answers.append(type(error))
 
-        thread = threading.Thread(target=wait)
+        thread = threading.Thread(target=call)
         thread.start()
         time.sleep(0.2)
         self.server.program.kill()
