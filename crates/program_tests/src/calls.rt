@@ -114,5 +114,6 @@ fn try_cluster<L: Ledger, R: Wait + Abort>(rt: &R, alloc: Global, blank: Blank) 
 
 #[test]
 fn a_call_comes_after_the_receipt_that_it_shows(rt: HostRuntime) -> Result<(), Fail> {
-    try_cluster::<Brand, HostRuntime>(&rt, rt.alloc(), Blank::new(2))
+    let blank = Blank::new(2);
+    try_cluster::<Brand, HostRuntime>(&rt, rt.alloc(), blank)
 }
