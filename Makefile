@@ -59,9 +59,10 @@ pipeline: build
 model: build
 	bench/model
 
-# Measures a built program (see bench/growth --help).
+# Measures a built program, and one that serves (see bench/growth --help, bench/serve --help).
 bench: build
 	bench/growth
+	bench/serve
 
 # Draws the example's picture from the journal that the plain model keeps of it.
 picture:

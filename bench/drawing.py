@@ -1,9 +1,9 @@
-"""What scripts that draw share: a picture of lines, boxes and texts as SVG, and round numbers for axes."""
+"""What scripts that draw share: a picture of lines, boxes and texts as SVG, a table as bars, and round numbers for axes."""
 
 from __future__ import annotations
 
 from pathlib import Path
-from typing import Iterable, List, Sequence, Tuple
+from typing import Iterable, List, NamedTuple, Sequence, Tuple
 from xml.sax.saxutils import escape, quoteattr
 
 INK = "#222222"
@@ -13,6 +13,8 @@ GRID = "#dddddd"
 COLOURS = ("#4477aa", "#ee7733", "#228833", "#aa3377")
 # roughly how wide a letter is, as a part of its height
 LETTER = 0.56
+# of a table as bars, in pixels
+BARS_WIDTH, BARS_LEFT, BARS_RIGHT, BARS_TOP, BAR_HEIGHT = 760, 230, 150, 44, 26
 
 Point = Tuple[float, float]
 
@@ -65,6 +67,34 @@ class Drawing:
             if (mark, value) not in (("stroke", "none"), ("fill_opacity", "1")):
                 said.append(f"{mark.replace('_', '-')}={quoteattr(value)}")
         self.parts.append(f"<{name} {' '.join(said)}>{content}</{name}>" if content else f"<{name} {' '.join(said)}/>")
+
+
+class Bar(NamedTuple):
+    """A row of a table: its name on the left, and what is said of it after the bar."""
+
+    name: str
+    length: float
+    said: str
+
+
+def draw_bars(title: str, unit: str, bars: Sequence[Bar]) -> Drawing:
+    """A table as bars, over an axis with this unit."""
+    bottom, across = BARS_TOP + BAR_HEIGHT * len(bars), BARS_WIDTH - BARS_LEFT - BARS_RIGHT
+    drawing = Drawing(BARS_WIDTH, bottom + 40, title)
+    drawing.text(16, 24, title, 13)
+    # an axis has an end, also where nothing was measured
+    greatest = max(1, int(max(bar.length for bar in bars)))
+    for mark in round_steps(greatest, 4):
+        x = BARS_LEFT + mark * across / greatest
+        drawing.line([(x, BARS_TOP), (x, bottom)], GRID)
+        drawing.text(x, bottom + 14, f"{mark:,}", 11, "middle", PALE_INK)
+    drawing.text(BARS_LEFT + across / 2, bottom + 32, unit, 12, "middle")
+    for row, bar in enumerate(bars):
+        top, length = BARS_TOP + BAR_HEIGHT * row, bar.length * across / greatest
+        drawing.text(BARS_LEFT - 8, top + 17, bar.name, 12, "end")
+        drawing.box(BARS_LEFT, top + 4, length, BAR_HEIGHT - 8, COLOURS[0])
+        drawing.text(BARS_LEFT + length + 6, top + 17, bar.said, 11)
+    return drawing
 
 
 def text_width(words: str, size: float = 12) -> float:

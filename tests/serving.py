@@ -55,6 +55,15 @@ def ended(program, rest, status, said=""):
     assert (out, err, program.returncode) == (rest, said, status), f"got {out!r}, {err!r}, {program.returncode}"
 
 
+def close(program):
+    """Each entry has a receipt, and each receipt that was looked for its entry. The number of entries."""
+    out, err = program.communicate("close\n", timeout=60)
+    assert (out[:7], err, program.returncode) == ("report ", "", 0), f"got {out!r}, {err!r}, {program.returncode}"
+    entries, receipts, disagreeing, _, failures = out.split()[1:]
+    assert (entries, disagreeing, failures) == (receipts, "0", "0"), f"got {out!r}"
+    return int(entries)
+
+
 def enter(stream, path, job):
     stream.connect(path)
     ask(stream, frame(0x01, struct.pack(">I", job) + key(job)), frame(0x80))
