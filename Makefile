@@ -1,9 +1,10 @@
 # The gate: every proof from nothing, the must-fail edits, the tests, and the programs with what they print. A crate has no
-# links, so the examples lie twice; that they are the same is looked at first.
+# links, so the examples and the frames lie twice; that they are the same is looked at first.
 test:
 	diff -r -x pipeline.py examples crates/schedules/data/examples
 	cmp examples/first.schedule crates/store_server/stdin
 	cmp examples/first.expected crates/store_server/stdout
+	cmp docs/rules/frames.vectors crates/schedules/data/frames/frames.vectors
 	rt ci
 
 # Proves what changed, lowest crates first, over what earlier checks kept.

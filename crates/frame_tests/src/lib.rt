@@ -1,5 +1,4 @@
-//! Tests of the frames of a session: every kind both ways against bytes that were written by hand, streams in all
-//! cuts, faults, changed and random bytes, and allocations that fail.
+//! Tests of the frames of a session: streams in all cuts, faults, changed and random bytes, and allocations that fail.
 #![tactic(auto)]
 
 #[cfg(test)]
@@ -8,5 +7,3 @@ mod memory;
 mod mutated;
 #[cfg(test)]
 mod reading;
-#[cfg(test)]
-mod sending;

@@ -3,33 +3,33 @@ ghost use Rattle.std.specs.Prelude.{◌≡◌, ◌+◌, ◌<◌, ◌↔◌, None
 
 use std::str;
 
-/// The schedules that were run, and those of them that were answered otherwise than expected.
+/// How many schedules or frames were compared with what is expected, and how many of them differ.
 #[derive(Clone, Copy)]
 pub struct Tally {
-    pub schedules: usize,
+    pub compared: usize,
     pub differing: usize,
 }
 
 impl Tally {
     pub fn new() -> Tally
-        ensures schedules { result.schedules ≡ 0 }
+        ensures compared { result.compared ≡ 0 }
         ensures differing { result.differing ≡ 0 }
     {
         Tally {
-            schedules: 0,
+            compared: 0,
             differing: 0,
         }
     }
 
-    /// Counts a schedule, by the first line at which it differs.
+    /// Counts one, by the first line at which it differs.
     pub fn add(&mut self, difference: Option<u64>)
-        requires schedules { self.old.schedules < 18446744073709551615 }
+        requires compared { self.old.compared < 18446744073709551615 }
         requires differing { self.old.differing < 18446744073709551615 }
-        ensures schedules { self.new.schedules ≡ self.old.schedules + 1 }
+        ensures compared { self.new.compared ≡ self.old.compared + 1 }
         ensures same { difference ≡ None → self.new.differing ≡ self.old.differing }
         ensures differs { IsSome difference → self.new.differing ≡ self.old.differing + 1 }
     {
-        self.schedules += 1;
+        self.compared += 1;
         if difference.is_some() {
             self.differing += 1;
         }

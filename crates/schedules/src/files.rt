@@ -1,4 +1,5 @@
-//! The files of worked schedules and journals.
+//! The files of worked schedules, journals and frames.
+use schedule_text::is_skipped;
 use std::alloc::{AllocError, Global};
 use std::{fs, io};
 
@@ -47,17 +48,61 @@ fn words_of(alloc: Global, text: &str) -> Result<Vec<String>, AllocError> {
     Ok(words)
 }
 
+/// A line of a file of frames.
+#[derive(Drop)]
+pub struct FrameLine {
+    /// The file's name, which has no ending.
+    pub file: String,
+    /// The line's number, counted from 1.
+    pub number: u64,
+    pub text: String,
+}
+
 /// The names, without their ending and in order, of the schedules and journals in the folder.
 pub fn schedules_in(rt: &HostRuntime, folder: &str) -> io::Result<Vec<String>> {
+    let mut names = names_in(rt, folder, ".schedule")?;
+    for name in names_in(rt, folder, ".journal")? {
+        names.push(name)?;
+    }
+    names.sort()?;
+    Ok(names)
+}
+
+/// The lines of the folder's files of frames, but for those that say nothing.
+pub fn frames_in(rt: &HostRuntime, folder: &str) -> io::Result<Vec<FrameLine>> {
+    let mut lines = Vec::new(rt.alloc());
+    for file in names_in(rt, folder, ".vectors")? {
+        add_frames(rt, file.as_str(), &mut lines)?;
+    }
+    Ok(lines)
+}
+
+/// Adds the lines of the file of this name.
+fn add_frames(rt: &HostRuntime, file: &str, lines: &mut Vec<FrameLine>) -> io::Result<()> {
+    let alloc = rt.alloc();
+    let text = fs::read_to_string(rt, format!(in alloc; "{file}.vectors")?.as_str())?;
+    let mut number: u64 = 0;
+    for line in text.lines() {
+        number = number.saturating_add(1);
+        if is_skipped(line.as_bytes()) {
+            continue;
+        }
+        lines.push(FrameLine {
+            file: String::from_str(alloc, file)?,
+            number,
+            text: String::from_str(alloc, line)?,
+        })?;
+    }
+    Ok(())
+}
+
+/// The names, without the ending and in order, of the folder's files that have this ending.
+fn names_in(rt: &HostRuntime, folder: &str, ending: &str) -> io::Result<Vec<String>> {
     let alloc = rt.alloc();
     let mut names = Vec::new(alloc);
     for entry in fs::read_dir(rt, folder)? {
         let entry = entry?;
-        let file = entry.file_name();
-        if let Some(name) = file
-            .strip_suffix(".schedule")
-            .or(file.strip_suffix(".journal"))
-        {
+        if let Some(name) = entry.file_name().strip_suffix(ending) {
             names.push(format!(in alloc; "{folder}/{name}")?)?;
         }
     }
