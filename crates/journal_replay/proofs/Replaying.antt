@@ -7,13 +7,14 @@ use Rattle.private_store.specs.declared.inputs.Judged.{Judged}
 use Rattle.private_store.specs.Replay.{Brief, Line, IsReplayed, answers_due, brief_after, brief_step, replayed, unbegun_brief}
 use Rattle.journal_text.specs.declared.entry.Entry.{Entry}
 use Rattle.journal_text.specs.declared.entry.Version.{Version}
-use Rattle.journal_replay.specs.declared.jobs.JobAt.{JobAt}
+use Rattle.journal_text.specs.declared.entry.JobAt.{JobAt}
 use Rattle.journal_replay.specs.declared.replay.Difference.{Difference}
 use Rattle.journal_replay.specs.Inputs.{judged_of, line_of}
 use Rattle.journal_replay.specs.Progress.{AddsEntry}
-use Rattle.journal_replay.specs.Replays.{AreReplayed, IsFirstDifference, IsFound, due_after, lines_of, next_number, place_of, same_place}
+use Rattle.journal_text.specs.Saved.{place_of, same_place}
+use Rattle.journal_replay.specs.Replays.{AreReplayed, IsFirstDifference, IsFound, due_after, lines_of, next_number}
 use Rattle.journal_replay.specs.States.{AreAfter, JobState, state_of}
-use Rattle.journal_replay.proofs.States.{same_place-equal, same_place-itself}
+use Rattle.journal_text.proofs.SamePlaces.{same_place-equal, same_place-itself}
 
 -- ---- lines of one job with one after them
 

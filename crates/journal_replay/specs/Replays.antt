@@ -1,21 +1,15 @@
 -- The replay of a saved journal: each job at each node apart, from a store that was never admitted. Entries stand newest
 -- first.
-use Rattle.std.specs.Prelude.{◌≡◌, ◌≢◌, ℕ, suc, ◌==◌, Bool, ◌&&◌, if◌then◌else◌, List, [], ◌∷◌, ◌++◌, length, Option, None, Some}
+use Rattle.std.specs.Prelude.{◌≡◌, ◌≢◌, ℕ, suc, if◌then◌else◌, List, [], ◌∷◌, ◌++◌, length, Option, None, Some}
 use Rattle.obj_id.specs.declared.commands.Reply.{Reply}
 use Rattle.private_store.specs.Replay.{Brief, Line, IsReplayed, brief_step, replayed, unbegun_brief}
 use Rattle.journal_text.specs.declared.entry.Address.{Address}
 use Rattle.journal_text.specs.declared.entry.Entry.{Entry}
 use Rattle.journal_text.specs.declared.entry.Version.{Version}
-use Rattle.journal_replay.specs.declared.jobs.JobAt.{JobAt}
+use Rattle.journal_text.specs.declared.entry.JobAt.{JobAt}
+use Rattle.journal_text.specs.Saved.{place_of, same_place}
 use Rattle.journal_replay.specs.declared.replay.Difference.{Difference}
 use Rattle.journal_replay.specs.Inputs.{judged_of, line_of}
-
-abbrev pub same_place : JobAt → JobAt → Bool
-same_place a b = (a.node == b.node) && (a.job.0 == b.job.0)
-
--- the job at its node that a line is of
-abbrev pub place_of : Address → JobAt
-place_of address = record { node = address.node; job = address.job }
 
 -- the lines of a job at a node, oldest first
 abbrev pub lines_of : Version → JobAt → List Entry → List Line

@@ -4,9 +4,10 @@ use Rattle.std.specs.Map.{lookup}
 use Rattle.private_store.specs.Replay.{Brief, unbegun_brief}
 use Rattle.journal_text.specs.declared.entry.Entry.{Entry}
 use Rattle.journal_text.specs.declared.entry.Version.{Version}
-use Rattle.journal_replay.specs.declared.jobs.JobAt.{JobAt}
+use Rattle.journal_text.specs.declared.entry.JobAt.{JobAt}
 use Rattle.journal_replay.specs.declared.replay.Difference.{Difference}
-use Rattle.journal_replay.specs.Replays.{IsFound, lines_of, same_place, store_of}
+use Rattle.journal_text.specs.Saved.{same_place}
+use Rattle.journal_replay.specs.Replays.{IsFound, lines_of, store_of}
 
 -- what is kept of a job at a node: the number of its last line, or 0, and its store without contents
 pub record JobState : Type 0 where

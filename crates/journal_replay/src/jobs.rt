@@ -2,35 +2,16 @@
 ghost use Rattle.std.specs.Prelude.{◌≡◌, [], None, if◌then◌else◌, IfOk, OnOk};
 ghost use Rattle.std.specs.Map.{lookup};
 ghost use Rattle.private_store.specs.Replay.{brief_after, brief_step, unbegun_brief};
-ghost use Rattle.journal_replay.specs.Replays.{place_of as place_of_lem, same_place};
+ghost use Rattle.journal_text.specs.Saved.{same_place};
 ghost use Rattle.journal_replay.specs.States.{state_of};
 
 use indexmap::IndexMap;
-use journal_text::Address;
+use journal_text::JobAt;
 use obj_id::{JobNo, Reply};
 use plain_store::PlainStore;
 use private_store::Judged;
 use std::alloc::{AllocError, Global};
 use std::marker::Model;
-
-/// A job at a node.
-#[derive(Clone, Copy, Debug, PartialEq, Eq, Hash)]
-pub struct JobAt {
-    pub node: u32,
-    pub job: JobNo,
-}
-
-impl JobAt {
-    /// The job at the node that a line is of.
-    pub(crate) fn of(address: Address) -> JobAt
-        ensures { result ≡ place_of_lem address }
-    {
-        JobAt {
-            node: address.node,
-            job: address.job,
-        }
-    }
-}
 
 /// The replay of one job at one node: the number of its last line, or 0, and its store.
 #[derive(Drop)]
@@ -91,7 +72,7 @@ pub(crate) struct Jobs {
 
 impl Model for Jobs {
     ghost use Rattle.std.specs.Prelude.{List};
-    ghost use Rattle.journal_replay.specs.declared.jobs.JobAt.{JobAt};
+    ghost use Rattle.journal_text.specs.declared.entry.JobAt.{JobAt};
     ghost use Rattle.journal_replay.specs.States.{JobState};
 
     ghost Value = { List (JobAt × JobState) };

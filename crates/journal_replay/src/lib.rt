@@ -12,7 +12,6 @@ mod replay;
 mod replies;
 
 pub use fault::ReplayFault;
-pub use jobs::JobAt;
 pub use journal::replay_journal;
 pub use program::{Verdict, replay_text, status_of};
 pub use replay::{Difference, Outcome};

@@ -3,9 +3,9 @@ ghost use Rattle.std.specs.Prelude.{◌≡◌, ◌≢◌, ◌↔◌, suc, [], No
 ghost use Rattle.journal_replay.specs.Progress.{Adds};
 
 use crate::inputs::judged_of;
-use crate::jobs::{JobAt, Jobs};
+use crate::jobs::Jobs;
 use crate::replies::same_reply;
-use journal_text::{Address, Entry, Version};
+use journal_text::{Address, Entry, JobAt, Version};
 use obj_id::Reply;
 use std::alloc::{AllocError, Global};
 

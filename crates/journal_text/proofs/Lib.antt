@@ -4,5 +4,7 @@ pub mod Made
 pub mod Marks
 pub mod Outcomes
 pub mod PlainCommands
+pub mod SamePlaces
+pub mod Saving
 pub mod SortedItems
 pub mod Spaces

@@ -8,3 +8,4 @@ pub mod Items
 pub mod Replies
 pub mod Reading
 pub mod Printing
+pub mod Saved

@@ -1,4 +1,7 @@
 //! What a line of a saved journal says.
+ghost use Rattle.std.specs.Prelude.{◌≡◌};
+ghost use Rattle.journal_text.specs.Saved.{place_of};
+
 use obj_id::{Command, Items, JobNo, Location, ObjectId, Quota, Reply};
 use private_store::{ChunkVerdict, WorkVerdict};
 
@@ -22,6 +25,25 @@ pub struct Address {
     pub job: JobNo,
     /// The line's number among those of the job at the node, from 1.
     pub number: u32,
+}
+
+/// A job at a node.
+#[derive(Clone, Copy, Debug, PartialEq, Eq, Hash)]
+pub struct JobAt {
+    pub node: u32,
+    pub job: JobNo,
+}
+
+impl JobAt {
+    /// The job at the node that a line is of.
+    pub fn of(address: Address) -> JobAt
+        ensures { result ≡ place_of address }
+    {
+        JobAt {
+            node: address.node,
+            job: address.job,
+        }
+    }
 }
 
 /// What a line says of an input, without contents: written bytes are there as their number.

@@ -15,8 +15,10 @@ mod put_calls;
 mod put_inputs;
 mod puts;
 mod replies;
+mod saved;
 mod words;
 
-pub use entry::{Address, Entry, LineInput, Version};
+pub use entry::{Address, Entry, JobAt, LineInput, Version};
 pub use lines::{read_head, read_line};
 pub use printing::{write_answer, write_line};
+pub use saved::{Answered, Mark, SavedJournal};

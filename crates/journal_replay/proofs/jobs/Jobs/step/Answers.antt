@@ -1,7 +1,7 @@
 use Rattle.std.proofs.Common.{ap, ◌∙◌}
 use Rattle.std.specs.Map.{lookup}
 use Rattle.private_store.specs.Replay.{brief_after}
-use Rattle.journal_replay.specs.Replays.{same_place}
+use Rattle.journal_text.specs.Saved.{same_place}
 use Rattle.journal_replay.proofs.States.{state_moved}
 use Rattle.journal_replay.proofs.jobs.Jobs.step.Goals as goal
 

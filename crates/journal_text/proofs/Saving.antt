@@ -1,0 +1,98 @@
+-- A journal with an entry or a note more.
+use Rattle.std.proofs.Common.{◌≡◌, ℕ, suc, Bool, true, false, cond, ◌||◌, ◌&&◌, ◌+◌, ◌≤◌, List, [], ◌∷◌, ◌++◌, Option, Some, is_some, refl, sym, ap, subst, ◌∙◌, arith}
+use Rattle.std.specs.Prelude.{nat_le, unwrap_or}
+use Rattle.std.specs.Map.{lookup}
+use Rattle.std.proofs.lemmas.Bool.Decides.{nat_tests}
+use Rattle.private_store.proofs.Tests.{false_true}
+use Rattle.journal_text.specs.declared.entry.JobAt.{JobAt}
+use Rattle.journal_text.specs.declared.saved.Counts.{Counts}
+use Rattle.journal_text.specs.declared.saved.Mark.{Mark}
+use Rattle.journal_text.proofs.SamePlaces.{same_place-equal}
+use Rattle.journal_text.specs.Saved.{counted, counts_at, has_no_room, is_folded, line_text, lines_of, marks_of, most_marks, same_place, Saved, IsSaved}
+
+abbrev TableOf : Type 0
+TableOf = List (JobAt × Counts)
+
+one_more : (n : ℕ) → n + 1 ≡ suc n
+one_more n = omega (arith)
+
+-- no more lines than entries and notes
+fewer : (place : JobAt) (marks : List Mark) → lines_of place marks ≤ marks_of place marks
+fewer place [] = omega (arith)
+fewer place (mark ∷ before) = by (same_place mark.place place) (is_some mark.line) (fewer place before)
+  where
+    by : (here lined : Bool) → lines_of place before ≤ marks_of place before
+        → cond (here && lined) (suc (lines_of place before)) (lines_of place before) ≤ cond here (suc (marks_of place before)) (marks_of place before)
+    by true true h = omega (arith, h)
+    by true false h = omega (arith, h)
+    by false lined h = h
+
+module _ (saved : Saved) (marks : List Mark) (mark : Mark) (counts : Counts) (h : IsSaved saved marks) (found : counts ≡ counts_at saved.counts mark.place) where
+  now : is_folded marks ≡ false → counts ≡ record { marks = marks_of mark.place marks; lines = lines_of mark.place marks }
+  now whole = found ∙ h.counts whole mark.place
+
+  is_full : (b : Bool) → is_folded marks ≡ b → has_no_room saved counts ≡ true → (b || nat_le most_marks (marks_of mark.place marks)) ≡ true
+  is_full true folded full = refl
+  is_full false folded full =
+      let m : counts.marks ≡ marks_of mark.place marks = ap (λ c. c.marks) (now folded) in
+      let l : counts.lines ≡ lines_of mark.place marks = ap (λ c. c.lines) (now folded) in
+      let less : lines_of mark.place marks ≤ marks_of mark.place marks = fewer mark.place marks in
+      let so : (nat_le most_marks counts.marks || nat_le most_marks counts.lines) ≡ true =
+      subst (λ b. (b || (nat_le most_marks counts.marks || nat_le most_marks counts.lines)) ≡ true) (h.folded ∙ folded) full in
+      grind (arith, nat_tests, m, l, less, so)
+
+  -- its list is full, and is folded
+  pub folds : has_no_room saved counts ≡ true → IsSaved (record saved { folded = true }) (mark ∷ marks)
+  folds full =
+      let yes = is_full (is_folded marks) refl full in
+      record {
+        folded = sym yes;
+        counts = λ whole. false_true (sym yes ∙ whole);
+        text = λ whole. false_true (sym yes ∙ whole);
+      }
+
+  whole_so : has_no_room saved counts ≡ false → (is_folded marks ≡ false) × (nat_le most_marks counts.marks ≡ false)
+  whole_so room = (sym h.folded ∙ first saved.folded room, second saved.folded (nat_le most_marks counts.marks) room)
+    where
+      first : (a : Bool) → (a || (nat_le most_marks counts.marks || nat_le most_marks counts.lines)) ≡ false → a ≡ false
+      first true e = e
+      first false e = refl
+
+      second : (a b : Bool) → (a || (b || nat_le most_marks counts.lines)) ≡ false → b ≡ false
+      second a true e = either a e
+        where
+          either : (a : Bool) → (a || true) ≡ false → true ≡ false
+          either true e = e
+          either false e = e
+      second a false e = refl
+
+  module _ (room : has_no_room saved counts ≡ false) (new : TableOf) (text : List ℕ)
+      (updated : (q : JobAt) → lookup (same_place q) new ≡ cond (same_place mark.place q) (Some (counted counts mark.line)) (lookup (same_place q) saved.counts))
+      (written : text ≡ saved.text ++ line_text mark.place (counts.lines + 1) mark.line) where
+    whole : is_folded marks ≡ false
+    whole = (whole_so room).0
+
+    is : counts ≡ record { marks = marks_of mark.place marks; lines = lines_of mark.place marks }
+    is = now whole
+
+    unfolded : (is_folded marks || nat_le most_marks (marks_of mark.place marks)) ≡ false
+    unfolded = ap (λ b. b || nat_le most_marks (marks_of mark.place marks)) whole ∙ ap (λ c. nat_le most_marks c.marks) (sym is) ∙ (whole_so room).1
+
+    at_each : (q : JobAt) → counts_at new q ≡ record { marks = marks_of q (mark ∷ marks); lines = lines_of q (mark ∷ marks) }
+    at_each q = ap in_it (updated q) ∙ by (same_place mark.place q) refl
+      where
+        in_it : Option Counts → Counts
+        in_it o = unwrap_or o (record { marks = 0; lines = 0 })
+
+        by : (b : Bool) → same_place mark.place q ≡ b → in_it (cond b (Some (counted counts mark.line)) (lookup (same_place q) saved.counts))
+            ≡ record { marks = cond b (suc (marks_of q marks)) (marks_of q marks); lines = cond (b && is_some mark.line) (suc (lines_of q marks)) (lines_of q marks) }
+        by true same = ap (λ c. counted c mark.line) (is ∙ ap (λ p. record { marks = marks_of p marks; lines = lines_of p marks }) (same_place-equal mark.place q same))
+        by false other = h.counts whole q
+
+    -- it has one more
+    pub adds : IsSaved (record { text = text; counts = new; folded = saved.folded }) (mark ∷ marks)
+    adds = record {
+      folded = h.folded ∙ whole ∙ sym unfolded;
+      counts = λ w. at_each;
+      text = λ w. written ∙ ap (λ n. saved.text ++ line_text mark.place n mark.line) (one_more counts.lines) ∙ ap (λ c. saved.text ++ line_text mark.place (suc c.lines) mark.line) is ∙ ap (λ t. t ++ line_text mark.place (suc (lines_of mark.place marks)) mark.line) (h.text whole);
+    }
