@@ -96,7 +96,7 @@ turn_count old new step told (delivers job from to m damage answer (hands sent t
 
 -- ---- the same of a step as it is given
 
-turned_by : (old new : Hosting) (place : ℕ) (e : Event) (told : Reply (List ℕ)) → Happens old place e told new → Turns old new (At place e) (Told told)
+pub turned_by : (old new : Hosting) (place : ℕ) (e : Event) (told : Reply (List ℕ)) → Happens old place e told new → Turns old new (At place e) (Told told)
 turned_by old new place e told k =
     subst (λ r. Turns old new (At place e) (Told r)) k.reply
     (at place e k.given (record { before = k.before; after = k.after; found = k.found; steps = k.steps; nodes = k.nodes; tables = k.tables; sent = k.sent }))
@@ -105,17 +105,8 @@ module _ (nodes memory : ℕ) (history : List Traced) (old new : Hosting) (step 
   within_nodes : is_within nodes step ≡ true
   within_nodes = subst (λ n. is_within n step ≡ true) h.count inside
 
-  pub world_after : (told : StepAnswer) (s : Step) → step ≡ s → Turns old new s told → IsAfter nodes memory new (record { step = step; answer = told } ∷ history)
-  world_after told s is t = after_turn nodes memory history old new step told h within_nodes (subst (λ s. Turns old new s told) (sym is) t)
+  pub world_after : (told : StepAnswer) → Turns old new step told → IsAfter nodes memory new (record { step = step; answer = told } ∷ history)
+  world_after told t = after_turn nodes memory history old new step told h within_nodes t
 
-  pub world_after_at : (place : ℕ) (e : Event) (told : Reply (List ℕ)) → step ≡ At place e → Happens old place e told new → IsAfter nodes memory new (record { step = step; answer = Told told } ∷ history)
-  world_after_at place e told is k = world_after (Told told) (At place e) is (turned_by old new place e told k)
-
-  pub world_after_none : new ≡ old → IsAfter nodes memory new (record { step = step; answer = Told (reply.Refused NoMemory) } ∷ history)
-  world_after_none same = after_turn nodes memory history old new step (Told (reply.Refused NoMemory)) h within_nodes (wants step same)
-
-  pub world_same : (told : StepAnswer) (s : Step) → step ≡ s → Turns old new s told → is_no_memory told ≡ true → new ≡ old
-  world_same told s is t = turn_wants nodes memory history old new step told h within_nodes (subst (λ s. Turns old new s told) (sym is) t)
-
-  pub world_same_at : (place : ℕ) (e : Event) (told : Reply (List ℕ)) → step ≡ At place e → Happens old place e told new → is_no_memory (Told told) ≡ true → new ≡ old
-  world_same_at place e told is k = world_same (Told told) (At place e) is (turned_by old new place e told k)
+  pub world_same : (told : StepAnswer) → Turns old new step told → is_no_memory told ≡ true → new ≡ old
+  world_same told t = turn_wants nodes memory history old new step told h within_nodes t

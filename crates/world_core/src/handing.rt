@@ -1,5 +1,5 @@
 //! Messages that are handed over, to a node or to the directory.
-ghost use Rattle.std.specs.Prelude.{◌≡◌, ℕ, ◌<◌, true, length, slice_get, Some, is_some, IfOk, OnOk, OnErr};
+ghost use Rattle.std.specs.Prelude.{◌≡◌, ℕ, ◌<◌, Bool, true, length, slice_get, Some, is_some, IfOk, OnOk, OnErr};
 ghost use Rattle.obj_id.specs.declared.messages.Place.TheVariants as places;
 ghost use Rattle.private_store.specs.declared.schedules.Step.TheVariants as steps;
 ghost use Rattle.job_admission.specs.Admissions.{live_at};
@@ -7,9 +7,11 @@ ghost use Rattle.node_core.specs.Hosted.{Hosted};
 ghost use Rattle.node_core.specs.Steps.{answered, stale_unless};
 ghost use Rattle.world_core.specs.Worlds.{is_place};
 ghost use Rattle.world_core.specs.Moves.{Arrives, MovesDirectory, Hands, Turns};
+ghost use Rattle.world_core.specs.Noting.{IsNoted, IsArrivalNoted};
 
 use crate::World;
 use crate::on_the_way::{answers, arrival, as_it_arrives, for_directory, handed, message_of};
+use crate::stepped::{Given, Stepped};
 use bytes::Bytes;
 use node_core::Outcome;
 use obj_id::{Arrival, DirectoryMessage, JobNo, Message, Place, Refusal, Reply};
@@ -26,18 +28,22 @@ impl World {
         to: Place,
         number: u64,
         damaged: bool,
-    ) -> Result<StepAnswer, Refusal>
+    ) -> Result<Stepped, Refusal>
         requires { is_place (length self.old.nodes) to ≡ true }
-        ensures ok { IfOk result (λ told. Turns self.old self.new (steps.Deliver job from to number damaged) told) }
+        ensures ok { IfOk result (λ s. Turns self.old self.new (steps.Deliver job from to number damaged) s.answer) }
+        ensures kept { IfOk result (λ s. IsNoted self.old s.judged s.notes (steps.Deliver job from to number damaged) s.answer) }
         ensures err { OnErr result (self.new ≡ self.old) }
     {
         let Some(sent) = self.messages.find(job, from, to, number) else {
-            return Ok(StepAnswer::NoMessage);
+            return Ok(Stepped::alone(self.alloc, StepAnswer::NoMessage));
         };
         let message = as_it_arrives(self.alloc, sent, damaged)?;
         match to {
             Place::Node(place) => self.hand_to_node(job, from, place, message),
-            Place::Directory => self.hand_to_directory(job, from, message),
+            Place::Directory => {
+                let answer = self.hand_to_directory(job, from, message)?;
+                Ok(Stepped::alone(self.alloc, answer))
+            }
         }
     }
 
@@ -48,25 +54,34 @@ impl World {
         from: Place,
         place: u32,
         message: Message,
-    ) -> Result<StepAnswer, Refusal>
+    ) -> Result<Stepped, Refusal>
         requires { place < length self.old.nodes }
-        ensures ok { IfOk result (λ told. Hands self.old job from message self.new (places.Node place) told) }
+        ensures ok { IfOk result (λ s. Hands self.old job from message self.new (places.Node place) s.answer) }
+        ensures kept { IfOk result (λ s. (number : ℕ) (damaged : Bool) → IsNoted self.old s.judged s.notes (steps.Deliver job from (places.Node place) number damaged) s.answer) }
         ensures err { OnErr result (self.new ≡ self.old) }
     {
         match arrival(from, message) {
             Ok(arriving) => {
-                let reply = self.arrive(job, place, &arriving)?;
-                Ok(handed(message_of(arriving), reply))
+                let given = self.arrive(job, place, &arriving)?;
+                Ok(Stepped {
+                    answer: handed(message_of(arriving), given.reply),
+                    judged: given.judged,
+                    notes: given.notes,
+                })
             }
             // what isn't made for a node is nothing there
-            Err(message) => Ok(handed(message, self.reply_to_nothing(job, place))),
+            Err(message) => {
+                let answer = handed(message, self.reply_to_nothing(job, place));
+                Ok(Stepped::alone(self.alloc, answer))
+            }
         }
     }
 
     /// The job's message arrives at the node of the place.
-    fn arrive(&mut self, job: JobNo, place: u32, arrival: &Arrival) -> Result<Reply<Bytes>, Refusal>
+    fn arrive(&mut self, job: JobNo, place: u32, arrival: &Arrival) -> Result<Given, Refusal>
         requires { place < length self.old.nodes }
-        ensures ok { IfOk result (λ reply. Arrives self.old place job arrival.now reply self.new) }
+        ensures ok { IfOk result (λ given. Arrives self.old place job arrival.now given.reply self.new) }
+        ensures kept { IfOk result (λ given. IsArrivalNoted self.old place job arrival.now given.reply given.judged given.notes) }
         ensures err { OnErr result (self.new ≡ self.old) }
     {
         // all growth comes before the node's step, and a step that sends nothing needs none
@@ -78,10 +93,16 @@ impl World {
         let Outcome {
             reply,
             messages,
+            notes,
+            judged,
             ..
         } = outcome;
         self.messages.add(job, Place::Node(place), messages);
-        Ok(reply)
+        Ok(Given {
+            reply,
+            judged,
+            notes,
+        })
     }
 
     /// What the node of the place answers if nothing is made of a message: Ok, or `Stale` where the job isn't live.

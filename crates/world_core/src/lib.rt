@@ -9,24 +9,27 @@ ghost use Rattle.private_store.specs.declared.schedules.Traced.{Traced};
 ghost use Rattle.private_store.specs.Trace.{is_no_memory};
 ghost use Rattle.node_core.specs.Steps.{job_of_event};
 ghost use Rattle.world_core.specs.Worlds.{is_shape, is_within as is_within_lem, AreNew, IsAfter};
-ghost use Rattle.world_core.specs.Moves.{Happens};
+ghost use Rattle.world_core.specs.Moves.{Happens, Turns};
+ghost use Rattle.world_core.specs.Noting.{IsNoted, IsEventNoted};
 ghost use Rattle.world_core.specs.Runs.{is_replied};
 
 mod handing;
 mod messages;
 mod on_the_way;
 mod runs;
+mod stepped;
 mod within;
 
-use bytes::Bytes;
 use messages::Messages;
 use node_core::{Node, Outcome};
-use obj_id::{JobNo, Place, Refusal, Reply};
+use obj_id::{JobNo, Place, Refusal};
 use owner_directory::Directory;
 use private_store::{Event, Step, StepAnswer};
 pub use runs::{Trace, run};
 use std::alloc::{AllocError, Global};
 use std::marker::Model;
+use stepped::Given;
+pub use stepped::Stepped;
 pub use within::is_within;
 
 /// How many nodes a world has, 1 to 8, and the bytes of each one's memory, 0 to 17,179,869,184.
@@ -80,28 +83,57 @@ impl World {
         ensures replied { is_replied step.now result ≡ true }
         ensures count { length self.new.nodes ≡ length self.old.nodes }
     {
+        self.step_noted(step).answer
+    }
+
+    /// The same, with what journals keep of the step: what it was to the jobs, without contents.
+    pub fn step_noted(&mut self, step: &Step) -> Stepped
+        requires { is_within_lem (length self.old.nodes) step.now ≡ true }
+        ensures after { (nodes memory : ℕ) (history : List Traced) → IsAfter nodes memory self.old history
+            → IsAfter nodes memory self.new (record { step = step.now; answer = result.answer } ∷ history) }
+        ensures memory { (nodes memory : ℕ) (history : List Traced) → IsAfter nodes memory self.old history → is_no_memory result.answer ≡ true → self.new ≡ self.old }
+        ensures replied { is_replied step.now result.answer ≡ true }
+        ensures count { length self.new.nodes ≡ length self.old.nodes }
+        ensures kept { IsNoted self.old result.judged result.notes step.now result.answer }
+    {
+        let Ok(stepped) = self.turn(step) else {
+            return Stepped::without_memory(self.alloc);
+        };
+        stepped
+    }
+
+    /// The same, and `NoMemory` is an error.
+    fn turn(&mut self, step: &Step) -> Result<Stepped, Refusal>
+        requires { is_within_lem (length self.old.nodes) step.now ≡ true }
+        ensures ok { IfOk result (λ s. Turns self.old self.new step.now s.answer) }
+        ensures replied { IfOk result (λ s. is_replied step.now s.answer ≡ true) }
+        ensures kept { IfOk result (λ s. IsNoted self.old s.judged s.notes step.now s.answer) }
+        ensures err { OnErr result (self.new ≡ self.old) }
+    {
         match step {
-            Step::At(place, event) => match self.apply(*place, event) {
-                Ok(reply) => StepAnswer::Told(reply),
-                Err(_) => StepAnswer::Told(Reply::Refused(Refusal::NoMemory)),
-            },
+            Step::At(place, event) => {
+                let given = self.apply(*place, event)?;
+                Ok(Stepped {
+                    answer: StepAnswer::Told(given.reply),
+                    judged: given.judged,
+                    notes: given.notes,
+                })
+            }
             Step::Deliver {
                 job,
                 from,
                 to,
                 number,
                 damaged,
-            } => match self.deliver(*job, *from, *to, *number, *damaged) {
-                Ok(answer) => answer,
-                Err(_) => StepAnswer::Told(Reply::Refused(Refusal::NoMemory)),
-            },
+            } => self.deliver(*job, *from, *to, *number, *damaged),
         }
     }
 
     /// An event at the node of the place. `NoMemory` alone, and then nothing has changed.
-    fn apply(&mut self, place: u32, event: &Event) -> Result<Reply<Bytes>, Refusal>
+    fn apply(&mut self, place: u32, event: &Event) -> Result<Given, Refusal>
         requires { place < length self.old.nodes }
-        ensures ok { IfOk result (λ reply. Happens self.old place event.now reply self.new) }
+        ensures ok { IfOk result (λ given. Happens self.old place event.now given.reply self.new) }
+        ensures kept { IfOk result (λ given. IsEventNoted self.old place event.now given.reply given.judged given.notes) }
         ensures err { OnErr result (self.new ≡ self.old) }
     {
         let job = job_of(event);
@@ -112,10 +144,16 @@ impl World {
         let Outcome {
             reply,
             messages,
+            notes,
+            judged,
             ..
         } = outcome;
         self.messages.add(job, Place::Node(place), messages);
-        Ok(reply)
+        Ok(Given {
+            reply,
+            judged,
+            notes,
+        })
     }
 }
 

@@ -1,21 +1,42 @@
-use Rattle.std.proofs.Common.{ap}
+use Rattle.std.proofs.Common.{None, [], refl, ap, sym, subst}
 use Rattle.std.specs.Prelude.{option_copied}
 use Rattle.obj_id.specs.declared.messages.Place.TheVariants as places
+use Rattle.private_store.specs.declared.schedules.Step.TheVariants as steps
+use Rattle.world_core.specs.Moves.{Turns}
+use Rattle.world_core.specs.Noting.{IsNoted, finds_nothing, tells_directory}
 use Rattle.world_core.proofs.HandedOver.{none_delivered, one_delivered, if_ok}
 use Rattle.world_core.proofs.World.deliver.Goals as goal
 
 pub returns-in_default-clause-ok : goal.returns-in_default-clause-ok
 returns-in_default-clause-ok c =
-    none_delivered _ c.args.self.now c.self.view_is c.args.job c.args.from c.args.to c.args.number c.args.damaged (option_copied c.find.result) c.find.ensures (ap option_copied c.in_default.is)
+    subst (λ told. Turns c.args.self.now c.args.self.now (steps.Deliver c.args.job c.args.from c.args.to c.args.number c.args.damaged) told) (sym (ap (λ s. s.answer) c.alone.ensures))
+    (none_delivered _ c.args.self.now c.self.view_is c.args.job c.args.from c.args.to c.args.number c.args.damaged (option_copied c.find.result) c.find.ensures (ap option_copied c.in_default.is))
 
 pub returns-in-Node-clause-ok : goal.returns-in-Node-clause-ok
 returns-in-Node-clause-ok c =
-    if_ok c.hand_to_node.result c.hand_to_node.ensures.ok (λ told k.
+    if_ok c.hand_to_node.result c.hand_to_node.ensures.ok (λ s k.
     one_delivered _ c.args.self.now c.self.view_is c.args.job c.args.from c.args.to c.args.number c.args.damaged (option_copied c.find.result) c.find.ensures
-    c.in-Some.sent.now (ap option_copied c.in-Some.is) c.hand_to_node.new.self c.in_ok-message.message told (places.Node c.in-Node.place) c.in_ok-message.ensures c.in-Node.is k)
+    c.in-Some.sent.now (ap option_copied c.in-Some.is) c.hand_to_node.new.self c.in_ok-message.message s.answer (places.Node c.in-Node.place) c.in_ok-message.ensures c.in-Node.is k)
 
-pub returns-in-Directory-clause-ok : goal.returns-in-Directory-clause-ok
-returns-in-Directory-clause-ok c =
-    if_ok c.hand_to_directory.result c.hand_to_directory.ensures.ok (λ told k.
-    one_delivered _ c.args.self.now c.self.view_is c.args.job c.args.from c.args.to c.args.number c.args.damaged (option_copied c.find.result) c.find.ensures
-    c.in-Some.sent.now (ap option_copied c.in-Some.is) c.hand_to_directory.new.self c.in_ok-message.message told places.Directory c.in_ok-message.ensures c.in-Directory.is k)
+pub returns-in_ok-answer-in-Directory-clause-ok : goal.returns-in_ok-answer-in-Directory-clause-ok
+returns-in_ok-answer-in-Directory-clause-ok c =
+    subst (λ told. Turns c.args.self.now c.hand_to_directory.new.self (steps.Deliver c.args.job c.args.from c.args.to c.args.number c.args.damaged) told) (sym (ap (λ s. s.answer) c.alone-in-Directory.ensures))
+    (one_delivered _ c.args.self.now c.self.view_is c.args.job c.args.from c.args.to c.args.number c.args.damaged (option_copied c.find.result) c.find.ensures
+    c.in-Some.sent.now (ap option_copied c.in-Some.is) c.hand_to_directory.new.self c.in_ok-message.message c.in_ok-answer-in-Directory.answer places.Directory c.in_ok-message.ensures c.in-Directory.is
+    c.in_ok-answer-in-Directory.ensures.ok)
+
+pub returns-in_default-clause-kept : goal.returns-in_default-clause-kept
+returns-in_default-clause-kept c =
+    subst (λ s. IsNoted c.args.self.now s.judged s.notes (steps.Deliver c.args.job c.args.from c.args.to c.args.number c.args.damaged) s.answer) (sym c.alone.ensures)
+    (finds_nothing c.args.job c.args.from c.args.to c.args.number c.args.damaged (refl, refl))
+
+pub returns-in-Node-clause-kept : goal.returns-in-Node-clause-kept
+returns-in-Node-clause-kept c =
+    if_ok c.hand_to_node.result c.hand_to_node.ensures.kept (λ s k.
+    subst (λ t. IsNoted c.args.self.now s.judged s.notes (steps.Deliver c.args.job c.args.from t c.args.number c.args.damaged) s.answer) (sym c.in-Node.is) (k c.args.number c.args.damaged))
+
+pub returns-in_ok-answer-in-Directory-clause-kept : goal.returns-in_ok-answer-in-Directory-clause-kept
+returns-in_ok-answer-in-Directory-clause-kept c =
+    subst (λ s. IsNoted c.args.self.now s.judged s.notes (steps.Deliver c.args.job c.args.from c.args.to c.args.number c.args.damaged) s.answer) (sym c.alone-in-Directory.ensures)
+    (subst (λ t. IsNoted c.args.self.now None [] (steps.Deliver c.args.job c.args.from t c.args.number c.args.damaged) c.in_ok-answer-in-Directory.answer) (sym c.in-Directory.is)
+    (tells_directory c.args.job c.args.from c.args.number c.args.damaged c.in_ok-answer-in-Directory.answer (refl, refl)))
