@@ -4,7 +4,7 @@ use session_engine::FaultyStream;
 use std::alloc::Global;
 use std::io::{self, BufReader, BufWriter, ErrorKind};
 use std::test::Fail;
-use store_program::{Fault, run_text};
+use store_program::{Fault, Keep, RunJournal, run_text};
 use world_core::Shape;
 
 const SHAPE: Shape = Shape {
@@ -22,7 +22,8 @@ cmd 0 1 1 usage
 fn run_once(alloc: Global, read: u64, write: u64) -> io::Result<Result<(), Fault>> {
     let mut reader = BufReader::new(alloc, FaultyStream::new(SCHEDULE.as_bytes(), read))?;
     let mut writer = BufWriter::new(alloc, FaultyStream::new(Vec::new(alloc), write))?;
-    Ok(run_text(alloc, SHAPE, &mut reader, &mut writer))
+    let mut journal = RunJournal::new(alloc, Keep::Nothing)?;
+    Ok(run_text(alloc, SHAPE, &mut reader, &mut writer, &mut journal))
 }
 
 /// The same, made once more if memory ran out.

@@ -1,3 +1,4 @@
+pub mod Endings
 pub mod Lists
 pub mod Spoken
 pub mod Told

@@ -1,5 +1,8 @@
 -- What a run prints and says at its end.
-use Rattle.std.specs.Prelude.{◌≡◌, ℕ, List, [], ◌++◌, codes, decimal, Option, Some, Result, Ok, Err, ⊤}
+use Rattle.std.specs.Prelude.{◌≡◌, ℕ, Bool, if◌then◌else◌, List, [], ◌++◌, codes, decimal, Option, None, Some, Result, Ok, Err, ⊤}
+use Rattle.journal_text.specs.declared.saved.Mark.{Mark}
+use Rattle.journal_text.specs.Saved.{Saved, IsSaved, is_folded, saved_text}
+use Rattle.store_program.specs.declared.fault.Fault.TheVariants.{Folded}
 use Rattle.store_program.specs.declared.fault.Fault.{Fault}
 use Rattle.store_program.specs.Endings.{fault_text, status_of}
 use Rattle.store_program.specs.Runs.{Ran}
@@ -9,17 +12,29 @@ use Rattle.journal_replay.specs.declared.program.Verdict.TheVariants.{Agrees, Di
 use Rattle.journal_replay.specs.Texts.{Replays, fault_text as replay_fault_text, status_of as status_of_replay}
 
 -- of a fault its line and the status
-abbrev pub ending : Result ⊤ Fault → List ℕ
-ending (Ok u) = []
-ending (Err fault) = fault_text fault ++ codes "\nstatus " ++ decimal (status_of (Err fault)) ++ codes "\n"
+abbrev pub run_ending : Fault → List ℕ
+run_ending fault = fault_text fault ++ codes "\nstatus " ++ decimal (status_of (Err fault)) ++ codes "\n"
+
+-- the text of a journal, if one was kept, or that it was folded
+abbrev pub IsJournalEnding : Option Saved → List ℕ → Type 0
+IsJournalEnding None text = text ≡ []
+IsJournalEnding (Some saved) text = (marks : List Mark) → IsSaved saved marks → text ≡ (if is_folded marks then run_ending Folded else saved_text marks)
+
+-- how a run ended
+abbrev pub IsEnding : Result ⊤ Fault → Option Saved → List ℕ → Type 0
+IsEnding (Ok u) journal text = IsJournalEnding journal text
+IsEnding (Err fault) journal text = text ≡ run_ending fault
 
 -- the text is what a run of the schedule printed, and how it ended
-pub record Transcribes (nodes memory : ℕ) (schedule text : List ℕ) : Type 0 where
+pub record Transcribes (nodes memory : ℕ) (asked : Bool) (schedule text : List ℕ) : Type 0 where
   pub outcome : Result ⊤ Fault
+  pub journal : Option Saved
   pub left : Option (List ℕ)
   pub printed : List ℕ
-  pub ran : Ran nodes memory (Some schedule) left (Some []) (Some printed) outcome
-  pub whole : text ≡ printed ++ ending outcome
+  pub ending : List ℕ
+  pub ran : Ran nodes memory asked journal (Some schedule) left (Some []) (Some printed) outcome
+  pub ends : IsEnding outcome journal ending
+  pub whole : text ≡ printed ++ ending
 
 -- of a difference the status, and of a fault its line and the status
 abbrev pub replay_ending : Result Verdict ReplayFault → List ℕ

@@ -2,20 +2,23 @@
 ghost use Rattle.std.specs.Prelude.{◌≡◌, ◌++◌, codes, decimal, true, IfOk};
 ghost use Rattle.journal_replay.specs.Texts.{fault_text};
 ghost use Rattle.world_core.specs.Worlds.{is_shape};
-ghost use Rattle.schedules.specs.Transcripts.{Retells, Transcribes, replay_ending as replay_ending_lem};
+ghost use Rattle.schedules.specs.Transcripts.{IsJournalEnding, Retells, Transcribes, run_ending as run_ending_lem, replay_ending as replay_ending_lem};
 ghost use Rattle.std.specs.String.{string_bytes};
+ghost use Rattle.store_program.specs.Kept.{is_asked};
 
 use journal_replay::{ReplayFault, Verdict, replay_text, status_of as status_of_replay};
 use std::alloc::{AllocError, Global};
 use std::fmt::Write as _;
-use store_program::{Task, read_task, run_text, status_of, status_of_error};
+use store_program::{
+    Fault, Keep, RunJournal, Task, read_task, run_text, status_of, status_of_error,
+};
 use world_core::Shape;
 
 /// What a process with these words prints when it is given the schedule, or of a replay the journal, and what it says at
 /// its end.
 pub fn told(alloc: Global, words: &[String], text: &[u8]) -> Result<Vec<u8>, AllocError> {
     match read_task(alloc, words) {
-        Ok(Task::Run(shape)) => transcript(alloc, shape, text),
+        Ok(Task::Run(running)) => transcript(alloc, running.shape, kept_by(running.journal), text),
         Ok(Task::Replay(_)) => replayed(alloc, text),
         // sessions aren't schedules
         Ok(Task::Serve(_)) => Ok(Vec::new(alloc)),
@@ -26,20 +29,53 @@ pub fn told(alloc: Global, words: &[String], text: &[u8]) -> Result<Vec<u8>, All
     }
 }
 
-/// What a run prints, and of a fault its line and the status.
-fn transcript(alloc: Global, shape: Shape, schedule: &[u8]) -> Result<Vec<u8>, AllocError>
+/// What is kept of a run whose journal is saved there, if it is.
+fn kept_by(journal: Option<&str>) -> Keep {
+    match journal {
+        Some(_) => Keep::Journal,
+        None => Keep::Nothing,
+    }
+}
+
+/// What a run prints; after it its journal, if one is to be saved; and of a fault its line and the status.
+fn transcript(
+    alloc: Global,
+    shape: Shape,
+    keep: Keep,
+    schedule: &[u8],
+) -> Result<Vec<u8>, AllocError>
     requires { is_shape shape ≡ true }
-    ensures { IfOk result (λ text. Transcribes shape.nodes shape.memory schedule.now text.items) }
+    ensures { IfOk result (λ text. Transcribes shape.nodes shape.memory (is_asked keep) schedule.now text.items) }
 {
     let mut reader = schedule;
     let mut text = Vec::new(alloc);
-    let outcome = run_text(alloc, shape, &mut reader, &mut text);
-    if let Err(fault) = outcome {
-        let status = status_of(&outcome);
-        let ending = format!(in alloc; "{fault}\nstatus {status}\n")?;
-        text.extend_from_slice(ending.as_bytes())?;
-    }
+    let mut journal = RunJournal::new(alloc, keep)?;
+    let outcome = run_text(alloc, shape, &mut reader, &mut text, &mut journal);
+    let ending = match outcome {
+        Ok(()) => journal_ending(alloc, journal)?,
+        Err(fault) => run_ending(alloc, fault)?,
+    };
+    text.extend_from_slice(&ending)?;
     Ok(text)
+}
+
+/// The text of a journal, if one is kept; if it was folded, the line of that fault and the status.
+fn journal_ending(alloc: Global, journal: RunJournal) -> Result<Vec<u8>, AllocError>
+    ensures { IfOk result (λ text. IsJournalEnding journal text.items) }
+{
+    match journal.into_text() {
+        Ok(Some(text)) => Ok(text),
+        Ok(None) => Ok(Vec::new(alloc)),
+        Err(fault) => run_ending(alloc, fault),
+    }
+}
+
+/// The line of a fault, and the status.
+fn run_ending(alloc: Global, fault: Fault) -> Result<Vec<u8>, AllocError>
+    ensures { IfOk result (λ text. text.items ≡ run_ending_lem fault) }
+{
+    let status = status_of(&Err(fault));
+    Ok(format!(in alloc; "{fault}\nstatus {status}\n")?.into_bytes())
 }
 
 /// What a replay of the journal prints, and how it ends.

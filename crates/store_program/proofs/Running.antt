@@ -1,5 +1,5 @@
 -- A run with one line more, and how it ends.
-use Rattle.std.proofs.Common.{◌≡◌, ◌≢◌, ℕ, suc, ◌+◌, ◌-◌, true, List, [], ◌∷◌, length, take, Option, None, Some, Result, Ok, Err, OnOk, refl, sym, ap, subst, ◌∙◌, arith}
+use Rattle.std.proofs.Common.{◌≡◌, ◌≢◌, ℕ, suc, ◌+◌, ◌-◌, Bool, true, List, [], ◌∷◌, length, take, Option, None, Some, Result, Ok, Err, OnOk, refl, sym, ap, subst, ◌∙◌, arith}
 use Rattle.std.specs.Prelude.{All, ⊤}
 use Rattle.std.specs.Io.{StopsAt}
 use Rattle.std.specs.Io.KnownBytes.{Keeps, Consumes, IsAtEnd}
@@ -16,8 +16,10 @@ use Rattle.schedule_text.specs.declared.line.Line.TheVariants as line
 use Rattle.schedule_text.specs.declared.line.Outcome.{Outcome}
 use Rattle.world_core.specs.Worlds.{Hosting, IsAfter}
 use Rattle.store_program.specs.declared.fault.Fault.{Fault}
-use Rattle.store_program.specs.declared.fault.Fault.TheVariants.{NotAStep, Input, Output, Socket, NoMemory}
-use Rattle.store_program.specs.Lines.{IsSpelled, Says, stands, finishes, with_feed, history_of, input_of, output_of}
+use Rattle.store_program.specs.declared.fault.Fault.TheVariants.{NotAStep, Input, Output, Socket, Folded, NoMemory}
+use Rattle.store_program.specs.Lines.{IsSpelled, Says, stands, finishes, with_feed, marks_of, history_of, input_of, output_of}
+use Rattle.journal_text.specs.Saved.{Saved}
+use Rattle.store_program.specs.Kept.{Kept, IsKept}
 use Rattle.store_program.specs.Workers.{Crew, IsCrewAfter, Calls, handed_in, held_by}
 use Rattle.store_program.specs.Runs.{RunsStep, RunsLine, StopsRun, IsReadingFault, Progress, IsWorldly, IsOutput, Ran}
 use Rattle.store_program.proofs.Crews.{handed_due, after_handing, after_step}
@@ -26,32 +28,37 @@ use Rattle.private_store.proofs.KnownBytes.{Appends-none, Appends-then, Appends-
 
 -- ---- one line
 
-pub nothing_line : (nodes : ℕ) (bytes text : List ℕ) (world : Hosting) (crew : Crew) (a : Option (List ℕ)) → bytes ≡ with_feed text → is_skipped text ≡ true → RunsLine nodes bytes world crew world crew a a
-nothing_line nodes bytes text world crew a is skipped =
-    record { heard = record { text = text; answered = None }; is_text = is; is_answered = λ history h. skipped; after = λ memory history h. h; crew = λ history h. h; written = Appends-none a }
+nothing_kept : Kept
+nothing_kept = record { judged = None; notes = [] }
 
-module _ (nodes : ℕ) (bytes text : List ℕ) (old new : Hosting) (crew_old crew_new : Crew) (a b : Option (List ℕ)) (result : Result ⊤ Fault) (is : bytes ≡ with_feed text) where
-  pub step_line : (step : Step) → Says nodes text (line.Step step) → OnOk result (RunsStep old crew_old step new crew_new a b) → OnOk result (RunsLine nodes bytes old crew_old new crew_new a b)
+pub nothing_line : (nodes : ℕ) (bytes text : List ℕ) (world : Hosting) (crew : Crew) (journal : Option Saved) (a : Option (List ℕ)) → bytes ≡ with_feed text → is_skipped text ≡ true → RunsLine nodes bytes world crew journal world crew journal a a
+nothing_line nodes bytes text world crew journal a is skipped =
+    record { heard = record { text = text; answered = None; kept = nothing_kept }; is_text = is; is_answered = λ history h. skipped; after = λ memory history h. h; crew = λ history h. h; keeps = tt; journal = λ asked marks k. k; written = Appends-none a }
+
+module _ (nodes : ℕ) (bytes text : List ℕ) (old new : Hosting) (crew_old crew_new : Crew) (journal_old journal_new : Option Saved) (a b : Option (List ℕ)) (result : Result ⊤ Fault) (is : bytes ≡ with_feed text) where
+  pub step_line : (step : Step) → Says nodes text (line.Step step) → OnOk result (RunsStep old crew_old journal_old step new crew_new journal_new a b) → OnOk result (RunsLine nodes bytes old crew_old journal_old new crew_new journal_new a b)
   step_line step said ran = on_ok result ran
     where
-      on_ok : (r : Result ⊤ Fault) → OnOk r (RunsStep old crew_old step new crew_new a b) → OnOk r (RunsLine nodes bytes old crew_old new crew_new a b)
+      on_ok : (r : Result ⊤ Fault) → OnOk r (RunsStep old crew_old journal_old step new crew_new journal_new a b) → OnOk r (RunsLine nodes bytes old crew_old journal_old new crew_new journal_new a b)
       on_ok (Err e) ran = tt
       on_ok (Ok u) ran =
           record {
-            heard = record { text = text; answered = Some (record { step = step; answer = ran.answer }) };
+            heard = record { text = text; answered = Some (record { step = step; answer = ran.answer }); kept = ran.kept };
             is_text = is;
             is_answered = λ history crew. record { speaks = said.speaks; spelled = stands step said.spelled };
             after = λ memory history h. ran.after nodes memory history h;
             crew = λ history crew.
                 subst (λ c. IsCrewAfter nodes c (record { step = step; answer = ran.answer } ∷ history)) (sym ran.noted)
                 (after_step nodes crew_old history crew ran.answer step (said_apart nodes text step said));
+            keeps = ran.keeps;
+            journal = ran.journal;
             written = ran.written;
           }
 
   -- the crew between: what is handed in is known, and the step not taken yet
   pub finish_line : (crew : Crew) (node : ℕ) (job : JobNo) (number : ℕ) (o : Outcome) (answer : DeviceAnswer) → Says nodes text (line.Finish node job number o)
       → answer ≡ handed_in crew_old.taken (held_by crew_old.devices) node job number o → Calls crew_old node job number answer crew
-      → OnOk result (RunsStep old crew (At node (event.Finish job number answer)) new crew_new a b) → OnOk result (RunsLine nodes bytes old crew_old new crew_new a b)
+      → OnOk result (RunsStep old crew journal_old (At node (event.Finish job number answer)) new crew_new journal_new a b) → OnOk result (RunsLine nodes bytes old crew_old journal_old new crew_new journal_new a b)
   finish_line crew node job number o answer said due calls ran = on_ok result ran
     where
       step : Step
@@ -62,17 +69,19 @@ module _ (nodes : ℕ) (bytes text : List ℕ) (old new : Hosting) (crew_old cre
           subst (λ x. IsSpelled nodes history text (At node (event.Finish job number x))) (sym (due ∙ handed_due nodes crew_old history is_crew node job number o (finish_within nodes text node job number o said)))
           (finishes node job number o said.spelled)
 
-      on_ok : (r : Result ⊤ Fault) → OnOk r (RunsStep old crew step new crew_new a b) → OnOk r (RunsLine nodes bytes old crew_old new crew_new a b)
+      on_ok : (r : Result ⊤ Fault) → OnOk r (RunsStep old crew journal_old step new crew_new journal_new a b) → OnOk r (RunsLine nodes bytes old crew_old journal_old new crew_new journal_new a b)
       on_ok (Err e) ran = tt
       on_ok (Ok u) ran =
           record {
-            heard = record { text = text; answered = Some (record { step = step; answer = ran.answer }) };
+            heard = record { text = text; answered = Some (record { step = step; answer = ran.answer }); kept = ran.kept };
             is_text = is;
             is_answered = λ history is_crew. record { speaks = said.speaks; spelled = spelled history is_crew };
             after = λ memory history h. ran.after nodes memory history h;
             crew = λ history is_crew.
                 subst (λ c. IsCrewAfter nodes c (record { step = step; answer = ran.answer } ∷ history)) (sym ran.noted)
                 (after_handing nodes crew_old history is_crew ran.answer node job number answer crew calls);
+            keeps = ran.keeps;
+            journal = ran.journal;
             written = ran.written;
           }
 
@@ -88,87 +97,101 @@ pub worldly : (nodes memory : ℕ) (world : Hosting) (history : List Traced) →
 worldly nodes memory world [] h = tt
 worldly nodes memory world (entry ∷ history) h = (world, h)
 
-pub begun : (nodes memory : ℕ) (world : Hosting) (crew : Crew) (a b : Option (List ℕ)) → IsAfter nodes memory world [] → IsCrewAfter nodes crew [] → Progress nodes memory 1 world crew a a b b
-begun nodes memory world crew a b h c = record { lines = []; counted = refl; heard = tt; after = h; crew = c; consumed = Consumes-none a; written = Appends-none b }
+pub begun : (nodes memory : ℕ) (world : Hosting) (crew : Crew) (asked : Bool) (journal : Option Saved) (a b : Option (List ℕ)) → IsAfter nodes memory world [] → IsCrewAfter nodes crew [] → IsKept asked journal [] → Progress nodes memory 1 world crew asked journal a a b b
+begun nodes memory world crew asked journal a b h c k = record { lines = []; counted = refl; heard = tt; after = h; crew = c; kept = tt; has_kept = k; consumed = Consumes-none a; written = Appends-none b }
 
-pub no_world : (nodes memory : ℕ) (a b : Option (List ℕ)) → Ran nodes memory a a b b (Err NoMemory)
-no_world nodes memory a b = record { lines = []; rest = []; heard = tt; worldly = tt; consumed = Consumes-none a; written = Appends-none b; ends = tt }
+pub no_world : (nodes memory : ℕ) (asked : Bool) (journal : Option Saved) (a b : Option (List ℕ)) → Ran nodes memory asked journal a a b b (Err NoMemory)
+no_world nodes memory asked journal a b = record { lines = []; rest = []; heard = tt; worldly = tt; kept = tt; has_kept = tt; consumed = Consumes-none a; written = Appends-none b; ends = tt }
 
-module _ (nodes memory number : ℕ) (world : Hosting) (workers : Crew) (a r b w : Option (List ℕ)) (so_far : Progress nodes memory number world workers a r b w) where
+module _ (nodes memory number : ℕ) (world : Hosting) (workers : Crew) (asked : Bool) (journal : Option Saved) (a r b w : Option (List ℕ)) (so_far : Progress nodes memory number world workers asked journal a r b w) where
   module _ (r1 : Option (List ℕ)) (bytes : List ℕ) (read : Consumes r r1 bytes) where
-    pub reading_failed : (fault : Fault) → IsReadingFault fault → Ran nodes memory a r1 b w (Err fault)
-    reading_failed (NotAStep n) is = absurd is
-    reading_failed Output is = absurd is
-    reading_failed Socket is = absurd is
-    reading_failed Input is =
+    pub reading_failed : (fault : Fault) (now : Option Saved) → IsReadingFault fault → Ran nodes memory asked now a r1 b w (Err fault)
+    reading_failed (NotAStep n) now is = absurd is
+    reading_failed Output now is = absurd is
+    reading_failed Socket now is = absurd is
+    reading_failed Folded now is = absurd is
+    reading_failed Input now is =
         record {
           lines = so_far.lines;
           rest = bytes;
           heard = so_far.heard;
           worldly = worldly nodes memory world (history_of so_far.lines) so_far.after;
+          kept = so_far.kept;
+          has_kept = tt;
           consumed = Consumes-then a r r1 (input_of so_far.lines) bytes so_far.consumed read;
           written = so_far.written;
           ends = tt;
         }
-    reading_failed NoMemory is =
+    reading_failed NoMemory now is =
         record {
           lines = so_far.lines;
           rest = bytes;
           heard = so_far.heard;
           worldly = worldly nodes memory world (history_of so_far.lines) so_far.after;
+          kept = so_far.kept;
+          has_kept = tt;
           consumed = Consumes-then a r r1 (input_of so_far.lines) bytes so_far.consumed read;
           written = so_far.written;
           ends = tt;
         }
 
-    pub input_ended : IsAtEnd r → Ran nodes memory a r1 b w (Ok tt)
+    pub input_ended : IsAtEnd r → Ran nodes memory asked journal a r1 b w (Ok tt)
     input_ended end =
         record {
           lines = so_far.lines;
           rest = bytes;
           heard = so_far.heard;
           worldly = worldly nodes memory world (history_of so_far.lines) so_far.after;
+          kept = so_far.kept;
+          has_kept = so_far.has_kept;
           consumed = Consumes-then a r r1 (input_of so_far.lines) bytes so_far.consumed read;
           written = so_far.written;
           ends = Consumes-all a r (input_of so_far.lines) so_far.consumed end;
         }
 
-    pub line_stopped : (w1 : Option (List ℕ)) (fault : Fault) → StopsRun nodes number bytes w w1 fault → Ran nodes memory a r1 b w1 (Err fault)
-    line_stopped w1 (NotAStep n) stops =
+    pub line_stopped : (w1 : Option (List ℕ)) (fault : Fault) (now : Option Saved) → StopsRun nodes number bytes w w1 fault → Ran nodes memory asked now a r1 b w1 (Err fault)
+    line_stopped w1 (NotAStep n) now stops =
         record {
           lines = so_far.lines;
           rest = bytes;
           heard = so_far.heard;
           worldly = worldly nodes memory world (history_of so_far.lines) so_far.after;
+          kept = so_far.kept;
+          has_kept = tt;
           consumed = Consumes-then a r r1 (input_of so_far.lines) bytes so_far.consumed read;
           written = Appends-kept b w w1 (output_of so_far.lines) so_far.written stops.2;
           ends = (stops.0 ∙ sym so_far.counted, stops.1);
         }
-    line_stopped w1 Input stops = absurd stops
-    line_stopped w1 Socket stops = absurd stops
-    line_stopped w1 Output stops =
+    line_stopped w1 Input now stops = absurd stops
+    line_stopped w1 Socket now stops = absurd stops
+    line_stopped w1 Folded now stops = absurd stops
+    line_stopped w1 Output now stops =
         record {
           lines = so_far.lines;
           rest = bytes;
           heard = so_far.heard;
           worldly = worldly nodes memory world (history_of so_far.lines) so_far.after;
+          kept = so_far.kept;
+          has_kept = tt;
           consumed = Consumes-then a r r1 (input_of so_far.lines) bytes so_far.consumed read;
           written = tt;
           ends = tt;
         }
-    line_stopped w1 NoMemory stops =
+    line_stopped w1 NoMemory now stops =
         record {
           lines = so_far.lines;
           rest = bytes;
           heard = so_far.heard;
           worldly = worldly nodes memory world (history_of so_far.lines) so_far.after;
+          kept = so_far.kept;
+          has_kept = tt;
           consumed = Consumes-then a r r1 (input_of so_far.lines) bytes so_far.consumed read;
           written = Appends-kept b w w1 (output_of so_far.lines) so_far.written stops;
           ends = tt;
         }
 
-    pub line_more : (new : Hosting) (crew : Crew) (w1 : Option (List ℕ)) → StopsAt bytes 10 → RunsLine nodes bytes world workers new crew w w1 → Progress nodes memory (number + 1) new crew a r1 b w1
-    line_more new crew w1 one ran =
+    pub line_more : (new : Hosting) (crew : Crew) (now : Option Saved) (w1 : Option (List ℕ)) → StopsAt bytes 10 → RunsLine nodes bytes world workers journal new crew now w w1 → Progress nodes memory (number + 1) new crew asked now a r1 b w1
+    line_more new crew now w1 one ran =
         let counted = so_far.counted in
         record {
           lines = ran.heard ∷ so_far.lines;
@@ -176,12 +199,14 @@ module _ (nodes memory number : ℕ) (world : Hosting) (workers : Crew) (a r b w
           heard = (record { whole = whole_text bytes ran.heard.text ran.is_text one; answered = ran.is_answered (history_of so_far.lines) so_far.crew }, so_far.heard);
           after = ran.after memory (history_of so_far.lines) so_far.after;
           crew = ran.crew (history_of so_far.lines) so_far.crew;
+          kept = (record { world = world; after = so_far.after; keeps = ran.keeps }, so_far.kept);
+          has_kept = ran.journal asked (marks_of so_far.lines) so_far.has_kept;
           consumed = Consumes-then a r r1 (input_of so_far.lines) (with_feed ran.heard.text) so_far.consumed (subst (Consumes r r1) ran.is_text read);
           written = Appends-then b w w1 (output_of so_far.lines) _ so_far.written ran.written;
         }
 
-  pub too_many : Ran nodes memory a r b w (Err Input)
-  too_many = reading_failed r [] (Consumes-none r) Input tt
+  pub too_many : Ran nodes memory asked journal a r b w (Err Input)
+  too_many = reading_failed r [] (Consumes-none r) Input journal tt
 
 -- ---- what the writer kept back
 
@@ -191,20 +216,23 @@ IsOutput-kept b w w1 text (Err (NotAStep n)) p q = Appends-kept b w w1 text p q
 IsOutput-kept b w w1 text (Err Input) p q = Appends-kept b w w1 text p q
 IsOutput-kept b w w1 text (Err Output) p q = tt
 IsOutput-kept b w w1 text (Err Socket) p q = Appends-kept b w w1 text p q
+IsOutput-kept b w w1 text (Err Folded) p q = Appends-kept b w w1 text p q
 IsOutput-kept b w w1 text (Err NoMemory) p q = Appends-kept b w w1 text p q
 
-module _ (nodes memory : ℕ) (a r b w w1 : Option (List ℕ)) (result : Result ⊤ Fault) (ran : Ran nodes memory a r b w result) where
-  pub flushed : Keeps w w1 → Ran nodes memory a r b w1 result
+module _ (nodes memory : ℕ) (asked : Bool) (journal : Option Saved) (a r b w w1 : Option (List ℕ)) (result : Result ⊤ Fault) (ran : Ran nodes memory asked journal a r b w result) where
+  pub flushed : Keeps w w1 → Ran nodes memory asked journal a r b w1 result
   flushed kept =
       record {
         lines = ran.lines;
         rest = ran.rest;
         heard = ran.heard;
         worldly = ran.worldly;
+        kept = ran.kept;
+        has_kept = ran.has_kept;
         consumed = ran.consumed;
         written = IsOutput-kept b w w1 (output_of ran.lines) result ran.written kept;
         ends = ran.ends;
       }
 
-  pub not_flushed : Ran nodes memory a r b w1 (Err Output)
-  not_flushed = record { lines = ran.lines; rest = ran.rest; heard = ran.heard; worldly = ran.worldly; consumed = ran.consumed; written = tt; ends = tt }
+  pub not_flushed : Ran nodes memory asked journal a r b w1 (Err Output)
+  not_flushed = record { lines = ran.lines; rest = ran.rest; heard = ran.heard; worldly = ran.worldly; kept = ran.kept; has_kept = tt; consumed = ran.consumed; written = tt; ends = tt }

@@ -3,7 +3,7 @@ use Rattle.std.proofs.Common.{◌≡◌, ℕ, suc, ◌+◌, List, [], ◌∷◌,
 use Rattle.std.specs.Prelude.{⊤}
 use Rattle.std.specs.Io.KnownBytes.{Keeps, Consumes, IsAtEnd}
 use Rattle.store_program.specs.declared.fault.Fault.{Fault}
-use Rattle.store_program.specs.declared.fault.Fault.TheVariants.{NotAStep, Input, Output, Socket, NoMemory}
+use Rattle.store_program.specs.declared.fault.Fault.TheVariants.{NotAStep, Input, Output, Socket, Folded, NoMemory}
 use Rattle.store_program.specs.Lines.{with_feed}
 use Rattle.store_program.specs.Runs.{IsReadingFault}
 use Rattle.store_program.specs.Servings.{Obeys, StopsOrder, Serving, ServingEnds, IsWritten, Served, close_line, orders_of, answers_of}
@@ -30,6 +30,7 @@ module _ (nodes number : ℕ) (a r b w : Option (List ℕ)) (so_far : Serving no
     reading_failed (NotAStep n) is = absurd is
     reading_failed Output is = absurd is
     reading_failed Socket is = absurd is
+    reading_failed Folded is = absurd is
     reading_failed Input is = ended w (Err Input) so_far.written tt
     reading_failed NoMemory is = ended w (Err NoMemory) so_far.written tt
 
@@ -43,6 +44,7 @@ module _ (nodes number : ℕ) (a r b w : Option (List ℕ)) (so_far : Serving no
     line_stopped w1 (NotAStep n) stops = ended w1 (Err (NotAStep n)) (Appends-kept b w w1 (answers_of so_far.lines) so_far.written stops.1) (stops.0 ∙ sym so_far.counted)
     line_stopped w1 Input stops = absurd stops
     line_stopped w1 Socket stops = absurd stops
+    line_stopped w1 Folded stops = absurd stops
     line_stopped w1 Output stops = ended w1 (Err Output) tt tt
     line_stopped w1 NoMemory stops = ended w1 (Err NoMemory) (Appends-kept b w w1 (answers_of so_far.lines) so_far.written stops) tt
 

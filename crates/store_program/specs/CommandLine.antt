@@ -24,7 +24,7 @@ pub record Asks (found : Found) (shape : Shape) : Type 0 where
 
 -- the nodes that a task has are such as there may be
 abbrev pub IsTask : Task → Type 0
-IsTask (Run shape) = is_shape shape ≡ true
+IsTask (Run running) = is_shape running.shape ≡ true
 IsTask (Serve serving) = is_shape serving.shape ≡ true
 IsTask (Replay path) = ⊤
 

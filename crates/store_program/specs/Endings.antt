@@ -1,7 +1,7 @@
 -- What the process says at its end, and its status.
 use Rattle.std.specs.Prelude.{ℕ, List, ◌++◌, codes, decimal, Result, Ok, Err, ⊤}
 use Rattle.store_program.specs.declared.fault.Fault.{Fault}
-use Rattle.store_program.specs.declared.fault.Fault.TheVariants.{NotAStep, Input, Output, Socket, NoMemory}
+use Rattle.store_program.specs.declared.fault.Fault.TheVariants.{NotAStep, Input, Output, Socket, Folded, NoMemory}
 
 -- the line of a fault, without its line feed
 abbrev pub fault_text : Fault → List ℕ
@@ -9,6 +9,7 @@ fault_text (NotAStep line) = codes "store: line " ++ decimal line ++ codes ": no
 fault_text Input = codes "store: input failed"
 fault_text Output = codes "store: output failed"
 fault_text Socket = codes "store: socket failed"
+fault_text Folded = codes "store: journal folded"
 fault_text NoMemory = codes "store: no memory"
 
 -- 1 after a fault

@@ -14,6 +14,8 @@ use Rattle.schedule_text.specs.Printing.{line_text}
 use Rattle.schedule_text.specs.Reading.{IsLine, is_skipped}
 use Rattle.store_program.specs.declared.lines.Said.{Said}
 use Rattle.store_program.specs.declared.lines.Said.TheVariants as said
+use Rattle.journal_text.specs.declared.saved.Mark.{Mark}
+use Rattle.store_program.specs.Kept.{Kept, with_step}
 use Rattle.store_program.specs.Workers.{answer_due}
 
 -- a text spells a step as it stands, or says what is handed in for a work: what is due after the steps before it
@@ -48,6 +50,8 @@ IsSaid nodes text said.NoStep = SpellsNone nodes text
 pub record Heard : Type 0 where
   pub text : List ℕ
   pub answered : Option Traced
+  -- what that step was to the jobs
+  pub kept : Kept
 
 -- a line that says nothing has no answer; every other spells the step that was answered, after these steps
 abbrev pub IsAnswered : ℕ → List Traced → List ℕ → Option Traced → Type 0
@@ -57,6 +61,15 @@ IsAnswered nodes history text (Some entry) = Spells nodes history text entry.ste
 pub record IsHeard (nodes : ℕ) (history : List Traced) (heard : Heard) : Type 0 where
   pub whole : All (λ byte. byte ≢ 10) heard.text
   pub answered : IsAnswered nodes history heard.text heard.answered
+
+-- with the entries and notes of a line, newest first
+abbrev pub with_heard : Option Traced → Kept → List Mark → List Mark
+with_heard None kept marks = marks
+with_heard (Some entry) kept marks = with_step entry.step entry.answer kept marks
+
+abbrev pub marks_of : List Heard → List Mark
+marks_of [] = []
+marks_of (heard ∷ lines) = with_heard heard.answered heard.kept (marks_of lines)
 
 -- the steps with their answers, of lines that stand newest first
 abbrev pub with_answered : Option Traced → List Traced → List Traced

@@ -1,29 +1,39 @@
 -- A run of a text: the lines that were read, a world that took their steps, and what was printed.
-use Rattle.std.specs.Prelude.{◌≡◌, ℕ, suc, List, [], ◌∷◌, ◌++◌, length, Option, IfSome, Result, Ok, Err, ⊤}
+use Rattle.std.specs.Prelude.{◌≡◌, ℕ, suc, Bool, List, [], ◌∷◌, ◌++◌, length, Option, None, Some, IfSome, Result, Ok, Err, OnOk, ⊤}
 use Rattle.std.specs.Io.KnownBytes.{Appends, Consumes, Keeps}
 use Rattle.private_store.specs.declared.schedules.Step.{Step}
 use Rattle.private_store.specs.declared.schedules.StepAnswer.{StepAnswer}
 use Rattle.private_store.specs.declared.schedules.Traced.{Traced}
 use Rattle.schedule_text.specs.Prefixes.{prefix_of}
 use Rattle.schedule_text.specs.Printing.{line_text}
+use Rattle.journal_text.specs.declared.saved.Mark.{Mark}
+use Rattle.journal_text.specs.Saved.{Saved}
+use Rattle.world_core.specs.Noting.{IsNoted}
 use Rattle.world_core.specs.Worlds.{Hosting, IsAfter}
 use Rattle.store_program.specs.declared.fault.Fault.{Fault}
-use Rattle.store_program.specs.declared.fault.Fault.TheVariants.{NotAStep, Input, Output, Socket, NoMemory}
+use Rattle.store_program.specs.declared.fault.Fault.TheVariants.{NotAStep, Input, Output, Socket, Folded, NoMemory}
 use Rattle.store_program.specs.Workers.{Crew, IsCrewAfter, noted as crew_noted}
-use Rattle.store_program.specs.Lines.{Heard, AreHeard, IsAnswered, IsNoLine, with_feed, with_answered, history_of, input_of, output_of, printed}
+use Rattle.store_program.specs.Kept.{Kept, IsKept, KeepsStep}
+use Rattle.store_program.specs.Lines.{Heard, AreHeard, IsAnswered, IsNoLine, with_feed, with_answered, with_heard, marks_of, history_of, input_of, output_of, printed}
 
--- the world takes the step, the line is that of its answer, and the workers note it
-pub record Answers (old : Hosting) (crew_old : Crew) (step : Step) (line : List ℕ) (new : Hosting) (crew_new : Crew) : Type 0 where
+-- the world takes the step, the line is that of its answer, the workers note it, and the journal keeps what it was to the jobs
+pub record Answers (old : Hosting) (crew_old : Crew) (journal_old : Option Saved) (step : Step) (line : List ℕ) (new : Hosting) (crew_new : Crew) (journal_new : Option Saved) : Type 0 where
   pub answer : StepAnswer
   pub is_line : line ≡ line_text (prefix_of step) answer
   pub after : (nodes memory : ℕ) (history : List Traced) → IsAfter nodes memory old history → IsAfter nodes memory new (record { step = step; answer = answer } ∷ history)
   pub noted : crew_new ≡ crew_noted step answer crew_old
+  pub kept : Kept
+  pub keeps : IsNoted old kept.judged kept.notes step answer
+  pub journal : KeepsStep journal_old step answer kept journal_new
 
 -- the same, and the line is written
-pub record RunsStep (old : Hosting) (crew_old : Crew) (step : Step) (new : Hosting) (crew_new : Crew) (written_old written_new : Option (List ℕ)) : Type 0 where
+pub record RunsStep (old : Hosting) (crew_old : Crew) (journal_old : Option Saved) (step : Step) (new : Hosting) (crew_new : Crew) (journal_new : Option Saved) (written_old written_new : Option (List ℕ)) : Type 0 where
   pub answer : StepAnswer
   pub after : (nodes memory : ℕ) (history : List Traced) → IsAfter nodes memory old history → IsAfter nodes memory new (record { step = step; answer = answer } ∷ history)
   pub noted : crew_new ≡ crew_noted step answer crew_old
+  pub kept : Kept
+  pub keeps : IsNoted old kept.judged kept.notes step answer
+  pub journal : KeepsStep journal_old step answer kept journal_new
   pub written : Appends written_old written_new (line_text (prefix_of step) answer)
 
 -- a step of which no answer is written, but perhaps a part if the output failed
@@ -32,15 +42,23 @@ StopsStep written_old written_new (NotAStep n) = ⊥
 StopsStep written_old written_new Input = ⊥
 StopsStep written_old written_new Output = ⊤
 StopsStep written_old written_new Socket = ⊥
+StopsStep written_old written_new Folded = ⊥
 StopsStep written_old written_new NoMemory = Keeps written_old written_new
 
+-- what a line's step was to the jobs, if it has one
+abbrev pub KeepsHeard : Hosting → Option Traced → Kept → Type 0
+KeepsHeard old None kept = ⊤
+KeepsHeard old (Some entry) kept = IsNoted old kept.judged kept.notes entry.step entry.answer
+
 -- a whole line is read, its step taken, and its answer written
-pub record RunsLine (nodes : ℕ) (bytes : List ℕ) (old : Hosting) (crew_old : Crew) (new : Hosting) (crew_new : Crew) (written_old written_new : Option (List ℕ)) : Type 0 where
+pub record RunsLine (nodes : ℕ) (bytes : List ℕ) (old : Hosting) (crew_old : Crew) (journal_old : Option Saved) (new : Hosting) (crew_new : Crew) (journal_new : Option Saved) (written_old written_new : Option (List ℕ)) : Type 0 where
   pub heard : Heard
   pub is_text : bytes ≡ with_feed heard.text
   pub is_answered : (history : List Traced) → IsCrewAfter nodes crew_old history → IsAnswered nodes history heard.text heard.answered
   pub after : (memory : ℕ) (history : List Traced) → IsAfter nodes memory old history → IsAfter nodes memory new (with_answered heard.answered history)
   pub crew : (history : List Traced) → IsCrewAfter nodes crew_old history → IsCrewAfter nodes crew_new (with_answered heard.answered history)
+  pub keeps : KeepsHeard old heard.answered heard.kept
+  pub journal : (asked : Bool) (marks : List Mark) → IsKept asked journal_old marks → IsKept asked journal_new (with_heard heard.answered heard.kept marks)
   pub written : Appends written_old written_new (printed heard.answered)
 
 -- a line at which the run stops: nothing is written, unless the output failed
@@ -49,6 +67,7 @@ StopsRun nodes number bytes written_old written_new (NotAStep n) = (n ≡ number
 StopsRun nodes number bytes written_old written_new Input = ⊥
 StopsRun nodes number bytes written_old written_new Output = ⊤
 StopsRun nodes number bytes written_old written_new Socket = ⊥
+StopsRun nodes number bytes written_old written_new Folded = ⊥
 StopsRun nodes number bytes written_old written_new NoMemory = Keeps written_old written_new
 
 -- reading fails for the input, or out of memory
@@ -57,10 +76,21 @@ IsReadingFault (NotAStep n) = ⊥
 IsReadingFault Input = ⊤
 IsReadingFault Output = ⊥
 IsReadingFault Socket = ⊥
+IsReadingFault Folded = ⊥
 IsReadingFault NoMemory = ⊤
 
+-- what the step of each line was to the jobs, to which a world after the lines before it was shown
+pub record IsKeptAfter (nodes memory : ℕ) (history : List Traced) (heard : Heard) : Type 0 where
+  pub world : Hosting
+  pub after : IsAfter nodes memory world history
+  pub keeps : KeepsHeard world heard.answered heard.kept
+
+abbrev pub AreKept : ℕ → ℕ → List Heard → Type 0
+AreKept nodes memory [] = ⊤
+AreKept nodes memory (heard ∷ lines) = IsKeptAfter nodes memory (history_of lines) heard × AreKept nodes memory lines
+
 -- a run so far
-pub record Progress (nodes memory number : ℕ) (world : Hosting) (workers : Crew) (read_old read_new written_old written_new : Option (List ℕ)) : Type 0 where
+pub record Progress (nodes memory number : ℕ) (world : Hosting) (workers : Crew) (asked : Bool) (journal : Option Saved) (read_old read_new written_old written_new : Option (List ℕ)) : Type 0 where
   -- newest first
   pub lines : List Heard
   -- the number of the next line
@@ -68,6 +98,8 @@ pub record Progress (nodes memory number : ℕ) (world : Hosting) (workers : Cre
   pub heard : AreHeard nodes lines
   pub after : IsAfter nodes memory world (history_of lines)
   pub crew : IsCrewAfter nodes workers (history_of lines)
+  pub kept : AreKept nodes memory lines
+  pub has_kept : IsKept asked journal (marks_of lines)
   pub consumed : Consumes read_old read_new (input_of lines)
   pub written : Appends written_old written_new (output_of lines)
 
@@ -83,6 +115,7 @@ EndsAt nodes number bytes read_old input (Err (NotAStep n)) = (n ≡ number) × 
 EndsAt nodes number bytes read_old input (Err Input) = ⊤
 EndsAt nodes number bytes read_old input (Err Output) = ⊤
 EndsAt nodes number bytes read_old input (Err Socket) = ⊥
+EndsAt nodes number bytes read_old input (Err Folded) = ⊥
 EndsAt nodes number bytes read_old input (Err NoMemory) = ⊤
 
 -- what a run wrote; if the output failed, nobody knows
@@ -91,17 +124,21 @@ IsOutput written_old written_new text (Err Output) = ⊤
 IsOutput written_old written_new text (Err (NotAStep n)) = Appends written_old written_new text
 IsOutput written_old written_new text (Err Input) = Appends written_old written_new text
 IsOutput written_old written_new text (Err Socket) = Appends written_old written_new text
+IsOutput written_old written_new text (Err Folded) = Appends written_old written_new text
 IsOutput written_old written_new text (Err NoMemory) = Appends written_old written_new text
 IsOutput written_old written_new text (Ok u) = Appends written_old written_new text
 
 -- a whole run
-pub record Ran (nodes memory : ℕ) (read_old read_new written_old written_new : Option (List ℕ)) (result : Result ⊤ Fault) : Type 0 where
+pub record Ran (nodes memory : ℕ) (asked : Bool) (journal : Option Saved) (read_old read_new written_old written_new : Option (List ℕ)) (result : Result ⊤ Fault) : Type 0 where
   -- newest first
   pub lines : List Heard
   -- what was read of the line after them
   pub rest : List ℕ
   pub heard : AreHeard nodes lines
   pub worldly : IsWorldly nodes memory (history_of lines)
+  -- the journal, if one is asked for, has what the steps were to the jobs, unless a fault ended the run
+  pub kept : AreKept nodes memory lines
+  pub has_kept : OnOk result (IsKept asked journal (marks_of lines))
   pub consumed : Consumes read_old read_new (input_of lines ++ rest)
   pub written : IsOutput written_old written_new (output_of lines) result
   pub ends : EndsAt nodes (suc (length lines)) rest read_old (input_of lines) result

@@ -6,7 +6,7 @@ use Rattle.private_store.specs.declared.schedules.StepAnswer.TheVariants.{Told}
 use Rattle.schedule_text.specs.declared.prefixes.Prefix.TheVariants.{Operator}
 use Rattle.schedule_text.specs.Printing.{line_text}
 use Rattle.store_program.specs.declared.fault.Fault.{Fault}
-use Rattle.store_program.specs.declared.fault.Fault.TheVariants.{NotAStep, Input, Output, Socket, NoMemory}
+use Rattle.store_program.specs.declared.fault.Fault.TheVariants.{NotAStep, Input, Output, Socket, Folded, NoMemory}
 use Rattle.store_program.specs.declared.operator.Change.{Change}
 use Rattle.store_program.specs.declared.operator.Order.TheVariants as order
 use Rattle.store_program.specs.Lines.{with_feed}
@@ -65,6 +65,7 @@ StopsReply written_old written_new (NotAStep n) = ⊥
 StopsReply written_old written_new Input = ⊥
 StopsReply written_old written_new Output = ⊤
 StopsReply written_old written_new Socket = ⊥
+StopsReply written_old written_new Folded = ⊥
 StopsReply written_old written_new NoMemory = Keeps written_old written_new
 
 -- a line at which the serving stops: nothing is written, unless the output failed
@@ -73,6 +74,7 @@ StopsOrder number written_old written_new (NotAStep n) = (n ≡ number) × Keeps
 StopsOrder number written_old written_new Input = ⊥
 StopsOrder number written_old written_new Output = ⊤
 StopsOrder number written_old written_new Socket = ⊥
+StopsOrder number written_old written_new Folded = ⊥
 StopsOrder number written_old written_new NoMemory = Keeps written_old written_new
 
 -- the serving so far
@@ -92,6 +94,7 @@ ServingEnds number read_old input rest (Err (NotAStep n)) = n ≡ number
 ServingEnds number read_old input rest (Err Input) = ⊤
 ServingEnds number read_old input rest (Err Output) = ⊤
 ServingEnds number read_old input rest (Err Socket) = ⊥
+ServingEnds number read_old input rest (Err Folded) = ⊥
 ServingEnds number read_old input rest (Err NoMemory) = ⊤
 
 -- what was written; if the output failed, nobody knows
@@ -101,6 +104,7 @@ IsWritten written_old written_new text (Err (NotAStep n)) = Appends written_old 
 IsWritten written_old written_new text (Err Input) = Appends written_old written_new text
 IsWritten written_old written_new text (Err Output) = ⊤
 IsWritten written_old written_new text (Err Socket) = ⊥
+IsWritten written_old written_new text (Err Folded) = ⊥
 IsWritten written_old written_new text (Err NoMemory) = Appends written_old written_new text
 
 -- the whole of it

@@ -14,11 +14,20 @@ use world_core::Shape;
 #[derive(Clone, Copy, Debug)]
 pub enum Task<'a> {
     /// A run of the schedule on standard input.
-    Run(Shape),
+    Run(ScheduleRun<'a>),
     /// Nodes that serve sessions.
     Serve(Serving<'a>),
     /// The replay of the saved journal of this path.
     Replay(&'a str),
+}
+
+/// What a run is to be.
+#[derive(Clone, Copy, Debug)]
+pub struct ScheduleRun<'a> {
+    /// How many nodes there are, and the memory of each.
+    pub shape: Shape,
+    /// Where the journal of the run is saved, if one is.
+    pub journal: Option<&'a str>,
 }
 
 /// What nodes that serve are to be.
@@ -49,8 +58,8 @@ pub fn read_task<'a>(alloc: Global, words: &'a [String]) -> Result<Task<'a>, Err
             return Ok(Task::Replay(path));
         }
     }
-    match matches.subcommand_matches("run").and_then(shape_asked) {
-        Some(shape) => Ok(Task::Run(shape)),
+    match matches.subcommand_matches("run").and_then(running_asked) {
+        Some(running) => Ok(Task::Run(running)),
         None => Err(command.error(ErrorKind::MissingSubcommand, "a command is missing")?),
     }
 }
@@ -78,13 +87,19 @@ fn run_command<'a>(alloc: Global) -> Result<Command<'a>, AllocError> {
     Command::new(alloc, "run")
         .about("Runs the schedule on standard input, and prints a line for each step")
         .arg(nodes_option(alloc).default_value("1"))?
-        .arg(memory_option(alloc).default_value("1048576"))
+        .arg(memory_option(alloc).default_value("1048576"))?
+        .arg(
+            path_option(alloc, "journal")
+                .required(false)
+                .value_name("PATH")
+                .help("The file in which the journal of the run is saved"),
+        )
 }
 
 /// `serve`, with its options.
 fn serve_command<'a>(alloc: Global) -> Result<Command<'a>, AllocError> {
     Command::new(alloc, "serve")
-        .about("Serves sessions on Unix sockets; nothing is fetched from other nodes yet")
+        .about("Serves sessions on Unix sockets, and fetches objects between the nodes")
         .arg(
             path_option(alloc, "socket")
                 .value_name("PATH")
@@ -114,7 +129,7 @@ fn replay_command<'a>(alloc: Global) -> Result<Command<'a>, AllocError> {
         )
 }
 
-/// An option that is needed, and whose value is a path.
+/// An option whose value is a path, and that is needed.
 fn path_option<'a>(alloc: Global, name: &'a str) -> Arg<'a> {
     Arg::new(alloc, name)
         .long(name)
@@ -153,6 +168,16 @@ fn serving_asked<'a>(options: &ArgMatches<'a>) -> Option<Serving<'a>>
         shape,
         socket,
         spill,
+    })
+}
+
+/// What the options of `run` ask for, if their numbers are in range.
+fn running_asked<'a>(options: &ArgMatches<'a>) -> Option<ScheduleRun<'a>>
+    ensures { IfSome result (λ running. Asks (found_of options.now) running.shape) }
+{
+    Some(ScheduleRun {
+        shape: shape_asked(options)?,
+        journal: options.get_str("journal"),
     })
 }
 

@@ -17,6 +17,8 @@ pub enum Fault {
     Output,
     /// A socket can't be served.
     Socket,
+    /// The journal that is to be saved has lost entries to a fold.
+    Folded,
     /// Out of memory outside a step.
     NoMemory,
 }
@@ -34,6 +36,7 @@ impl Display for Fault {
             Fault::Input => f.write_str("store: input failed"),
             Fault::Output => f.write_str("store: output failed"),
             Fault::Socket => f.write_str("store: socket failed"),
+            Fault::Folded => f.write_str("store: journal folded"),
             Fault::NoMemory => f.write_str("store: no memory"),
         }
     }

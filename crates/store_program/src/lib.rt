@@ -5,14 +5,16 @@
 
 mod command_line;
 mod fault;
+mod journal;
 mod lines;
 mod operator;
 mod run;
 mod serving;
 mod workers;
 
-pub use command_line::{Serving, Task, read_task, status_of_error};
+pub use command_line::{ScheduleRun, Serving, Task, read_task, status_of_error};
 pub use fault::{Fault, status_of};
+pub use journal::{Keep, RunJournal};
 pub use operator::{Order, read_order};
 pub use run::run_text;
 pub use serving::{serve_text, write_report};

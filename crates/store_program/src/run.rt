@@ -1,36 +1,41 @@
 //! Runs of a schedule's text.
-ghost use Rattle.std.specs.Prelude.{◌≡◌, true, false, length, IfOk, OnOk, IfErr};
+ghost use Rattle.std.specs.Prelude.{◌≡◌, [], is_some, true, false, length, IfOk, OnOk, IfErr};
 ghost use Rattle.std.specs.Io.{StopsAt};
 ghost use Rattle.std.specs.Io.KnownBytes.{Consumes, IsAtEnd};
 ghost use Rattle.std.specs.String.{string_bytes};
 ghost use Rattle.world_core.specs.Worlds.{is_shape, is_within};
+ghost use Rattle.store_program.specs.Kept.{IsKept};
 ghost use Rattle.store_program.specs.Runs.{Answers, IsReadingFault, Ran, RunsLine, RunsStep, StopsRun, StopsStep};
 
 use crate::Fault;
+use crate::journal::RunJournal;
 use crate::lines::{Said, finish, hear};
 use crate::workers::Workers;
 use private_store::Step;
 use schedule_text::{Prefix, answer_line};
 use std::alloc::{AllocError, Global};
 use std::io::{BufRead, ErrorKind, Write};
-use world_core::{Shape, World};
+use world_core::{Shape, Stepped, World};
 
-/// Runs the schedule that the reader gives in a new world, and writes a line for each step.
+/// Runs the schedule that the reader gives in a new world, writes a line for each step, and keeps what the steps were to
+/// the jobs in the journal, which has none before.
 ///
 /// The steps are those that the lines spell, in order; the world took them one after another, and
 /// what is written is the lines of its answers, whatever ends the run but a failure of the output.
 /// Empty lines and comments are skipped, and counted. `NotAStep` has the number of the first line
-/// that isn't a step, or that lacks its line feed.
+/// that isn't a step, or that lacks its line feed. After a fault the journal is of no use.
 pub fn run_text<R: BufRead, W: Write>(
     alloc: Global,
     shape: Shape,
     reader: &mut R,
     writer: &mut W,
+    journal: &mut RunJournal,
 ) -> Result<(), Fault>
-    requires { is_shape shape ≡ true }
-    ensures { Ran shape.nodes shape.memory (R.remaining reader.old) (R.remaining reader.new) (W.contents writer.old) (W.contents writer.new) result }
+    requires shape { is_shape shape ≡ true }
+    requires journal { IsKept (is_some journal.old) journal.old [] }
+    ensures { Ran shape.nodes shape.memory (is_some journal.old) journal.new (R.remaining reader.old) (R.remaining reader.new) (W.contents writer.old) (W.contents writer.new) result }
 {
-    let outcome = run_lines(alloc, shape, reader, writer);
+    let outcome = run_lines(alloc, shape, reader, writer, journal);
     // what was answered before a fault goes out as well
     match writer.flush() {
         Ok(()) => outcome,
@@ -44,9 +49,11 @@ fn run_lines<R: BufRead, W: Write>(
     shape: Shape,
     reader: &mut R,
     writer: &mut W,
+    journal: &mut RunJournal,
 ) -> Result<(), Fault>
-    requires { is_shape shape ≡ true }
-    ensures { Ran shape.nodes shape.memory (R.remaining reader.old) (R.remaining reader.new) (W.contents writer.old) (W.contents writer.new) result }
+    requires shape { is_shape shape ≡ true }
+    requires journal { IsKept (is_some journal.old) journal.old [] }
+    ensures { Ran shape.nodes shape.memory (is_some journal.old) journal.new (R.remaining reader.old) (R.remaining reader.new) (W.contents writer.old) (W.contents writer.new) result }
 {
     let Ok(mut world) = World::new(alloc, shape) else {
         return Err(Fault::NoMemory)
@@ -66,6 +73,7 @@ fn run_lines<R: BufRead, W: Write>(
             &mut world,
             &mut workers,
             shape.nodes,
+            journal,
             number,
             &line,
             writer,
@@ -99,13 +107,14 @@ fn run_line<W: Write>(
     world: &mut World,
     workers: &mut Workers,
     nodes: u32,
+    journal: &mut RunJournal,
     number: u64,
     line: &[u8],
     writer: &mut W,
 ) -> Result<(), Fault>
     requires world { length world.old.nodes ≡ nodes }
     requires workers { length workers.old.devices ≡ nodes }
-    ensures ok { OnOk result (RunsLine nodes line.now world.old workers.old world.new workers.new (W.contents writer.old) (W.contents writer.new)) }
+    ensures ok { OnOk result (RunsLine nodes line.now world.old workers.old journal.old world.new workers.new journal.new (W.contents writer.old) (W.contents writer.new)) }
     ensures err { IfErr result (λ fault. StopsRun nodes number line.now (W.contents writer.old) (W.contents writer.new) fault) }
 {
     let Some((b'\n', text)) = line.split_last() else {
@@ -115,7 +124,7 @@ fn run_line<W: Write>(
         Err(AllocError) => Err(Fault::NoMemory),
         Ok(Said::Nothing) => Ok(()),
         Ok(Said::NoStep) => Err(Fault::NotAStep(number)),
-        Ok(Said::Step(step)) => run_step(alloc, world, workers, &step, writer),
+        Ok(Said::Step(step)) => run_step(alloc, world, workers, journal, &step, writer),
         Ok(
             Said::Finish {
                 node,
@@ -131,6 +140,7 @@ fn run_line<W: Write>(
                 alloc,
                 world,
                 workers,
+                journal,
                 &finish(node, job, number, answer),
                 writer,
             )
@@ -143,14 +153,15 @@ fn run_step<W: Write>(
     alloc: Global,
     world: &mut World,
     workers: &mut Workers,
+    journal: &mut RunJournal,
     step: &Step,
     writer: &mut W,
 ) -> Result<(), Fault>
     requires { is_within (length world.old.nodes) step.now ≡ true }
-    ensures ok { OnOk result (RunsStep world.old workers.old step.now world.new workers.new (W.contents writer.old) (W.contents writer.new)) }
+    ensures ok { OnOk result (RunsStep world.old workers.old journal.old step.now world.new workers.new journal.new (W.contents writer.old) (W.contents writer.new)) }
     ensures err { IfErr result (λ fault. StopsStep (W.contents writer.old) (W.contents writer.new) fault) }
 {
-    let Ok(line) = answered(alloc, world, workers, step) else {
+    let Ok(line) = answered(alloc, world, workers, journal, step) else {
         return Err(Fault::NoMemory)
     };
     match writer.write_all(line.as_bytes()) {
@@ -159,18 +170,24 @@ fn run_step<W: Write>(
     }
 }
 
-/// Takes the step, tells the workers of it, and gives the line of its answer.
+/// Takes the step, tells the journal and the workers of it, and gives the line of its answer.
 fn answered(
     alloc: Global,
     world: &mut World,
     workers: &mut Workers,
+    journal: &mut RunJournal,
     step: &Step,
 ) -> Result<String, AllocError>
     requires { is_within (length world.old.nodes) step.now ≡ true }
-    ensures { IfOk result (λ line. Answers world.old workers.old step.now (string_bytes line) world.new workers.new) }
+    ensures { IfOk result (λ line. Answers world.old workers.old journal.old step.now (string_bytes line) world.new workers.new journal.new) }
 {
-    let answer = world.step(step);
+    let Stepped {
+        answer,
+        judged,
+        notes,
+    } = world.step_noted(step);
     let line = answer_line(alloc, Prefix::of(step), &answer)?;
+    journal.keep(step, &answer, judged, notes)?;
     workers.note(step, answer)?;
     Ok(line)
 }

@@ -11,8 +11,10 @@ use serving::serve;
 use std::fs::File;
 use std::io::{BufReader, BufWriter, ErrorKind};
 use std::process::ExitCode;
-use std::{env, io};
-use store_program::{Fault, Task, read_task, run_text, status_of, status_of_error};
+use std::{env, fs, io};
+use store_program::{
+    Fault, Keep, RunJournal, ScheduleRun, Task, read_task, run_text, status_of, status_of_error,
+};
 use world_core::Shape;
 
 fn main(rt: HostRuntime) -> io::Result<ExitCode> {
@@ -25,7 +27,7 @@ fn main(rt: HostRuntime) -> io::Result<ExitCode> {
         }
     };
     let outcome = match task {
-        Task::Run(shape) => run(&rt, shape),
+        Task::Run(running) => run(&rt, running),
         Task::Serve(serving) => serve(rt, rt, serving, rt.reader(), io::writer(&rt)),
         Task::Replay(path) => return replay(&rt, path),
     };
@@ -35,8 +37,23 @@ fn main(rt: HostRuntime) -> io::Result<ExitCode> {
     Ok(ExitCode::from(status_of(&outcome)))
 }
 
-/// Runs the schedule on standard input, and prints its answers.
-fn run(rt: &HostRuntime, shape: Shape) -> Result<(), Fault>
+/// Runs the schedule on standard input, prints its answers, and saves its journal, if it is to be saved.
+fn run(rt: &HostRuntime, running: ScheduleRun) -> Result<(), Fault>
+    requires { is_shape running.shape ≡ true }
+{
+    let Some(path) = running.journal else {
+        let _ = run_kept(rt, running.shape, Keep::Nothing)?;
+        return Ok(());
+    };
+    let text = run_kept(rt, running.shape, Keep::Journal)?;
+    match fs::write(rt, path, text.unwrap_or(Vec::new(rt.alloc())).as_slice()) {
+        Ok(()) => Ok(()),
+        Err(_) => Err(Fault::Output),
+    }
+}
+
+/// Runs the schedule on standard input, prints its answers, and gives the text of its journal, if one is kept.
+fn run_kept(rt: &HostRuntime, shape: Shape, keep: Keep) -> Result<Option<Vec<u8>>, Fault>
     requires { is_shape shape ≡ true }
 {
     let alloc = rt.alloc();
@@ -46,7 +63,11 @@ fn run(rt: &HostRuntime, shape: Shape) -> Result<(), Fault>
     let Ok(mut writer) = BufWriter::new(alloc, io::writer(rt)) else {
         return Err(Fault::NoMemory)
     };
-    run_text(alloc, shape, &mut reader, &mut writer)
+    let Ok(mut journal) = RunJournal::new(alloc, keep) else {
+        return Err(Fault::NoMemory)
+    };
+    run_text(alloc, shape, &mut reader, &mut writer, &mut journal)?;
+    journal.into_text()
 }
 
 /// Replays the saved journal of this path, and prints what came of it.

@@ -8,7 +8,7 @@ use Rattle.store_program.proofs.Within.{said_within, said_finish_within, finish_
 use Rattle.store_program.proofs.run.run_line.Goals as goal
 
 pub returns-in-Ok-Nothing-clause-ok : goal.returns-in-Ok-Nothing-clause-ok
-returns-in-Ok-Nothing-clause-ok g c = nothing_line c.args.nodes c.args.line.now c.in-Some-eq10-default.text.now c.args.world.now c.args.workers.now _ (search rules) (search rules)
+returns-in-Ok-Nothing-clause-ok g c = nothing_line c.args.nodes c.args.line.now c.in-Some-eq10-default.text.now c.args.world.now c.args.workers.now c.args.journal.now _ (search rules) (search rules)
 
 pub run_step-requires : goal.run_step-requires
 run_step-requires g c =
@@ -17,7 +17,7 @@ run_step-requires g c =
 
 pub returns-in-Ok-Step-clause-ok : goal.returns-in-Ok-Step-clause-ok
 returns-in-Ok-Step-clause-ok g c =
-    step_line c.args.nodes c.args.line.now c.in-Some-eq10-default.text.now c.args.world.now c.run_step.new.world c.args.workers.now c.run_step.new.workers _ _ c.run_step.result (search rules)
+    step_line c.args.nodes c.args.line.now c.in-Some-eq10-default.text.now c.args.world.now c.run_step.new.world c.args.workers.now c.run_step.new.workers c.args.journal.now c.run_step.new.journal _ _ c.run_step.result (search rules)
     c.in-Ok-Step.step (search rules) c.run_step.ensures.ok
 
 pub hand_in-requires : goal.hand_in-requires
@@ -34,7 +34,7 @@ run_step-requires-in-Ok-Finish g c =
 
 pub returns-in-Ok-clause-ok : goal.returns-in-Ok-clause-ok
 returns-in-Ok-clause-ok g c =
-    finish_line c.args.nodes c.args.line.now c.in-Some-eq10-default.text.now c.args.world.now c.run_step-in-Ok-Finish.new.world c.args.workers.now c.run_step-in-Ok-Finish.new.workers _ _ c.run_step-in-Ok-Finish.result (search rules)
+    finish_line c.args.nodes c.args.line.now c.in-Some-eq10-default.text.now c.args.world.now c.run_step-in-Ok-Finish.new.world c.args.workers.now c.run_step-in-Ok-Finish.new.workers c.args.journal.now c.run_step-in-Ok-Finish.new.journal _ _ c.run_step-in-Ok-Finish.result (search rules)
     c.hand_in.new.self c.in-Ok-Finish.node c.in-Ok-Finish.job c.in-Ok-Finish.number c.in-Ok-Finish.outcome c.in-Ok.answer (search rules) c.in-Ok.ensures.answer c.in-Ok.ensures.calls
-    (subst (λ s. OnOk c.run_step-in-Ok-Finish.result (RunsStep c.args.world.now c.hand_in.new.self s c.run_step-in-Ok-Finish.new.world c.run_step-in-Ok-Finish.new.workers (g.W.Write.contents c.args.writer.now) (g.W.Write.contents c.run_step-in-Ok-Finish.new.writer)))
+    (subst (λ s. OnOk c.run_step-in-Ok-Finish.result (RunsStep c.args.world.now c.hand_in.new.self c.args.journal.now s c.run_step-in-Ok-Finish.new.world c.run_step-in-Ok-Finish.new.workers c.run_step-in-Ok-Finish.new.journal (g.W.Write.contents c.args.writer.now) (g.W.Write.contents c.run_step-in-Ok-Finish.new.writer)))
     c.finish.ensures c.run_step-in-Ok-Finish.ensures.ok)

@@ -1,0 +1,20 @@
+-- How a run whose journal was folded ends.
+use Rattle.std.proofs.Common.{◌≡◌, true, ℕ, List, Option, None, Some, Result, Ok, Err, is_some, sym, ap, ◌∙◌}
+use Rattle.std.specs.Prelude.{if◌then◌else◌, IfOk}
+use Rattle.private_store.proofs.Tests.{true_false}
+use Rattle.journal_text.specs.declared.saved.Mark.{Mark}
+use Rattle.journal_text.specs.Saved.{Saved, is_folded, saved_text}
+use Rattle.store_program.specs.declared.fault.Fault.{Fault}
+use Rattle.store_program.specs.declared.fault.Fault.TheVariants.{Folded}
+use Rattle.store_program.specs.Kept.{IsKept}
+use Rattle.schedules.specs.Transcripts.{IsJournalEnding, run_ending}
+
+pub folded_ending : (journal : Option Saved) (fault : Fault) (text : List ℕ) → fault ≡ Folded → is_some journal ≡ true → ((marks : List Mark) → IsKept true journal marks → is_folded marks ≡ true)
+    → text ≡ run_ending fault → IsJournalEnding journal text
+folded_ending None fault text is asked full told = true_false asked
+folded_ending (Some saved) fault text is asked full told =
+    λ marks h. told ∙ ap run_ending is ∙ sym (ap (λ b. if b then run_ending Folded else saved_text marks) (full marks h))
+
+pub if_ok : {A E : Type 0} {P Q : A → Type 0} (r : Result A E) → IfOk r P → ((x : A) → P x → Q x) → IfOk r Q
+if_ok (Ok x) h k = k x h
+if_ok (Err e) h k = tt

@@ -1,0 +1,280 @@
+//! The journal of a run, if one is asked for: what each step was to the jobs, in order.
+ghost use Rattle.std.specs.Prelude.{◌≡◌, [], List, true, false, is_some, IfOk, IfErr, IfSome, OnOk, OnErr};
+ghost use Rattle.store_program.specs.declared.fault.Fault.TheVariants.{Folded};
+ghost use Rattle.obj_id.specs.declared.commands.Reply.TheVariants as reply;
+ghost use Rattle.journal_text.specs.declared.saved.Mark.{Mark};
+ghost use Rattle.journal_text.specs.Saved.{is_folded, saved_text, IsSaved};
+ghost use Rattle.private_store.specs.Answers.{brief_reply};
+ghost use Rattle.store_program.specs.Kept.{entries_told, entry_mark, entry_place as entry_place_lem, input_said, kept_under as kept_under_lem, note_mark as note_mark_lem, reply_said, is_asked, with_notes, IsKept, Kept, KeepsStep};
+
+use crate::Fault;
+use bytes::Bytes;
+use journal_text::{Answered, JobAt, LineInput, Mark, SavedJournal};
+use node_core::Note;
+use obj_id::{Items, JobNo, Location, Message, Place, Refusal, Reply, Work};
+use private_store::{Event, Judged, Step, StepAnswer};
+use std::alloc::{AllocError, Global};
+use std::marker::Model;
+
+/// Whether a journal is kept.
+#[derive(Clone, Copy, Debug, PartialEq, Eq)]
+pub enum Keep {
+    Journal,
+    Nothing,
+}
+
+/// The journal of a run, if one is kept.
+#[derive(Drop)]
+pub struct RunJournal {
+    alloc: Global,
+    saved: Option<SavedJournal>,
+}
+
+impl Model for RunJournal {
+    ghost use Rattle.std.specs.Prelude.{Option};
+    ghost use Rattle.journal_text.specs.Saved.{Saved};
+
+    ghost Value = { Option Saved };
+
+    ghost view = { λ j. j.saved };
+}
+
+impl RunJournal {
+    /// Of a run without a step.
+    pub fn new(alloc: Global, keep: Keep) -> Result<RunJournal, AllocError>
+        ensures asked { IfOk result (λ journal. is_some journal ≡ is_asked keep) }
+        ensures kept { IfOk result (λ journal. IsKept (is_some journal) journal []) }
+    {
+        let saved = match keep {
+            Keep::Journal => Some(SavedJournal::new(alloc)?),
+            Keep::Nothing => None,
+        };
+        Ok(RunJournal { alloc, saved })
+    }
+
+    /// Keeps a step with its answer: its entry, if it makes one, and its notes.
+    pub(crate) fn keep(
+        &mut self,
+        step: &Step,
+        answer: &StepAnswer,
+        judged: Option<Judged>,
+        notes: Items<Note>,
+    ) -> Result<(), AllocError>
+        ensures { OnOk result (KeepsStep self.old step.now answer.now (record { judged = judged; notes = notes }) self.new) }
+    {
+        let RunJournal { alloc, saved } = self;
+        let Some(saved) = saved else { return Ok(()) };
+        let Some(place) = entry_place(step, answer) else {
+            return Ok(())
+        };
+        let mark = entry_mark(*alloc, place, answer, judged)?;
+        saved.add(mark)?;
+        add_notes(*alloc, saved, place.node, notes)
+    }
+
+    /// The text of the journal, if one is kept. `Folded`, if one of its lists was folded.
+    pub fn into_text(self) -> Result<Option<Vec<u8>>, Fault>
+        ensures text { IfOk result (λ o. IfSome o (λ text. (marks : List Mark) → IsKept true self marks → (is_folded marks ≡ false) × (text.items ≡ saved_text marks))) }
+        ensures kept { IfOk result (λ o. is_some o ≡ is_some self) }
+        ensures folded { IfErr result (λ fault. fault ≡ Folded) }
+        ensures asked { OnErr result (is_some self ≡ true) }
+        ensures full { OnErr result ((marks : List Mark) → IsKept true self marks → is_folded marks ≡ true) }
+    {
+        let Some(saved) = self.saved else {
+            return Ok(None)
+        };
+        match saved.into_text() {
+            Some(text) => Ok(Some(text)),
+            None => Err(Fault::Folded),
+        }
+    }
+}
+
+/// Adds the notes of a step at the node.
+fn add_notes(
+    alloc: Global,
+    saved: &mut SavedJournal,
+    node: u32,
+    notes: Items<Note>,
+) -> Result<(), AllocError>
+    ensures { OnOk result ((marks : List Mark) → IsSaved saved.old marks → IsSaved saved.new (with_notes node notes marks)) }
+{
+    for note in notes.into_vec() {
+        saved.add(note_mark(alloc, node, note))?;
+    }
+    Ok(())
+}
+
+/// A note of a step at the node. Takes no memory.
+fn note_mark(alloc: Global, node: u32, note: Note) -> Mark
+    ensures { result ≡ note_mark_lem node note }
+{
+    let Note { job, input } = note;
+    Mark {
+        place: JobAt { node, job },
+        line: Some(Answered {
+            input: line_input(Items::new(alloc), input),
+            reply: Reply::Ok,
+        }),
+    }
+}
+
+/// The job at its node under which a step is kept, if it makes an entry. Takes no memory.
+fn entry_place(step: &Step, answer: &StepAnswer) -> Option<JobAt>
+    ensures { result ≡ entry_place_lem step.now answer.now }
+{
+    match (step, answer) {
+        (_, StepAnswer::Told(Reply::Refused(Refusal::NoMemory))) => None,
+        (Step::At(node, event), StepAnswer::Told(reply)) => Some(JobAt {
+            node: *node,
+            job: kept_under(event, reply),
+        }),
+        (
+            Step::Deliver {
+                job,
+                to: Place::Node(node),
+                ..
+            },
+            StepAnswer::Told(_) | StepAnswer::HandedOver(_),
+        ) => Some(JobAt {
+            node: *node,
+            job: *job,
+        }),
+        _ => None,
+    }
+}
+
+/// The job under which an event with this answer is kept: 0 for one of none.
+fn kept_under(event: &Event, reply: &Reply<Bytes>) -> JobNo
+    ensures { result ≡ kept_under_lem event.now reply.now }
+{
+    match event {
+        Event::Admit(job, _, _) => *job,
+        Event::Requota(job, _) => *job,
+        Event::JobEnd(job) => *job,
+        Event::Take => match reply {
+            Reply::Work(work) => work.job,
+            _ => JobNo(0),
+        },
+        Event::Finish(job, _, _) => *job,
+        Event::Call(job, _, _) => *job,
+    }
+}
+
+/// The entry of a step that was this to its job.
+fn entry_mark(
+    alloc: Global,
+    place: JobAt,
+    answer: &StepAnswer,
+    judged: Option<Judged>,
+) -> Result<Mark, AllocError>
+    ensures { IfOk result (λ mark. mark ≡ entry_mark place answer.now judged) }
+{
+    let Some(judged) = judged else {
+        return Ok(Mark { place, line: None })
+    };
+    let input = line_input(entries_told(alloc, answer)?, judged);
+    let reply = reply_said(alloc, answer)?;
+    Ok(Mark {
+        place,
+        line: Some(Answered { input, reply }),
+    })
+}
+
+/// The entries of the directory's message that was handed over.
+fn entries_told(alloc: Global, answer: &StepAnswer) -> Result<Items<Location>, AllocError>
+    ensures { IfOk result (λ entries. entries ≡ entries_told answer.now) }
+{
+    match answer {
+        StepAnswer::HandedOver(Message::Located(_, _, entries)) => copied(
+            alloc,
+            entries.as_slice(),
+        ),
+        _ => Ok(Items::new(alloc)),
+    }
+}
+
+/// A copy of the items.
+fn copied<T: Copy>(alloc: Global, items: &[T]) -> Result<Items<T>, AllocError>
+    ensures { IfOk result (λ copy. copy ≡ items.now) }
+{
+    Ok(Items::from_vec(Vec::from_slice(alloc, items)?))
+}
+
+/// What a line says of an input, where these are the entries of the directory's message. Takes no memory.
+fn line_input(entries: Items<Location>, judged: Judged) -> LineInput
+    ensures { result ≡ input_said entries judged }
+{
+    match judged {
+        Judged::Begin(quota) => LineInput::Begin(quota),
+        Judged::Requota(quota) => LineInput::Requota(quota),
+        Judged::Call(session, command) => LineInput::Call(session, command),
+        Judged::Answer(number, verdict) => LineInput::Answer(number, verdict),
+        Judged::Located(id, number, _) => LineInput::Located(id, number, entries),
+        Judged::Chunk(id, number, index, from, verdict) => {
+            LineInput::Chunk(id, number, index, from, verdict)
+        }
+        Judged::Pull(id, number, matched) => LineInput::Pull(id, number, matched),
+        Judged::NotHere(id, number, from) => LineInput::NotHere(id, number, from),
+        Judged::Received {
+            id,
+            length,
+            giver,
+            depth,
+        } => LineInput::Received {
+            id,
+            length,
+            giver,
+            depth,
+        },
+        Judged::Withdrawn(id, giver, depth) => LineInput::Withdrawn(id, giver, depth),
+        Judged::End => LineInput::End,
+    }
+}
+
+/// What a line says of an answer.
+fn reply_said(alloc: Global, answer: &StepAnswer) -> Result<Reply<u64>, AllocError>
+    ensures { IfOk result (λ said. said ≡ reply_said answer.now) }
+{
+    match answer {
+        StepAnswer::Told(reply) => brief_reply(alloc, reply),
+        StepAnswer::HandedOver(_) | StepAnswer::NoMessage => Ok(Reply::Ok),
+    }
+}
+
+/// The reply without contents: bytes as their number.
+fn brief_reply(alloc: Global, reply: &Reply<Bytes>) -> Result<Reply<u64>, AllocError>
+    ensures { IfOk result (λ said. said ≡ brief_reply reply.now) }
+{
+    match reply {
+        Reply::Ok => Ok(Reply::Ok),
+        Reply::Placed(offset, extent) => Ok(Reply::Placed(*offset, *extent)),
+        Reply::Got(length) => Ok(Reply::Got(*length)),
+        Reply::Bytes(bytes) => Ok(Reply::Bytes(bytes.len() as u64)),
+        Reply::List(own, granted) => {
+            let own = copied(alloc, own.as_slice())?;
+            Ok(Reply::List(own, copied(alloc, granted.as_slice())?))
+        }
+        Reply::Usage(usage) => Ok(Reply::Usage(*usage)),
+        Reply::Work(work) => Ok(Reply::Work(brief_work(work))),
+        Reply::NoWork => Ok(Reply::NoWork),
+        Reply::Refused(refusal) => Ok(Reply::Refused(*refusal)),
+    }
+}
+
+/// The work with the number of its bytes. Takes no memory.
+fn brief_work(work: &Work<Bytes>) -> Work<u64>
+    ensures { brief_reply (reply.Work work.now) ≡ reply.Work result }
+{
+    Work {
+        job: work.job,
+        number: work.number,
+        kind: work.kind,
+        key: work.key,
+        length: work.length,
+        payload: match &work.payload {
+            Some(bytes) => Some(bytes.len() as u64),
+            None => None,
+        },
+    }
+}
