@@ -53,7 +53,8 @@ NotesNothing judged notes = (judged ≡ None) × (notes ≡ [])
 -- what a step with this answer was to the jobs
 pub data IsNoted (old : Hosting) (judged : Option Judged) (notes : List Note) : Step → StepAnswer → Type 0 where
   keeps_event : (place : ℕ) (e : Event) (told : Reply (List ℕ)) → IsEventNoted old place e told judged notes → IsNoted old judged notes (At place e) (Told told)
-  keeps_arrival : (job : JobNo) (from : Place) (place m : ℕ) (damage : Bool) (a : Arrival) (told : Reply (List ℕ)) → IsArrivalNoted old place job a told judged notes
+  keeps_arrival : (job : JobNo) (from : Place) (place m : ℕ) (damage : Bool) (a : Arrival) (told : Reply (List ℕ))
+      → arrival_of from (message_of a) ≡ Some a → IsArrivalNoted old place job a told judged notes
       → IsNoted old judged notes (Deliver job from (Node place) m damage) (handed (message_of a) told)
   -- what isn't made for a node
   passes_node : (job : JobNo) (from : Place) (place m : ℕ) (damage : Bool) (msg : Message) (told : Reply (List ℕ)) → arrival_of from msg ≡ None → NotesNothing judged notes

@@ -1,6 +1,7 @@
 use Rattle.std.proofs.Common.{None, [], sym, ap, subst, refl, ◌∙◌}
 use Rattle.obj_id.specs.declared.messages.Place.TheVariants as places
 use Rattle.private_store.specs.declared.schedules.Step.TheVariants as steps
+use Rattle.private_store.specs.Cluster.{arrival_of}
 use Rattle.world_core.specs.Moves.{handed, Hands, past_node}
 use Rattle.world_core.specs.Noting.{IsNoted, keeps_arrival, passes_node}
 use Rattle.world_core.proofs.HandedOver.{arrived, message_again}
@@ -24,7 +25,9 @@ returns-in_ok-given-in-Ok-clause-kept c = λ number damaged.
     let given = c.in_ok-given-in-Ok.given in
     subst (λ told. IsNoted c.args.self.now given.judged given.notes (steps.Deliver c.args.job c.args.from (places.Node c.args.place) number damaged) told)
     (sym (c.handed.ensures ∙ ap (λ m. handed m given.reply) c.message_of.ensures))
-    (keeps_arrival c.args.job c.args.from c.args.place number damaged c.in-Ok.arriving given.reply c.in_ok-given-in-Ok.ensures.kept)
+    (keeps_arrival c.args.job c.args.from c.args.place number damaged c.in-Ok.arriving given.reply
+    (ap (arrival_of c.args.from) (message_again c.args.from c.args.message c.in-Ok.arriving c.in-Ok.ensures.made) ∙ c.in-Ok.ensures.made)
+    c.in_ok-given-in-Ok.ensures.kept)
 
 pub returns-in-Err-clause-kept : goal.returns-in-Err-clause-kept
 returns-in-Err-clause-kept c = λ number damaged.
