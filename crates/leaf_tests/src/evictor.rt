@@ -8,10 +8,6 @@ use obj_id::{JobNo, ObjectId, Refusal, TaskNo};
 use std::alloc::Global;
 use std::test::Fail;
 
-const JOB: JobNo = JobNo(1);
-
-const NEIGHBOUR: JobNo = JobNo(2);
-
 /// A copy that stays: created, held or granted.
 const STAYS: CopyFacts = CopyFacts {
     extent: None,
@@ -65,7 +61,7 @@ impl CopyLookup for Copies {
 #[derive(Drop)]
 struct Store {
     window: Window,
-    orders: UseOrder,
+    order: UseOrder,
     copies: Copies,
 }
 
@@ -73,7 +69,7 @@ impl Store {
     fn new(alloc: Global, quota: u64) -> Result<Store, Refusal> {
         Ok(Store {
             window: Window::new(alloc, quota)?,
-            orders: UseOrder::new(alloc),
+            order: UseOrder::new(alloc),
             copies: Copies {
                 by_id: IndexMap::new(alloc),
             },
@@ -90,17 +86,17 @@ impl Store {
             ..facts
         };
         self.copies.by_id.insert(id, facts)?;
-        self.orders.enter(JOB, id)
+        self.order.enter(id)
     }
 
     fn plan(&self, alloc: Global, len: u32, device: DeviceRoom) -> Result<Plan, Refusal> {
-        self.orders
-            .plan(alloc, JOB, len, device, &self.window, &self.copies)
+        self.order
+            .plan(alloc, len, device, &self.window, &self.copies)
     }
 }
 
 fn object(index: u32) -> Result<ObjectId, Refusal> {
-    ObjectId::new(TaskNo::numbered(7), JOB, index)
+    ObjectId::new(TaskNo::numbered(7), JobNo(1), index)
 }
 
 /// Whether these are the ids of these indexes.
@@ -126,9 +122,9 @@ fn spills(plan: &Plan, indexes: &[u32]) -> bool {
     }
 }
 
-/// Whether the job's ids, from the least recently used on, have these indexes.
-fn stands(orders: &UseOrder, job: JobNo, indexes: &[u32]) -> bool {
-    let mut left = orders.order(job);
+/// Whether the ids, from the least recently used on, have these indexes.
+fn stands(order: &UseOrder, indexes: &[u32]) -> bool {
+    let mut left = order.order();
     for index in indexes {
         if left.next().map(|id| id.index()) != Some(*index) {
             return false;
@@ -138,37 +134,36 @@ fn stands(orders: &UseOrder, job: JobNo, indexes: &[u32]) -> bool {
 }
 
 /// Enters the id, once more if memory ran out: nothing has changed then.
-fn enter(orders: &mut UseOrder, job: JobNo, index: u32, before: &[u32]) -> Result<bool, Refusal> {
+fn enter(order: &mut UseOrder, index: u32, before: &[u32]) -> Result<bool, Refusal> {
     let id = object(index)?;
-    match orders.enter(job, id) {
+    match order.enter(id) {
         Ok(()) => Ok(true),
         Err(_) => {
-            let kept = stands(orders, job, before);
-            orders.enter(job, id)?;
+            let kept = stands(order, before);
+            order.enter(id)?;
             Ok(kept)
         }
     }
 }
 
 /// Enters ids of these indexes. Whether they stand in this order, and did as far as they were entered where memory ran out.
-fn all_entered(orders: &mut UseOrder, job: JobNo, indexes: &[u32]) -> Result<bool, Refusal> {
+fn all_entered(order: &mut UseOrder, indexes: &[u32]) -> Result<bool, Refusal> {
     let mut entered = 0usize;
     let mut all = true;
     for index in indexes {
         let (before, _) = indexes.split_at(entered.min(indexes.len()));
-        all = all && enter(orders, job, *index, before)?;
+        all = all && enter(order, *index, before)?;
         entered = entered.saturating_add(1);
     }
-    Ok(all && stands(orders, job, indexes))
+    Ok(all && stands(order, indexes))
 }
 
 #[test]
-fn a_job_s_ids_stand_in_the_order_of_their_use(rt: HostRuntime) -> Result<(), Fail> {
-    let mut orders = UseOrder::new(rt.alloc());
-    holds!(rt; all_entered(&mut orders, JOB, &[1, 2, 3, 4, 5, 6, 7, 8, 9])?);
-    holds!(rt; all_entered(&mut orders, NEIGHBOUR, &[4, 1])?);
-    holds!(rt; enter(&mut orders, NEIGHBOUR, 4, &[4, 1])?);
-    holds!(rt; stands(&orders, NEIGHBOUR, &[1, 4]));
+fn ids_stand_in_the_order_of_their_use(rt: HostRuntime) -> Result<(), Fail> {
+    let mut order = UseOrder::new(rt.alloc());
+    holds!(rt; all_entered(&mut order, &[4, 1, 2, 3, 5, 6, 7, 8, 9])?);
+    holds!(rt; enter(&mut order, 4, &[4, 1, 2, 3, 5, 6, 7, 8, 9])?);
+    holds!(rt; stands(&order, &[1, 2, 3, 5, 6, 7, 8, 9, 4]));
     Ok(())
 }
 

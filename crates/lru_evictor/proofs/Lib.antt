@@ -1,5 +1,4 @@
 pub mod CacheOrders
-pub mod AllOrders
 pub mod Reorders
 pub mod Free
 pub mod Shortest

@@ -1,4 +1,4 @@
-//! The order of use of one job's copies.
+//! The order of use of a job that has copies.
 ghost use Rattle.std.specs.Prelude.{◌≡◌, ◌++◌, ◌∷◌, [], true, IfOk, OnOk, OnErr, IsOk, length, nat_eq, reverse};
 ghost use Rattle.std.specs.Map.{keys_of};
 ghost use Rattle.private_store.specs.Tables.{is_among};
@@ -9,7 +9,7 @@ use obj_id::ObjectId;
 use std::alloc::{AllocError, Global};
 use std::marker::Model;
 
-/// The order of use of one job's copies. A contract sees the ids, least recently used first.
+/// The order of use of a job that has copies. A contract sees their ids, least recently used first.
 #[derive(Drop)]
 pub(crate) struct JobOrder {
     // Unbounded, so that it never pushes an id out: how many copies a job may have is the command's to

@@ -1,6 +1,6 @@
-//! The order of use of the copies of all jobs, and the plan for room in a job's window. A contract sees
-//! an order of use as the ids of each job, least recently used first; the plan is the rule of room over
-//! the asking job's copies, which it looks up one at a time.
+//! The order of use of one job's copies, and the plan for room in its window. A contract sees an order of
+//! use as the job's ids, least recently used first; the plan is the rule of room over the job's copies,
+//! which it looks up one at a time.
 #![tactic(auto)]
 
 mod facts;

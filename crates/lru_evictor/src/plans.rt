@@ -3,7 +3,6 @@ ghost use Rattle.std.specs.Prelude.{◌≡◌, ◌+◌, ◌<◌, ◌≤◌, ◌+
 ghost use Rattle.obj_id.specs.declared.refusals.Refusal.{Refusal};
 ghost use Rattle.private_store.specs.Shape.{Shape};
 ghost use Rattle.private_store.specs.Room.{plan as room_plan};
-ghost use Rattle.lru_evictor.specs.Orders.{order_of};
 ghost use Rattle.lru_evictor.specs.Facts.{bytes_at, device_bytes, fits_without as is_room_without};
 ghost use Rattle.lru_evictor.specs.Plans.{shown, plan_of, makes_room, IsDescribed, IsVacant, evict_here, spill_here};
 ghost use Rattle.lru_evictor.specs.declared.facts.RoomFound.TheVariants.{Place};
@@ -13,7 +12,7 @@ use crate::search::{extents_by_offset, gather, shortest};
 use crate::use_order::UseOrder;
 use job_region::Window;
 use obj_id::limits::MOST_WORKS;
-use obj_id::{Items, JobNo, ObjectId, Refusal};
+use obj_id::{Items, ObjectId, Refusal};
 use std::alloc::Global;
 
 impl UseOrder {
@@ -26,19 +25,18 @@ impl UseOrder {
     pub fn plan<C: CopyLookup>(
         &self,
         alloc: Global,
-        job: JobNo,
         len: u32,
         device: DeviceRoom,
         window: &Window,
         copies: &C,
     ) -> Result<Plan, Refusal>
         ensures plan { IfOk result (λ p. (store : Shape) → IsDescribed store window.now device (C.facts copies.now)
-            → shown p ≡ room_plan (order_of job.0 self.now) store len) }
+            → shown p ≡ room_plan self.now store len) }
         ensures room { IfOk result (λ p. makes_room window.now (C.facts copies.now) len (shown p) ≡ true) }
         ensures memory { (r : Refusal) → result ≡ Err r → r ≡ Refusal.NoMemory }
     {
         let mut ids = Vec::new(alloc);
-        let least_used = self.order(job);
+        let least_used = self.order();
         let evicted = shortest(
             alloc,
             least_used,
@@ -52,9 +50,9 @@ impl UseOrder {
             ids.truncate(count);
             return Ok(eviction(ids));
         }
-        gather(self.order(job), Choice::Passing, copies, &mut ids)?;
+        gather(self.order(), Choice::Passing, copies, &mut ids)?;
         let passing = ids.len();
-        let order = self.order(job);
+        let order = self.order();
         match shortest(
             alloc,
             order,
@@ -80,18 +78,17 @@ impl UseOrder {
     pub fn find_room<C: CopyLookup>(
         &self,
         alloc: Global,
-        job: JobNo,
         len: u32,
         device: DeviceRoom,
         window: &Window,
         copies: &C,
     ) -> Result<RoomFound, Refusal>
         ensures plan { IfOk result (λ r. (store : Shape) → IsDescribed store window.now device (C.facts copies.now)
-            → plan_of r ≡ room_plan (order_of job.0 self.now) store len) }
+            → plan_of r ≡ room_plan self.now store len) }
         ensures place { IfOk result (λ r. (v : Vacancy) → r ≡ Place v → IsVacant window.now (C.facts copies.now) len v) }
         ensures memory { (r : Refusal) → result ≡ Err r → r ≡ Refusal.NoMemory }
     {
-        match self.plan(alloc, job, len, device, window, copies)? {
+        match self.plan(alloc, len, device, window, copies)? {
             Plan::Fits => place(alloc, window, copies, Items::new(alloc), len),
             Plan::Evict(ids) => place(alloc, window, copies, ids, len),
             Plan::Wait => Ok(RoomFound::Wait),

@@ -1,82 +1,74 @@
-//! The order of use of the copies of all jobs.
-ghost use Rattle.std.specs.Prelude.{◌≡◌, ◌≢◌, ℕ, ◌++◌, ◌∷◌, [], true, IfOk, OnOk, OnErr, IsOk, length};
+//! The order of use of one job's copies.
+ghost use Rattle.std.specs.Prelude.{◌≡◌, ◌++◌, ◌∷◌, [], true, IfOk, OnOk, OnErr, IsOk, length};
 ghost use Rattle.obj_id.specs.declared.refusals.Refusal.{Refusal};
 ghost use Rattle.private_store.specs.Tables.{is_among};
-ghost use Rattle.lru_evictor.specs.Orders.{order_of, without_id, without_ids, last_used, touched, ChangesOrder};
+ghost use Rattle.lru_evictor.specs.Orders.{without_id, without_ids, last_used, touched};
 
 use crate::job_order::JobOrder;
-use indexmap::IndexMap;
 use lru::Iter;
-use obj_id::{JobNo, ObjectId, Refusal};
+use obj_id::{ObjectId, Refusal};
 use std::alloc::Global;
 use std::marker::Model;
 
-/// The order of use of the copies of all jobs. A contract sees, for each job that has any, its ids with
-/// the least recently used first.
+/// The order of use of one job's copies. A contract sees their ids, least recently used first.
 #[derive(Drop)]
 pub struct UseOrder {
     alloc: Global,
-    // One order a job, made with its first copy and dropped with its last: no job's use moves another's.
-    jobs: IndexMap<JobNo, JobOrder>,
+    // Made with the job's first copy and dropped with its last: a job without copies takes no memory.
+    cache: Option<JobOrder>,
 }
 
 impl Model for UseOrder {
-    ghost use Rattle.lru_evictor.specs.Orders.{Orders, EachHasCopies};
+    ghost use Rattle.std.specs.Prelude.{List, []};
+    ghost use Rattle.std.specs.Option.{unwrap_or};
+    ghost use Rattle.obj_id.specs.declared.ids.ObjectId.{ObjectId};
 
-    ghost Value = { Orders };
+    ghost Value = { List ObjectId };
 
-    ghost view = { λ o. o.jobs.entries };
-
-    ghost invariant = { λ o. EachHasCopies o.jobs.entries };
+    ghost view = { λ o. unwrap_or o.cache [] };
 }
 
 impl UseOrder {
-    /// No job has a copy. Takes no memory.
+    /// The job has no copy. Takes no memory.
     pub fn new(alloc: Global) -> UseOrder
         ensures { result ≡ [] }
     {
-        UseOrder {
-            alloc,
-            jobs: IndexMap::new(alloc),
-        }
+        UseOrder { alloc, cache: None }
     }
 
-    /// Makes the id the job's most recently used, whether or not it was there. `NoMemory` alone, and then
+    /// Makes the id the most recently used, whether or not it was there. `NoMemory` alone, and then
     /// nothing has changed; an id that is there takes no memory.
-    pub fn enter(&mut self, job: JobNo, id: ObjectId) -> Result<(), Refusal>
-        ensures ok { OnOk result (ChangesOrder self.old self.new job.0 (last_used id (order_of job.0 self.old))) }
-        ensures succeeds { is_among (order_of job.0 self.old) id ≡ true → IsOk result }
+    pub fn enter(&mut self, id: ObjectId) -> Result<(), Refusal>
+        ensures ok { OnOk result (self.new ≡ last_used id self.old) }
+        ensures succeeds { is_among self.old id ≡ true → IsOk result }
         ensures err { OnErr result (self.new ≡ self.old) }
         ensures memory { (r : Refusal) → result ≡ Err r → r ≡ Refusal.NoMemory }
     {
-        match self.jobs.get_mut(&job) {
-            Some(order) => {
-                order.enter(id)?;
-                Ok(())
-            }
+        match &mut self.cache {
+            Some(order) => order.enter(id)?,
             None => {
                 let order = JobOrder::first(self.alloc, id)?;
-                self.jobs.insert(job, order)?;
-                Ok(())
+                self.cache = Some(order);
             }
         }
+        Ok(())
     }
 
-    /// Makes the id the job's most recently used, if it is there. Takes no memory.
-    pub fn touch(&mut self, job: JobNo, id: ObjectId)
-        ensures { ChangesOrder self.old self.new job.0 (touched id (order_of job.0 self.old)) }
+    /// Makes the id the most recently used, if it is there. Takes no memory.
+    pub fn touch(&mut self, id: ObjectId)
+        ensures { self.new ≡ touched id self.old }
     {
-        let Some(order) = self.jobs.get_mut(&job) else {
+        let Some(order) = &mut self.cache else {
             return;
         };
         order.touch(&id);
     }
 
-    /// Takes the id out of the job's order, if it is there. Takes no memory.
-    pub fn forget(&mut self, job: JobNo, id: ObjectId)
-        ensures { ChangesOrder self.old self.new job.0 (without_id id (order_of job.0 self.old)) }
+    /// Takes the id out, if it is there. Takes no memory.
+    pub fn forget(&mut self, id: ObjectId)
+        ensures { self.new ≡ without_id id self.old }
     {
-        let left = match self.jobs.get_mut(&job) {
+        let left = match &mut self.cache {
             None => return,
             Some(order) => {
                 order.forget(&id);
@@ -84,34 +76,34 @@ impl UseOrder {
             }
         };
         if left == 0 {
-            self.jobs.shift_remove(&job);
+            self.cache = None;
         }
     }
 
-    /// Takes these ids out of the job's order, as far as they are there. Takes no memory.
-    pub fn forget_all(&mut self, job: JobNo, ids: &[ObjectId])
-        ensures { ChangesOrder self.old self.new job.0 (without_ids ids.now (order_of job.0 self.old)) }
+    /// Takes these ids out, as far as they are there. Takes no memory.
+    pub fn forget_all(&mut self, ids: &[ObjectId])
+        ensures { self.new ≡ without_ids ids.now self.old }
     {
         for id in ids {
-            self.forget(job, *id);
+            self.forget(*id);
         }
     }
 
-    /// Whether the id is in the job's order.
-    pub fn has(&self, job: JobNo, id: &ObjectId) -> bool
-        ensures { result ≡ is_among (order_of job.0 self.now) id.now }
+    /// Whether the id is there.
+    pub fn has(&self, id: &ObjectId) -> bool
+        ensures { result ≡ is_among self.now id.now }
     {
-        match self.jobs.get(&job) {
+        match &self.cache {
             Some(order) => order.has(id),
             None => false,
         }
     }
 
-    /// The job's ids, from the least recently used on. Takes no memory.
-    pub fn order(&self, job: JobNo) -> Order<'_>
-        ensures { result ≡ order_of job.0 self.now }
+    /// The ids, from the least recently used on. Takes no memory.
+    pub fn order(&self) -> Order<'_>
+        ensures { result ≡ self.now }
     {
-        match self.jobs.get(&job) {
+        match &self.cache {
             Some(order) => Order {
                 entries: Some(order.iter()),
             },

@@ -25,7 +25,6 @@ use Rattle.private_store.proofs.Tests.{both, or_left, or_right}
 use Rattle.job_region.specs.Region.{Region, extents_of, place_for, place_check, without}
 use Rattle.lru_evictor.specs.declared.facts.DeviceRoom.{DeviceRoom}
 use Rattle.lru_evictor.specs.declared.facts.Plan.{Plan as Found}
-use Rattle.lru_evictor.specs.Orders.{Orders, order_of}
 use Rattle.lru_evictor.specs.Plans.{IsDescribed, shown}
 use Rattle.lru_evictor.proofs.Described.{fits-described}
 use Rattle.spill_work.specs.Line.{WorkLine, works_of, in_flight, used_by}
@@ -166,9 +165,9 @@ module _ (row : Row) (beside : Beside) (contents : Contents) (h : IsShown row be
           (described row beside contents h placed device of_job
           (walked ∙ ap (total device_bytes) same ∙ device_is row beside contents h) (counted ∙ ap (in_flight line) own ∙ ap length (sym works_are))))
 
-      pub plan_exit : (orders : Orders) → order_of row.job orders ≡ row.order → (p : Found)
-          → ((store : Shape) → IsDescribed store window device (facts_at copies) → shown p ≡ plan (order_of job.0 orders) store n)
+      pub plan_exit : (order : List ObjectId) → order ≡ row.order → (p : Found)
+          → ((store : Shape) → IsDescribed store window device (facts_at copies) → shown p ≡ plan order store n)
           → (asked : ℕ) → asked ≡ used_by line job → (failed : Bool) → failed ≡ row.spill_failed → (told : RoomPlan) → told ≡ plan_by asked failed (shown p) → IsPlanned (make_room row.order s n) s n told
-      plan_exit orders order p is_plan asked is_asked failed is_failed told is =
+      plan_exit order own_order p is_plan asked is_asked failed is_failed told is =
           subst (IsPlanned (make_room row.order s n) s n)
-          (sym (is ∙ (λ i. plan_by ((is_asked ∙ ap (used_by line) own ∙ sym used_is) i) (is_failed i) ((is_plan s as_described ∙ ap (λ o. plan o s n) (ap (λ (j : JobNo). order_of j.0 orders) own ∙ order)) i)))) planned
+          (sym (is ∙ (λ i. plan_by ((is_asked ∙ ap (used_by line) own ∙ sym used_is) i) (is_failed i) ((is_plan s as_described ∙ ap (λ o. plan o s n) own_order) i)))) planned

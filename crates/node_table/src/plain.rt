@@ -61,7 +61,7 @@ impl JobRow {
     {
         let job = self.job();
         let copies = self.copies().plain(alloc)?;
-        let order = listed(alloc, self.use_order().order(job))?;
+        let order = listed(alloc, self.use_order().order())?;
         let ended_tasks = self.ended_tasks(alloc)?;
         let in_flight = plain_works(alloc, works, job)?;
         Ok(PlainStore {

@@ -92,7 +92,7 @@ impl JobRow {
             works: works.in_flight(job),
         };
         let order = self.use_order();
-        let plan = order.plan(alloc, job, len, device, window, copies)?;
+        let plan = order.plan(alloc, len, device, window, copies)?;
         Ok(room_plan(alloc, works.asked(job), self.spill_failed(), plan))
     }
 }

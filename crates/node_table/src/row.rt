@@ -14,7 +14,7 @@ ghost use Rattle.private_store.specs.Copies.{is_created};
 ghost use Rattle.private_store.specs.Kept.{is_remembered, is_restoring};
 ghost use Rattle.node_table.specs.Usages.{is_spilling};
 ghost use Rattle.node_table.specs.Answering.{written_row, refilled, lost_row};
-ghost use Rattle.lru_evictor.specs.Orders.{order_of, touched, last_used};
+ghost use Rattle.lru_evictor.specs.Orders.{touched, last_used};
 ghost use Rattle.node_table.specs.Entries.{changed, all_changed, each_changed};
 ghost use Rattle.node_table.specs.Kept.{Kept, sealed, held, released, left, spilling_if, fetched_kept, unpinned, borrowed, given_up, doomed, marked, fault_told, new_kept, waits_for_place, placed_for, CanAwait};
 ghost use Rattle.node_table.specs.Checks.{release_check, borrow_check};
@@ -59,12 +59,11 @@ pub struct JobRow {
 }
 
 impl Model for JobRow {
-    ghost use Rattle.lru_evictor.specs.Orders.{order_of};
     ghost use Rattle.node_table.specs.Row.{Row, place_of, ArePlaced};
 
     ghost Value = { Row };
 
-    ghost view = { λ r. record { job = r.job.0; window = r.window; device = r.device; copies = r.copies; order = order_of r.job.0 r.order; fetches_begun = r.fetches_begun; spill_failed = r.spill_failed; ended_tasks = r.ended_tasks.keys } };
+    ghost view = { λ r. record { job = r.job.0; window = r.window; device = r.device; copies = r.copies; order = r.order; fetches_begun = r.fetches_begun; spill_failed = r.spill_failed; ended_tasks = r.ended_tasks.keys } };
 
     ghost invariant = { λ r. ArePlaced r.window.placed (place_of r.copies) };
 }
@@ -156,7 +155,7 @@ impl JobRow {
 
     /// The order of use of its copies.
     pub(crate) fn use_order(&self) -> &UseOrder
-        ensures { order_of self.now.job result.now ≡ self.now.order }
+        ensures { result.now ≡ self.now.order }
     {
         &self.order
     }
@@ -165,7 +164,7 @@ impl JobRow {
     pub(crate) fn is_listed(&self, id: &ObjectId) -> bool
         ensures { result ≡ is_among self.now.order id.now }
     {
-        self.order.has(self.job, id)
+        self.order.has(id)
     }
 
     /// Where the copy lies in the window, if it is there and resident.
@@ -216,7 +215,7 @@ impl JobRow {
     {
         let held = self.copies.hold(id, session)?;
         if held.is_some() {
-            self.order.touch(self.job, *id);
+            self.order.touch(*id);
         }
         Ok(held)
     }
@@ -301,7 +300,7 @@ impl JobRow {
         ensures err { OnErr result (self.new ≡ self.old) }
     {
         self.copies.insert(*id, RowCopy::fetching(alloc, number))?;
-        if self.order.enter(self.job, *id).is_err() {
+        if self.order.enter(*id).is_err() {
             self.copies.remove(id);
             return Err(Refusal::NoMemory);
         }
@@ -334,19 +333,19 @@ impl JobRow {
         };
         self.copies
             .insert(*id, RowCopy::created(alloc, kind, len, offset))?;
-        if self.order.enter(self.job, *id).is_err() {
+        if self.order.enter(*id).is_err() {
             self.copies.remove(id);
             return Err(Refusal::NoMemory);
         }
         match self.window.replace(alloc, &gone, len) {
             Err(_) => {
                 self.copies.remove(id);
-                self.order.forget(self.job, *id);
+                self.order.forget(*id);
                 Err(Refusal::NoMemory)
             }
             Ok(extent) => {
                 self.copies.evict_all(victims);
-                forget_missing(&mut self.order, self.job, &self.copies, victims);
+                forget_missing(&mut self.order, &self.copies, victims);
                 Ok(extent)
             }
         }
@@ -376,7 +375,7 @@ impl JobRow {
             Ok(extent) => {
                 self.copies.take_place(id, extent.offset, awaited);
                 self.copies.evict_all(victims);
-                forget_missing(&mut self.order, self.job, &self.copies, victims);
+                forget_missing(&mut self.order, &self.copies, victims);
                 Ok(extent)
             }
         }
@@ -487,7 +486,7 @@ impl JobRow {
         let gone = self.place(id);
         self.window.give_back_all(gone.as_slice());
         self.copies.remove(id);
-        self.order.forget(self.job, *id);
+        self.order.forget(*id);
     }
 
     /// The copy is removed if it is doomed and nothing keeps it any more. Answers the device key that is then to be
@@ -585,13 +584,13 @@ fn first_bytes(bytes: &[u8], len: u32) -> &[u8]
     &bytes[..(len as usize).min(bytes.len())]
 }
 
-/// Those of these ids that have no copy leave the job's order of use. Takes no memory.
-fn forget_missing(order: &mut UseOrder, job: JobNo, copies: &Copies, ids: &[ObjectId])
-    ensures { order_of job.0 order.new ≡ without_missing copies.now ids.now (order_of job.0 order.old) }
+/// Those of these ids that have no copy leave the order of use. Takes no memory.
+fn forget_missing(order: &mut UseOrder, copies: &Copies, ids: &[ObjectId])
+    ensures { order.new ≡ without_missing copies.now ids.now order.old }
 {
     for id in ids {
         if !copies.has(id) {
-            order.forget(job, *id);
+            order.forget(*id);
         }
     }
 }

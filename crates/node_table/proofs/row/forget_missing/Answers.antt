@@ -1,7 +1,6 @@
 use Rattle.std.proofs.Common.{◌∷◌, ◌+◌, drop, sym, ap, ◌∙◌}
 use Rattle.std.proofs.lemmas.List.{drop_all, drop_more}
 use Rattle.private_store.specs.Tables.{at}
-use Rattle.lru_evictor.specs.Orders.{order_of}
 use Rattle.node_table.specs.Evicting.{without_missing}
 use Rattle.node_table.proofs.Evicting.{missing-more, missing-stays, missing-none, not_there, is_there}
 use Rattle.node_table.proofs.row.forget_missing.Goals as goal
@@ -11,18 +10,18 @@ pub loop-id-preserved : goal.loop-id-preserved
 loop-id-preserved c =
     let rest = drop (c.loop-id.id-index + 1) c.args.ids.now in
     let next = drop_more c.args.ids.now c.loop-id.id-index c.id-item.result c.loop-id-test.true ∙ ap (λ x. x ∷ rest) (sym c.id-item.is) in
-    let whole = ap (λ ids. without_missing c.args.copies.now ids (order_of c.args.job.0 c.loop-id.order)) (sym next) ∙ c.loop-id.invariant in
+    let whole = ap (λ ids. without_missing c.args.copies.now ids c.loop-id.order) (sym next) ∙ c.loop-id.invariant in
     elim c.if-not-has.branch [
       | then-not-has w ↦
-          ap (λ o. without_missing c.args.copies.now rest (order_of c.args.job.0 o)) w.order-is
-          ∙ ap (without_missing c.args.copies.now rest) w.forget.ensures.own
-          ∙ missing-more c.args.copies.now c.id-item.result rest (order_of c.args.job.0 c.loop-id.order) (not_there (at c.args.copies.now c.id-item.result) (sym c.has.ensures ∙ w.if-not-has.true)) ∙ whole
+          ap (without_missing c.args.copies.now rest) w.order-is
+          ∙ ap (without_missing c.args.copies.now rest) w.forget.ensures
+          ∙ missing-more c.args.copies.now c.id-item.result rest c.loop-id.order (not_there (at c.args.copies.now c.id-item.result) (sym c.has.ensures ∙ w.if-not-has.true)) ∙ whole
       | else-not-has w ↦
-          ap (λ o. without_missing c.args.copies.now rest (order_of c.args.job.0 o)) w.order-is
-          ∙ missing-stays c.args.copies.now c.id-item.result rest (order_of c.args.job.0 c.loop-id.order) (is_there (at c.args.copies.now c.id-item.result) (sym c.has.ensures ∙ w.if-not-has.false)) ∙ whole
+          ap (without_missing c.args.copies.now rest) w.order-is
+          ∙ missing-stays c.args.copies.now c.id-item.result rest c.loop-id.order (is_there (at c.args.copies.now c.id-item.result) (sym c.has.ensures ∙ w.if-not-has.false)) ∙ whole
     ]
 
 pub returns : goal.returns
 returns c =
-    sym (missing-none c.args.copies.now (order_of c.args.job.0 c.loop-id.order))
-    ∙ ap (λ ids. without_missing c.args.copies.now ids (order_of c.args.job.0 c.loop-id.order)) (sym (drop_all c.loop-id.id-index c.args.ids.now c.loop-id-test.false)) ∙ c.loop-id.invariant
+    sym (missing-none c.args.copies.now c.loop-id.order)
+    ∙ ap (λ ids. without_missing c.args.copies.now ids c.loop-id.order) (sym (drop_all c.loop-id.id-index c.args.ids.now c.loop-id-test.false)) ∙ c.loop-id.invariant

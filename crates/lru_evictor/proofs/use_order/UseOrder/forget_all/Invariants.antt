@@ -1,10 +1,7 @@
-use Rattle.std.proofs.Common.{◌≡◌, ◌≢◌, ℕ, drop}
-use Rattle.lru_evictor.specs.Orders.{order_of, without_ids}
+use Rattle.std.proofs.Common.{◌≡◌, drop}
+use Rattle.lru_evictor.specs.Orders.{without_ids}
 use Rattle.lru_evictor.proofs.use_order.UseOrder.forget_all.Given as goal
 
--- without those that are left it is what it is to be, and other jobs' orders stay
+-- without those that are left it is what it is to be
 abbrev pub invariant-loop-id : goal.invariant-loop-id
-invariant-loop-id l = record {
-  own : without_ids (drop l.id-index l.ids) (order_of l.job.0 l.self) ≡ without_ids l.ids (order_of l.job.0 l.initial.self);
-  others : (other : ℕ) → other ≢ l.job.0 → order_of other l.self ≡ order_of other l.initial.self;
-}
+invariant-loop-id l = without_ids (drop l.id-index l.ids) l.self ≡ without_ids l.ids l.initial.self

@@ -21,7 +21,7 @@ pub returns-clause-row : goal.returns-clause-row
 returns-clause-row c =
     let gone = slice_is c.place-gone.result c.as_slice.result.now c.as_slice.ensures ∙ ap option_to_list (c.place-gone.ensures ∙ ap (λ (r : Row). place_of r.copies c.args.id.now) (sym c.self.view_is)) in
     let window = c.give_back_all.ensures ∙ ap (λ gs. record c.self.inside.window { placed = without gs c.self.inside.window.placed }) gone in
-    (λ i. row_of (window i) (c.remove.ensures i) (c.forget.ensures.own i)) ∙ ap (λ r. dropped r c.args.id.now) c.self.view_is
+    (λ i. row_of (window i) (c.remove.ensures i) (c.forget.ensures i)) ∙ ap (λ r. dropped r c.args.id.now) c.self.view_is
   where
     row_of : Region → ById Kept → List ObjectId → Row
     row_of window copies order = record { job = c.self.inside.job.0; window = window; device = c.self.inside.device; copies = copies; order = order; fetches_begun = c.self.inside.fetches_begun; spill_failed = c.self.inside.spill_failed; ended_tasks = c.self.inside.ended_tasks.keys }

@@ -1,6 +1,5 @@
 use Rattle.std.proofs.Common.{◌≡◌, List, None, refl, sym, ap, subst, ◌∙◌}
 use Rattle.obj_id.specs.declared.ids.ObjectId.{ObjectId}
-use Rattle.lru_evictor.specs.Orders.{order_of}
 use Rattle.private_store.specs.Tables.{ById, at, with_entry, without_entry}
 use Rattle.node_table.specs.Kept.{Kept, fetched_kept}
 use Rattle.node_table.specs.Row.{Row, place_of, ArePlaced}
@@ -25,8 +24,8 @@ returns-then-is_err-clause-err c =
     let none : at c.self.inside.copies c.args.id.now ≡ None = ap (λ r. at r.copies c.args.id.now) c.self.view_is ∙ c.requires in
     let back = c.remove.ensures ∙ ap (λ t. without_entry t c.args.id.now) c.in_ok-insert.ensures.ok ∙ put_back c.args.id.now c.self.inside.copies _ none in
     let undone = of_err c.enter.result c.enter.ensures.err (sym c.is_err.ensures.value ∙ c.if-is_err.true) in
-    ap (λ (t : ById Kept). row_of t (order_of c.self.inside.job.0 c.enter.new.self)) back
-    ∙ ap (λ o. row_of c.self.inside.copies (order_of c.self.inside.job.0 o)) undone ∙ c.self.view_is
+    ap (λ (t : ById Kept). row_of t c.enter.new.self) back
+    ∙ ap (row_of c.self.inside.copies) undone ∙ c.self.view_is
   where
     row_of : ById Kept → List ObjectId → Row
     row_of copies order = record { job = c.self.inside.job.0; window = c.self.inside.window; device = c.self.inside.device; copies = copies; order = order; fetches_begun = c.self.inside.fetches_begun; spill_failed = c.self.inside.spill_failed; ended_tasks = c.self.inside.ended_tasks.keys }

@@ -1,7 +1,6 @@
 use Rattle.std.proofs.Common.{sym, ap, subst, ◌∙◌}
 use Rattle.std.specs.Prelude.{option_to_list}
 use Rattle.private_store.specs.Tables.{ById}
-use Rattle.lru_evictor.specs.Orders.{order_of}
 use Rattle.job_region.specs.Region.{Region, without}
 use Rattle.node_table.specs.Arriving.{unfetched_row}
 use Rattle.node_table.specs.Kept.{Kept}
@@ -25,4 +24,4 @@ returns-clause-row c =
     (λ i. row_of (window i) (c.fail_fetch.ensures i)) ∙ ap (λ r. unfetched_row c.args.fault r c.args.id.now) c.self.view_is
   where
     row_of : Region → ById Kept → Row
-    row_of window copies = record { job = c.self.inside.job.0; window = window; device = c.self.inside.device; copies = copies; order = order_of c.self.inside.job.0 c.self.inside.order; fetches_begun = c.self.inside.fetches_begun; spill_failed = c.self.inside.spill_failed; ended_tasks = c.self.inside.ended_tasks.keys }
+    row_of window copies = record { job = c.self.inside.job.0; window = window; device = c.self.inside.device; copies = copies; order = c.self.inside.order; fetches_begun = c.self.inside.fetches_begun; spill_failed = c.self.inside.spill_failed; ended_tasks = c.self.inside.ended_tasks.keys }

@@ -4,9 +4,7 @@ use Rattle.std.specs.Option.{option_map_or}
 use Rattle.obj_id.specs.declared.ids.ObjectId.{ObjectId}
 use Rattle.private_store.specs.Tables.{ById, at, with_entry}
 use Rattle.private_store.specs.Extents.{first}
-use Rattle.private_store.proofs.Tests.{none_here, some_value}
 use Rattle.job_region.specs.Region.{Region, extents_of, put_in}
-use Rattle.lru_evictor.specs.Orders.{order_of}
 use Rattle.node_table.specs.Evicting.{all_evicted, placed_without, replaced, without_missing}
 use Rattle.node_table.specs.Kept.{Kept, waits_for_place, placed_for}
 use Rattle.node_table.specs.Row.{Row, place_of, ArePlaced}
@@ -38,7 +36,7 @@ returns-in-Ok-clause-ok c k found =
     let copies = c.evict_all.ensures ∙ ap (all_evicted c.args.victims.now) (c.take_place.ensures ∙ changed-found (placed_for c.args.awaited c.in-Ok.extent.offset) c.args.id.now c.self.inside.copies k there) in
     let window = c.in-Ok.ensures.placed
     ∙ (λ i. region (put_in (c.in-Ok.extent.offset, replicate (c.in-Ok.ensures.length i) 0) (left i))) in
-    let order = c.forget_missing.ensures ∙ (λ i. without_missing (copies i) c.args.victims.now (unused (order_of c.self.inside.job.0 c.self.inside.order) i)) in
+    let order = c.forget_missing.ensures ∙ (λ i. without_missing (copies i) c.args.victims.now (unused c.self.inside.order i)) in
     record {
       least = ap (λ (r : Row). first (extents_of (placed_without r c.args.victims.now)) r.window.quota c.args.len) (sym c.self.view_is)
           ∙ ap (λ ps. first (extents_of ps) c.self.inside.window.quota c.args.len) (sym left) ∙ c.in-Ok.ensures.least;

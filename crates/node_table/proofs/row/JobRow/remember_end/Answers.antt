@@ -1,5 +1,4 @@
 use Rattle.std.proofs.Common.{sym, ap, subst, ◌∙◌}
-use Rattle.lru_evictor.specs.Orders.{order_of}
 use Rattle.pins_holds.proofs.TaskLemmas.{insert_key-new}
 use Rattle.private_store.specs.Kept.{is_remembered}
 use Rattle.node_table.specs.EndingTasks.{task_row}
@@ -21,7 +20,7 @@ returns-clause-ok c =
       window = c.self.inside.window;
       device = c.self.inside.device;
       copies = c.end_hands.ensures i;
-      order = order_of c.self.inside.job.0 c.self.inside.order;
+      order = c.self.inside.order;
       fetches_begun = c.self.inside.fetches_begun;
       spill_failed = c.self.inside.spill_failed;
       ended_tasks = keys i;

@@ -7,7 +7,7 @@ use Rattle.private_store.specs.Tables.{ById, at, with_entry, without_entry, is_a
 use Rattle.private_store.specs.Extents.{first}
 use Rattle.private_store.proofs.Tests.{some_value, true_false}
 use Rattle.job_region.specs.Region.{Region, extents_of, put_in}
-use Rattle.lru_evictor.specs.Orders.{order_of, without_id}
+use Rattle.lru_evictor.specs.Orders.{without_id}
 use Rattle.node_table.specs.Evicting.{all_evicted, placed_without, replaced, without_missing}
 use Rattle.node_table.specs.Kept.{Kept, new_kept}
 use Rattle.node_table.specs.Row.{Row, place_of, ArePlaced}
@@ -35,8 +35,8 @@ returns-then-is_err-clause-err c =
     let none : at c.self.inside.copies c.args.id.now ≡ None = ap (λ r. at r.copies c.args.id.now) c.self.view_is ∙ c.requires.absent in
     let back = c.remove.ensures ∙ ap (λ t. without_entry t c.args.id.now) c.in_ok-insert.ensures.ok ∙ put_back c.args.id.now c.self.inside.copies _ none in
     let undone = of_err c.enter.result c.enter.ensures.err (sym c.is_err.ensures.value ∙ c.if-is_err.true) in
-    ap (λ (t : ById Kept). row_of t (order_of c.self.inside.job.0 c.enter.new.self)) back
-    ∙ ap (λ o. row_of c.self.inside.copies (order_of c.self.inside.job.0 o)) undone ∙ c.self.view_is
+    ap (λ (t : ById Kept). row_of t c.enter.new.self) back
+    ∙ ap (row_of c.self.inside.copies) undone ∙ c.self.view_is
   where
     row_of : ById Kept → List ObjectId → Row
     row_of copies order = record { job = c.self.inside.job.0; window = c.self.inside.window; device = c.self.inside.device; copies = copies; order = order; fetches_begun = c.self.inside.fetches_begun; spill_failed = c.self.inside.spill_failed; ended_tasks = c.self.inside.ended_tasks.keys }
@@ -52,8 +52,8 @@ returns-in-Err-clause-err c =
     let none : at c.self.inside.copies c.args.id.now ≡ None = ap (λ r. at r.copies c.args.id.now) c.self.view_is ∙ c.requires.absent in
     let back = c.remove-in-Err.ensures ∙ ap (λ t. without_entry t c.args.id.now) c.in_ok-insert.ensures.ok ∙ put_back c.args.id.now c.self.inside.copies _ none in
     let entered = of_ok c.enter.result c.enter.ensures.ok (sym c.is_err.ensures.value ∙ c.if-is_err.false) in
-    let unlisted : is_among (order_of c.self.inside.job.0 c.self.inside.order) c.args.id.now ≡ false = ap (λ r. is_among r.order c.args.id.now) c.self.view_is ∙ c.requires.unlisted in
-    let order = c.forget.ensures.own ∙ ap (without_id c.args.id.now) entered.own ∙ forgotten c.args.id.now (order_of c.self.inside.job.0 c.self.inside.order) unlisted in
+    let unlisted : is_among c.self.inside.order c.args.id.now ≡ false = ap (λ r. is_among r.order c.args.id.now) c.self.view_is ∙ c.requires.unlisted in
+    let order = c.forget.ensures ∙ ap (without_id c.args.id.now) entered ∙ forgotten c.args.id.now c.self.inside.order unlisted in
     (λ i. row_of (c.in-Err.ensures.err i) (back i) (order i)) ∙ c.self.view_is
   where
     row_of : Region → ById Kept → List ObjectId → Row
@@ -85,7 +85,7 @@ returns-clause-ok c =
     let window = c.in-Ok.ensures.placed
     ∙ (λ i. region (put_in (c.in-Ok.extent.offset, replicate (c.in-Ok.ensures.length i) 0) (left_then i))) in
     let entered = of_ok c.enter.result c.enter.ensures.ok (sym c.is_err.ensures.value ∙ c.if-is_err.false) in
-    let order = c.forget_missing.ensures ∙ (λ i. without_missing (copies i) c.args.victims.now (entered.own i)) in
+    let order = c.forget_missing.ensures ∙ (λ i. without_missing (copies i) c.args.victims.now (entered i)) in
     record {
       least = ap (λ (r : Row). first (extents_of (placed_without r c.args.victims.now)) r.window.quota c.args.len) (sym c.self.view_is)
           ∙ ap (λ ps. first (extents_of ps) c.self.inside.window.quota c.args.len) (sym left_then) ∙ c.in-Ok.ensures.least;
