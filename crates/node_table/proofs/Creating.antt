@@ -1,8 +1,8 @@
 -- A row takes Create where a place is made for the new copy, or there is one.
-use Rattle.std.proofs.Common.{◌≡◌, ℕ, Bool, true, false, not, ◌||◌, cond, ◌==◌, nat_eq, nat_le, inl, inr, List, [], ◌∷◌, ◌++◌, length, Option, Some, None, is_some, option_map, refl, sym, ap, subst, ◌∙◌}
+use Rattle.std.proofs.Common.{◌≡◌, ℕ, Bool, true, false, not, cond, ◌==◌, nat_eq, nat_le, List, [], ◌∷◌, ◌++◌, length, Option, Some, None, is_some, option_map, refl, sym, ap, subst, ◌∙◌}
 use Rattle.std.specs.Prelude.{if◌then◌else◌}
 use Rattle.std.specs.List.{list_any}
-use Rattle.std.specs.Option.{option_map_or, option_and_then}
+use Rattle.std.specs.Option.{option_and_then}
 use Rattle.std.specs.Map.{lookup}
 use Rattle.obj_id.specs.declared.ids.ObjectId.{ObjectId}
 use Rattle.obj_id.specs.declared.works.WorkKind.TheVariants.{Write, Read}
@@ -19,7 +19,7 @@ use Rattle.private_store.specs.Limits.{most_copies}
 use Rattle.private_store.specs.Tables.{at, is_among}
 use Rattle.private_store.specs.Extents.{rounded, first, is_size}
 use Rattle.private_store.specs.Shape.{Copy, Shape, Change}
-use Rattle.private_store.specs.Copies.{extent_of, is_evictable}
+use Rattle.private_store.specs.Copies.{extent_of}
 use Rattle.private_store.specs.Room.{make_room}
 use Rattle.private_store.specs.Change.{erasing, in_room, has_ended}
 use Rattle.private_store.specs.Kept.{has_hand, is_remembered}
@@ -28,7 +28,7 @@ use Rattle.private_store.specs.Commands.{create, created, is_length}
 use Rattle.private_store.specs.Contents.{Contents, judge}
 use Rattle.private_store.specs.Step.{step}
 use Rattle.private_store.proofs.Checks.{checked-nil}
-use Rattle.private_store.proofs.Tests.{or_cases, some_value, none_some, true_false}
+use Rattle.private_store.proofs.Tests.{some_value, none_some, true_false}
 use Rattle.job_region.specs.Region.{extents_of}
 use Rattle.node_table.specs.Kept.{Kept, new_kept}
 use Rattle.node_table.specs.Row.{Row, Beside, copies_of, shape_of, place_of, ArePlaced}

@@ -32,7 +32,7 @@ use Rattle.private_store.specs.Commands as commands
 use Rattle.private_store.specs.Contents.{Contents, View, judge, keeps_digest, no_digest}
 use Rattle.private_store.specs.Kept.{has_hand}
 use Rattle.private_store.specs.Private.{Post, key_of, posts_of, view_after}
-use Rattle.private_store.specs.Step.{step, reordered}
+use Rattle.private_store.specs.Step.{reordered}
 use Rattle.private_store.proofs.Checks.{checked-nil}
 use Rattle.private_store.proofs.Filling.{filled}
 use Rattle.private_store.proofs.Tests.{T_true, and_right, none_some, some_value}

@@ -1,7 +1,6 @@
 -- A row says what a worker is given of a work.
 use Rattle.std.proofs.Common.{◌≡◌, ℕ, cond, List, take, Option, Some, None, unwrap_or, option_map, refl, sym, ap, ◌∙◌}
 use Rattle.std.specs.Option.{option_and_then}
-use Rattle.obj_id.specs.declared.ids.JobNo.{JobNo}
 use Rattle.obj_id.specs.declared.works.Extent.{Extent}
 use Rattle.obj_id.specs.declared.works.Work.{Work}
 use Rattle.obj_id.specs.declared.works.WorkKind.{WorkKind}

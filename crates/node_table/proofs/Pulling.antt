@@ -1,12 +1,11 @@
 -- A copy whose bytes are asked for at their source, in a place that is made for it.
-use Rattle.std.proofs.Common.{◌≡◌, ℕ, nat_le, Bool, true, false, not, ◌&&◌, ◌||◌, cond, ◌==◌, nat_eq, List, [], ◌∷◌, ◌++◌, filter, map, length, ◌+◌, ◌<◌, ◌≤◌, nat_lt, Option, Some, None, is_some, is_none, option_map, unwrap_or, Ok, refl, sym, ap, ◌∙◌, arith}
+use Rattle.std.proofs.Common.{◌≡◌, ℕ, nat_le, Bool, true, false, not, ◌&&◌, cond, ◌==◌, nat_eq, List, [], ◌∷◌, ◌++◌, filter, map, length, ◌+◌, ◌<◌, ◌≤◌, nat_lt, Option, Some, None, is_some, is_none, option_map, unwrap_or, Ok, refl, sym, ap, ◌∙◌, arith}
 use Rattle.std.specs.Map.{lookup}
 use Rattle.obj_id.specs.declared.commands.CopyState.{CopyState}
 use Rattle.obj_id.specs.declared.commands.CopyState.TheVariants.{Fetching}
 use Rattle.obj_id.specs.declared.commands.Reply.TheVariants as reply
 use Rattle.obj_id.specs.declared.messages.PeerMessage.TheVariants.{Pull}
 use Rattle.obj_id.specs.declared.refusals.Refusal.TheVariants.{BadSize, Pending}
-use Rattle.obj_id.specs.Kinds.{is_primary}
 use Rattle.private_store.specs.declared.inputs.Input.{Input}
 use Rattle.private_store.specs.declared.inputs.Input.TheVariants as input
 use Rattle.obj_id.specs.declared.commands.Command.TheVariants as command
@@ -26,7 +25,6 @@ use Rattle.node_table.specs.RoomPlans.{MakesPlace}
 use Rattle.node_table.specs.Shown.{seen, IsShown, Given, TakesStep}
 use Rattle.node_table.proofs.ByChecks.{sending-is}
 use Rattle.node_table.proofs.Getting.{some_at}
-use Rattle.node_table.proofs.CopyTables.{at-copies_found}
 use Rattle.node_table.proofs.Rooms.{change_is, m, here, placed_done}
 use Rattle.node_table.proofs.Stepping.{shown_now}
 use Rattle.std.specs.Option.{option_map_or, option_and_then}

@@ -1,5 +1,5 @@
 -- A copy that is away is read back, in a place that is made for it.
-use Rattle.std.proofs.Common.{◌≡◌, ℕ, Bool, true, false, not, ◌&&◌, ◌||◌, cond, ◌==◌, nat_eq, List, [], ◌∷◌, ◌++◌, filter, find, map, ◌+◌, ◌-◌, ◌<◌, ◌≤◌, nat_le, Option, Some, None, is_some, option_map, unwrap_or, Ok, Err, refl, sym, ap, subst, ◌∙◌, arith}
+use Rattle.std.proofs.Common.{◌≡◌, ℕ, Bool, true, false, not, ◌&&◌, ◌||◌, cond, ◌==◌, nat_eq, List, [], ◌∷◌, ◌++◌, ◌+◌, ◌-◌, ◌<◌, ◌≤◌, nat_le, Option, Some, None, is_some, option_map, Ok, Err, refl, sym, ap, subst, ◌∙◌, arith}
 use Rattle.std.specs.Prelude.{is_ok}
 use Rattle.std.proofs.lemmas.Bool.Decides.{nat_tests}
 use Rattle.std.proofs.lemmas.List.{append-nil}
@@ -8,19 +8,19 @@ use Rattle.std.specs.Option.{option_map_or}
 use Rattle.obj_id.specs.declared.ids.JobNo.{JobNo}
 use Rattle.obj_id.specs.declared.ids.ObjectId.{ObjectId}
 use Rattle.obj_id.specs.declared.commands.Command.TheVariants as command
-use Rattle.obj_id.specs.declared.commands.CopyState.TheVariants.{Restoring, Away}
+use Rattle.obj_id.specs.declared.commands.CopyState.TheVariants.{Away}
 use Rattle.obj_id.specs.declared.commands.Reply.TheVariants as reply
 use Rattle.obj_id.specs.declared.refusals.Refusal.TheVariants.{Busy, Full, TooMany, Pending}
 use Rattle.obj_id.specs.declared.works.WorkKind.TheVariants.{Write, Read}
 use Rattle.obj_id.specs.Ids.{same_id}
-use Rattle.obj_id.proofs.SameIds.{same_id-itself, same_id-flip}
+use Rattle.obj_id.proofs.SameIds.{same_id-itself}
 use Rattle.private_store.specs.declared.inputs.Input.{Input}
 use Rattle.private_store.specs.declared.inputs.Input.TheVariants as input
-use Rattle.private_store.specs.Change.{refused, erasing, in_room, checked}
+use Rattle.private_store.specs.Change.{erasing, in_room, checked}
 use Rattle.private_store.specs.Commands.{restore, restoring as restored}
-use Rattle.private_store.specs.Contents.{Contents, judge, keeps_digest, no_digest, is_sized}
+use Rattle.private_store.specs.Contents.{Contents, judge, keeps_digest, is_sized}
 use Rattle.private_store.specs.Copies.{was_sealed, is_sealed}
-use Rattle.private_store.specs.Extents.{first, rounded}
+use Rattle.private_store.specs.Extents.{first}
 use Rattle.private_store.specs.Hands.{Hand}
 use Rattle.private_store.specs.Kept.{is_remembered, is_restoring, is_fetching, has_write, has_read}
 use Rattle.private_store.specs.Limits.{most_works, longest_object, has_numbers}
@@ -31,7 +31,6 @@ use Rattle.private_store.specs.Tables.{at, is_among}
 use Rattle.private_store.proofs.KeptCopy.{has_work-split}
 use Rattle.private_store.proofs.Checks.{checked-nil, checked-true, checked-false}
 use Rattle.private_store.proofs.Tests.{both, none_some, none_here, true_false}
-use Rattle.spill_work.specs.declared.queue.Asked.{Asked}
 use Rattle.spill_work.specs.Line.{WorkLine, Asks, used_by, works_of, in_flight, ask_check}
 use Rattle.node_table.specs.Asked.{HasAsked}
 use Rattle.job_region.specs.Region.{extents_of}

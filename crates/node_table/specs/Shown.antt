@@ -1,5 +1,5 @@
 -- Which contents a row shows of its job's store, and what it is that a row takes the private step.
-use Rattle.std.specs.Prelude.{◌≡◌, ℕ, Bool, true, is_some, None, if◌then◌else◌, List, [], find, take, length, Option, Some, unwrap_or, option_map}
+use Rattle.std.specs.Prelude.{◌≡◌, ℕ, true, None, if◌then◌else◌, List, [], find, take, length, Option, Some, unwrap_or, option_map}
 use Rattle.obj_id.specs.declared.ids.ObjectId.{ObjectId}
 use Rattle.obj_id.specs.declared.works.DeviceKey.{DeviceKey}
 use Rattle.obj_id.specs.declared.works.Extent.{Extent}
@@ -9,9 +9,6 @@ use Rattle.obj_id.specs.declared.commands.Reply.{Reply}
 use Rattle.obj_id.specs.Ids.{same_id}
 use Rattle.private_store.specs.declared.inputs.Input.{Input}
 use Rattle.private_store.specs.Tables.{ById, at, is_among}
-use Rattle.obj_id.specs.declared.commands.CopyState.{CopyState}
-use Rattle.obj_id.specs.declared.commands.CopyState.TheVariants.{Away}
-use Rattle.private_store.specs.declared.faults.Fault.{Fault}
 use Rattle.private_store.specs.Shape.{Copy, WorkInFlight}
 use Rattle.private_store.specs.Copies.{extent_of}
 use Rattle.private_store.specs.Contents.{Contents, View, bytes_at, digest_at, keeps_digest, no_digest}

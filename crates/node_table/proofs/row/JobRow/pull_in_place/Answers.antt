@@ -1,9 +1,8 @@
-use Rattle.std.proofs.Common.{◌≡◌, Some, None, length, List, Option, [], ◌∷◌, ◌++◌, sym, ap, subst, ◌∙◌, arith}
+use Rattle.std.proofs.Common.{◌≡◌, None, length, List, [], ◌∷◌, ◌++◌, sym, ap, subst, ◌∙◌, arith}
 use Rattle.obj_id.specs.declared.commands.Command.TheVariants as command
 use Rattle.obj_id.specs.declared.commands.CopyState.TheVariants.{Fetching}
 use Rattle.obj_id.specs.declared.commands.Reply.TheVariants as reply
 use Rattle.obj_id.specs.declared.refusals.Refusal.TheVariants.{Pending}
-use Rattle.obj_id.specs.declared.works.Extent.{Extent}
 use Rattle.job_region.specs.Region.{extents_of}
 use Rattle.private_store.specs.declared.inputs.Input.TheVariants as input
 use Rattle.private_store.specs.Extents.{first}
@@ -12,8 +11,7 @@ use Rattle.private_store.specs.Kept.{is_fetching}
 use Rattle.private_store.specs.Private.{Post}
 use Rattle.private_store.specs.Room.{make_room}
 use Rattle.private_store.specs.Shape.{sized}
-use Rattle.private_store.specs.Tables.{at}
-use Rattle.private_store.proofs.Tests.{true_false, some_value}
+use Rattle.private_store.proofs.Tests.{some_value}
 use Rattle.node_table.specs.Evicting.{IsReplaced, placed_without, fits_without, replaced, removals}
 use Rattle.node_table.specs.Kept.{Kept, pulled}
 use Rattle.node_table.specs.RoomPlans.{MakesPlace}

@@ -1,16 +1,14 @@
-use Rattle.std.proofs.Common.{◌≡◌, ◌==◌, ◌<◌, true, false, ◌≤◌, refl, sym, ap, subst, ◌∙◌, arith}
-use Rattle.std.proofs.lemmas.Bool.Decides.{nat_tests}
+use Rattle.std.proofs.Common.{◌≡◌, ◌==◌, ◌<◌, true, false, ◌≤◌, refl, sym, ap, subst, ◌∙◌}
 use Rattle.std.specs.Option.{option_copied, option_map_or, option_and_then}
 use Rattle.obj_id.specs.declared.commands.Command.TheVariants as command
 use Rattle.obj_id.specs.declared.commands.CopyState.TheVariants.{Away}
-use Rattle.obj_id.specs.declared.ids.JobNo.{JobNo}
 use Rattle.private_store.specs.declared.inputs.Input.TheVariants as input
 use Rattle.private_store.specs.Copies.{is_away}
 use Rattle.private_store.specs.Kept.{is_remembered}
 use Rattle.private_store.specs.Limits.{most_works, longest_object}
-use Rattle.private_store.specs.Room.{make_room, works_left}
+use Rattle.private_store.specs.Room.{make_room}
 use Rattle.private_store.specs.Tables.{at}
-use Rattle.spill_work.specs.Line.{WorkLine, in_flight}
+use Rattle.spill_work.specs.Line.{in_flight}
 use Rattle.node_table.specs.Checks.{visible_state, fault_at}
 use Rattle.node_table.specs.Evicting.{fits_without}
 use Rattle.node_table.specs.Kept.{Kept, waits_for_place}

@@ -1,10 +1,9 @@
-use Rattle.std.proofs.Common.{◌≡◌, ◌==◌, true, false, None, List, [], ◌∷◌, ◌++◌, ◌+◌, length, refl, sym, ap, subst, ◌∙◌, arith}
+use Rattle.std.proofs.Common.{◌≡◌, false, None, List, [], ◌∷◌, ◌++◌, ◌+◌, length, refl, sym, ap, subst, ◌∙◌, arith}
 use Rattle.std.specs.Option.{option_and_then}
 use Rattle.obj_id.specs.declared.commands.Command.TheVariants as command
 use Rattle.obj_id.specs.declared.commands.CopyState.TheVariants.{Away}
 use Rattle.obj_id.specs.declared.commands.Reply.TheVariants as reply
-use Rattle.obj_id.specs.declared.ids.JobNo.{JobNo}
-use Rattle.obj_id.specs.declared.refusals.Refusal.TheVariants.{Pending, TooMany}
+use Rattle.obj_id.specs.declared.refusals.Refusal.TheVariants.{Pending}
 use Rattle.obj_id.specs.declared.works.WorkKind.TheVariants.{Read}
 use Rattle.job_region.specs.Region.{extents_of}
 use Rattle.private_store.specs.declared.inputs.Input.TheVariants as input
@@ -17,7 +16,7 @@ use Rattle.node_table.specs.Evicting.{IsReplaced, placed_without, fits_without, 
 use Rattle.node_table.specs.Kept.{Kept, restoring}
 use Rattle.node_table.specs.RoomPlans.{MakesPlace}
 use Rattle.node_table.specs.Row.{Beside, beside_of, shape_of}
-use Rattle.node_table.specs.Shown.{Given, only, TakesStep}
+use Rattle.node_table.specs.Shown.{Given, TakesStep}
 use Rattle.node_table.proofs.Evicting.{length-removals}
 use Rattle.node_table.proofs.Getting.{each_ok, some_at}
 use Rattle.node_table.proofs.Pulling.{own_job, waiting, stays_of, few_of}
