@@ -6,6 +6,8 @@ import subprocess
 from pathlib import Path
 
 ROOT = Path(__file__).resolve().parent.parent
+# seconds that an answer or an end may take, on a machine that does much else
+PATIENCE = 100
 PROGRAM = ROOT / "crates/store_server/out/store_server"
 
 
@@ -56,13 +58,13 @@ def tell(program, line, expected):
 
 def ended(program, rest, status, said=""):
     """What the program still prints once its input has ended, and its end."""
-    out, err = program.communicate(timeout=60)
+    out, err = program.communicate(timeout=PATIENCE)
     assert (out, err, program.returncode) == (rest, said, status), f"got {out!r}, {err!r}, {program.returncode}"
 
 
 def close(program):
     """Each entry has a receipt, and each receipt that was looked for its entry. The number of entries, and of lost messages."""
-    out, err = program.communicate("close\n", timeout=60)
+    out, err = program.communicate("close\n", timeout=PATIENCE)
     assert (out[:7], err, program.returncode) == ("report ", "", 0), f"got {out!r}, {err!r}, {program.returncode}"
     entries, receipts, disagreeing, lost, failures = out.split()[1:]
     assert (entries, disagreeing, failures) == (receipts, "0", "0"), f"got {out!r}"
