@@ -41,16 +41,18 @@ sessions: build
 attack: build
 	tests/attack
 
+# Eight sessions at a built program of three nodes for an hour (see tests/soak --help).
+soak: build
+	tests/soak
+
 # The Python client at a built program.
 client-test: build
 	python3 clients/python/tests/test_client.py
 
-# The same and tests/sessions at the program that is there already, as the gate leaves it, with no new proof; and pictures, which
-# need none.
+# tests/sessions and the client's tests at the program that is there already, as the gate leaves it, with no new proof; and the tests
+# of pictures, which need none. This is what the gate's script runs after the gate.
 try-built:
-	timeout 300 tests/sessions
-	timeout 600 python3 -B clients/python/tests/test_client.py
-	timeout 300 tests/pictures
+	tests/built
 
 # Processes of two jobs that pass arrays along through a built program.
 pipeline: build
@@ -71,4 +73,4 @@ picture:
 	bench/picture docs/pictures/spilling.log -o docs/pictures/spilling.svg
 	rm docs/pictures/spilling.log
 
-.PHONY: test check build run sessions attack client-test try-built pipeline model faults bench picture
+.PHONY: test check build run sessions attack soak client-test try-built pipeline model faults bench picture

@@ -6,11 +6,13 @@ import subprocess
 from pathlib import Path
 
 ROOT = Path(__file__).resolve().parent.parent
+# seconds that an answer or an end may take, on a machine that does much else
+PATIENCE = 100
 PROGRAM = ROOT / "crates/store_server/out/store_server"
 
 
 def key(job):
-    return bytes([job]) * 32
+    return struct.pack(">I", job) * 8
 
 
 def frame(kind, body=b""):
@@ -42,26 +44,31 @@ def start(words, folder, nodes=2, memory=65536):
     return subprocess.Popen(words, stdin=subprocess.PIPE, stdout=subprocess.PIPE, stderr=subprocess.PIPE, text=True)
 
 
-def tell(program, line, expected):
+def say(program, line):
+    """The answer to a line of the operator's."""
     program.stdin.write(line + "\n")
     program.stdin.flush()
-    got = program.stdout.readline()
-    assert got == expected + "\n", f"{line}: got {got!r}, should be {expected!r}"
+    return program.stdout.readline().rstrip("\n")
+
+
+def tell(program, line, expected):
+    got = say(program, line)
+    assert got == expected, f"{line}: got {got!r}, should be {expected!r}"
 
 
 def ended(program, rest, status, said=""):
     """What the program still prints once its input has ended, and its end."""
-    out, err = program.communicate(timeout=60)
+    out, err = program.communicate(timeout=PATIENCE)
     assert (out, err, program.returncode) == (rest, said, status), f"got {out!r}, {err!r}, {program.returncode}"
 
 
 def close(program):
-    """Each entry has a receipt, and each receipt that was looked for its entry. The number of entries."""
-    out, err = program.communicate("close\n", timeout=60)
+    """Each entry has a receipt, and each receipt that was looked for its entry. The number of entries, and of lost messages."""
+    out, err = program.communicate("close\n", timeout=PATIENCE)
     assert (out[:7], err, program.returncode) == ("report ", "", 0), f"got {out!r}, {err!r}, {program.returncode}"
-    entries, receipts, disagreeing, _, failures = out.split()[1:]
+    entries, receipts, disagreeing, lost, failures = out.split()[1:]
     assert (entries, disagreeing, failures) == (receipts, "0", "0"), f"got {out!r}"
-    return int(entries)
+    return int(entries), int(lost)
 
 
 def enter(stream, path, job):

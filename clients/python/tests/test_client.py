@@ -1,14 +1,17 @@
 """Tests of the client against a real server, and of its frames against the documented vectors.
 
-The server is the built program, or the one that STORE_PROGRAM names.
+The server is the built program, or the one that STORE_PROGRAM names. The last line counts the tests.
 """
 
 from __future__ import annotations
 
 import array
-import dataclasses
+import contextlib
+import faulthandler
 import os
 import pty
+import re
+import resource
 import shutil
 import signal
 import socket
@@ -19,21 +22,35 @@ import threading
 import time
 import unittest
 from pathlib import Path
+from typing import Iterator
 
 ROOT = Path(__file__).resolve().parents[3]
 sys.path.insert(0, str(ROOT / "clients/python"))
 
 import store_client  # noqa: E402
+from spelling import CALLS, call, spelled  # noqa: E402
 from store_client import Kind, ObjectId, State, Task, frames  # noqa: E402
 
 VECTORS = ROOT / "docs/rules/frames.vectors"
-# seconds that a process may take, on a machine that does much else
+REFUSALS = ROOT / "docs/rules/refusals.md"
+# seconds that a process may take, on a machine that does much else, and all tests together
 PATIENCE = 120
+PATIENCE_FOR_ALL = 580
 PROGRAM = os.environ.get("STORE_PROGRAM", str(ROOT / "crates/store_server/out/store_server"))
+
+
+# that a list of the server's journal has, before it is folded
+MOST_LINES = 65_536
 
 
 def key(job: int) -> bytes:
     return bytes([job]) * 32
+
+
+def is_held_to_its_memory() -> bool:
+    """Whether the system refuses memory for data beyond a process's limit."""
+    words = "import resource; resource.setrlimit(resource.RLIMIT_DATA, (2**27, 2**27)); bytearray(2**28)"
+    return subprocess.run([sys.executable, "-c", words], stderr=subprocess.DEVNULL, check=False).returncode != 0
 
 
 class Server:
@@ -60,6 +77,18 @@ class Server:
     def connect(self, job: int = 1) -> store_client.Connection:
         return store_client.connect(self.path, job, key(job))
 
+    @contextlib.contextmanager
+    def without_more_memory(self) -> Iterator[None]:
+        """The process may have as much memory for data as it has now, and no more."""
+        status = Path(f"/proc/{self.program.pid}/status").read_text(encoding="ascii")
+        size = int(re.search(r"^VmData:\s+(\d+) kB$", status, re.MULTILINE).group(1)) * 1024
+        limits = resource.prlimit(self.program.pid, resource.RLIMIT_DATA)
+        resource.prlimit(self.program.pid, resource.RLIMIT_DATA, (size, limits[1]))
+        try:
+            yield
+        finally:
+            resource.prlimit(self.program.pid, resource.RLIMIT_DATA, limits)
+
     def close(self) -> None:
         try:
             self.program.communicate(timeout=PATIENCE)
@@ -76,6 +105,7 @@ class Script:
         self.path = f"{self.folder.name}/socket"
         self.sent: list[bytes] = []
         self.listener = socket.socket(socket.AF_UNIX)
+        self.listener.settimeout(PATIENCE)
         self.listener.bind(self.path)
         self.listener.listen()
         self.thread = threading.Thread(target=self.serve, args=(replies,))
@@ -83,6 +113,7 @@ class Script:
 
     def serve(self, replies: list[bytes]) -> None:
         with self.listener, self.listener.accept()[0] as stream, stream.makefile("rb") as file:
+            stream.settimeout(PATIENCE)
             for reply in replies:
                 start = file.read(4)
                 self.sent.append(start + file.read(int.from_bytes(start, "big")))
@@ -93,59 +124,14 @@ class Script:
         self.folder.cleanup()
 
 
-def spelled(reply: object) -> str:
-    """What a call gave, as a schedule's answer spells it for job 1."""
-    if reply is None:
-        return "ok"
-    if isinstance(reply, bytes):
-        return f"bytes {reply.hex() or '-'}"
-    if isinstance(reply, store_client.Placed):
-        return f"placed {reply.offset} {reply.length}"
-    if isinstance(reply, store_client.Usage):
-        return " ".join(["usage", *map(str, dataclasses.astuple(reply))])
-    if isinstance(reply, store_client.Refused):
-        return f"refused {reply.number} {type(reply).__name__}"
-    if isinstance(reply, int):
-        return f"got {reply}"
-    own = [f" {item.id.text(1)}:{item.state.name.lower()}:{item.kind.name.lower()}:{item.length}" for item in reply[0]]
-    granted = [f" {item.id.text(1)}:granted:{item.length}:{item.depth}" for item in reply[1]]
-    return "".join(["list", *own, *granted])
-
-
-def read_bytes(text: str) -> bytes:
-    return b"" if text == "-" else bytes.fromhex(text)
-
-
-def read_id(text: str) -> ObjectId:
-    return ObjectId.parse(text, 1)
-
-
-# of each command, the call that sends it, what its fields are, and the word of a reply that is due
-CALLS = {
-    "create": (store_client.Connection.create, (read_id, int), "placed"),
-    "copy": (lambda store, id, length: store.create(id, length, Kind.SECONDARY), (read_id, int), "placed"),
-    "createwait": (lambda store, id, length: store.create(id, length, wait=True), (read_id, int), "placed"),
-    "copywait": (lambda store, id, length: store.create(id, length, Kind.SECONDARY, True), (read_id, int), "placed"),
-    "write": (store_client.Connection.write, (read_id, int, read_bytes), "ok"),
-    "seal": (store_client.Connection.seal, (read_id,), "ok"),
-    "get": (store_client.Connection.hold, (read_id,), "got"),
-    "getwait": (lambda store, id: store.hold(id, wait=True), (read_id,), "got"),
-    "read": (store_client.Connection.read, (read_id, int, int), "bytes"),
-    "release": (store_client.Connection.release, (read_id,), "ok"),
-    "unpin": (store_client.Connection.unpin, (read_id, Task.parse), "ok"),
-    "borrow": (store_client.Connection.borrow, (read_id, Task.parse), "ok"),
-    "giveup": (store_client.Connection.give_up, (read_id, Task.parse), "ok"),
-    "delete": (store_client.Connection.delete, (read_id,), "ok"),
-    "endtask": (store_client.Connection.end_task, (Task.parse,), "ok"),
-    "grant": (store_client.Connection.grant, (read_id, int), "ok"),
-    "withdraw": (store_client.Connection.withdraw, (read_id, int), "ok"),
-    "peek": (store_client.Connection.peek, (read_id, int, int), "bytes"),
-    "list": (store_client.Connection.list, (), "list"),
-    "usage": (store_client.Connection.usage, (), "usage"),
-    "leave": (store_client.Connection.leave, (), "ok"),
-}
 # for each reply a call that may get it
 ASKED_BY = {"ok": "seal t1.1", "refused": "seal t1.1", "placed": "create t1.1 20", "got": "get t1.1", "bytes": "read t1.1 0 5"}
+
+
+def documented_refusals() -> dict[int, tuple[str, str]]:
+    """Of each number its name, and who may be told."""
+    rows = re.findall(r"^\| (\d+) \| (\w+) \|.*\| ([^|]+) \|$", REFUSALS.read_text(encoding="ascii"), re.MULTILINE)
+    return {int(number): (name, told) for number, name, told in rows}
 
 
 def documented() -> tuple[list[tuple[bytes, str]], list[tuple[bytes, str]]]:
@@ -154,16 +140,6 @@ def documented() -> tuple[list[tuple[bytes, str]], list[tuple[bytes, str]]]:
     lines = [line.split(" ", 1) for line in text.splitlines() if line and not line.startswith("#")]
     vectors = [(bytes.fromhex(digits), said) for digits, said in lines]
     return [one for one in vectors if one[0][4] < 0x80], [one for one in vectors if one[0][4] >= 0x80]
-
-
-def call(store: store_client.Connection, said: str) -> object:
-    """What the command that is so spelled gives, or the refusal."""
-    word, *fields = said.split(" ")
-    method, readers, _ = CALLS[word]
-    try:
-        return method(store, *(read(field) for read, field in zip(readers, fields)))
-    except store_client.Refused as refused:
-        return refused
 
 
 class Frames(unittest.TestCase):
@@ -204,7 +180,7 @@ class Frames(unittest.TestCase):
     def test_replies(self) -> None:
         for frame, said in self.replies:
             word = said.split(" ")[0]
-            self.assertEqual(spelled(self.ask(ASKED_BY.get(word, word), frame)[1]), said)
+            self.assertEqual(spelled(self.ask(ASKED_BY.get(word, word), frame)[1], 1), said)
 
     def test_what_is_no_reply(self) -> None:
         kinds = ("00000001" "99", "00000002" "8f00", "00000002" "8f19", "00000001" "8f", "00000003" "8f0909")
@@ -245,17 +221,37 @@ class Texts(unittest.TestCase):
 
 
 class Sessions(unittest.TestCase):
+    documented = documented_refusals()
+    # the numbers that were met, and how many tests ran
+    met: set[int] = set()
+    ran = 0
+
     def setUp(self) -> None:
+        type(self).ran += 1
         self.server = Server()
         self.addCleanup(self.server.close)
         self.store = self.server.connect()
         self.addCleanup(self.store.close)
         self.one = self.store.task(1).object(1)
 
+    @classmethod
+    def tearDownClass(cls) -> None:
+        """All tests together meet each refusal that a session may be told."""
+        if cls.ran == unittest.defaultTestLoader.loadTestsFromTestCase(cls).countTestCases():
+            due = {number for number, (_, told) in cls.documented.items() if re.search(r"sessions\b|session's|everybody", told)}
+            if cls.met != due:
+                raise AssertionError(f"the refusals {sorted(cls.met)} were met, and {sorted(due)} are documented")
+
     def refused(self, refusal: type, method, *words) -> None:
-        with self.assertRaises(refusal) as caught:
+        """The call raises just this class, whose number and name are the documented ones."""
+        with self.assertRaises(store_client.StoreError) as caught:
             method(*words)
         self.assertIs(type(caught.exception), refusal)
+        if isinstance(caught.exception, store_client.Refused):
+            number = caught.exception.number
+            self.assertEqual(type(caught.exception).__name__, self.documented[number][0])
+            self.assertTrue(str(caught.exception).startswith(f"{number} {refusal.__name__}: "), caught.exception)
+            self.met.add(number)
 
     def test_frames_say_what_a_schedule_says(self) -> None:
         """The documented commands are answered alike as frames of a session and as lines of a schedule."""
@@ -264,7 +260,7 @@ class Sessions(unittest.TestCase):
         words = [PROGRAM, "run", "--memory", str(2**26)]
         done = subprocess.run(words, input="".join(line + "\n" for line in lines), capture_output=True, text=True, check=True)
         answers = [line.split(" ", 3)[3] for line in done.stdout.splitlines()[2:]]
-        self.assertEqual([spelled(call(self.store, words)) for words in said], answers)
+        self.assertEqual([spelled(call(self.store, words), 1) for words in said], answers)
 
     def test_bytes_come_back(self) -> None:
         for length in (1, 65_536, 65_537, 2**24):
@@ -338,6 +334,37 @@ class Sessions(unittest.TestCase):
             self.refused(store_client.DeviceFailed, lambda: store.create(two, 16, wait=True))
             self.server.spill.mkdir()
             store.create(two, 16, wait=True)
+
+    def test_a_device_that_is_slow(self) -> None:
+        """Nine objects are in the way of one. Eight are being written, and the first write waits for a reader."""
+        with self.server.connect(3) as store:
+            self.fill(store, 9)
+            file = self.server.spill / "3.1.part"
+            os.mkfifo(file)
+            two = store.task(2).object(1)
+            self.refused(store_client.Pending, store.create, two, 144)
+            self.assertEqual(store.usage().works, 8)
+            self.refused(store_client.Busy, store.create, two, 144)
+            reader = os.open(file, os.O_RDONLY | os.O_NONBLOCK)
+            self.addCleanup(os.close, reader)
+            end = time.monotonic() + PATIENCE
+            while store.usage().works:
+                self.assertLess(time.monotonic(), end, "the device works don't end")
+            self.assertEqual(store.create(two, 144, wait=True), (0, 144))
+
+    @unittest.skipUnless(is_held_to_its_memory(), "no process is held to a limit of its memory here")
+    def test_a_server_without_memory(self) -> None:
+        """Each command adds to the server's journal, until that may not grow. Nothing is lost by it."""
+        self.store.put(b"abcd", self.one)
+        with self.server.without_more_memory():
+            with self.assertRaises(store_client.NoMemory):
+                for _ in range(MOST_LINES):
+                    self.store.usage()
+            self.refused(store_client.NoMemory, self.store.usage)
+            self.refused(store_client.NoMemory, self.store.create, self.store.task(1).object(2), 16)
+        self.assertEqual(self.store.usage().copies, 1)
+        with self.store.get(self.one) as view:
+            self.assertEqual(bytes(view), b"abcd")
 
     def test_what_was_damaged_on_the_device(self) -> None:
         with self.server.connect(3) as store:
@@ -507,4 +534,9 @@ class Examples(unittest.TestCase):
 
 
 if __name__ == "__main__":
-    unittest.main()
+    # if something hangs after all, it is told where
+    faulthandler.dump_traceback_later(PATIENCE_FOR_ALL, exit=True)
+    result = unittest.main(exit=False).result
+    failed = len(result.failures) + len(result.errors)
+    print(f"{max(0, result.testsRun - failed - len(result.skipped))} passed, {failed} failed")
+    sys.exit(not result.wasSuccessful())
