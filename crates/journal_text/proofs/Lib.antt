@@ -8,3 +8,8 @@ pub mod SamePlaces
 pub mod Saving
 pub mod SortedItems
 pub mod Spaces
+pub mod PlainFields
+pub mod WrittenFields
+pub mod WrittenInputs
+pub mod WrittenReplies
+pub mod WrittenLines

@@ -9,3 +9,4 @@ pub mod Replies
 pub mod Reading
 pub mod Printing
 pub mod Saved
+pub mod Writable

@@ -8,6 +8,7 @@ mod entry;
 mod fields;
 mod inputs;
 mod items;
+mod laws;
 mod lines;
 mod locations;
 mod printing;
@@ -19,6 +20,7 @@ mod saved;
 mod words;
 
 pub use entry::{Address, Entry, JobAt, LineInput, Version};
+pub use laws::a_written_line_is_read_back;
 pub use lines::{read_head, read_line};
 pub use printing::{write_answer, write_line};
 pub use saved::{Answered, Mark, SavedJournal};
