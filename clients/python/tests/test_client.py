@@ -335,6 +335,19 @@ class Sessions(unittest.TestCase):
             self.server.spill.mkdir()
             store.create(two, 16, wait=True)
 
+    def test_a_disk_that_is_full(self) -> None:
+        """The first write finds no space. Who waits for room is told, and the object stays; the next try finds some."""
+        with self.server.connect(3) as store:
+            one, *_ = self.fill(store, 9)
+            os.symlink("/dev/full", self.server.spill / "3.1.part")
+            two = store.task(2).object(1)
+            self.refused(store_client.DeviceFailed, lambda: store.create(two, 16, wait=True))
+            self.assertEqual([item.state for item in store.list()[0]], [State.SEALED] * 9)
+            store.create(two, 16, wait=True)
+            store.delete(two)
+            with store.get(one) as view:
+                self.assertEqual(bytes(view), bytes([1]) * 16)
+
     def test_a_device_that_is_slow(self) -> None:
         """Nine objects are in the way of one. Eight are being written, and the first write waits for a reader."""
         with self.server.connect(3) as store:
@@ -374,6 +387,22 @@ class Sessions(unittest.TestCase):
             store.delete(store.task(2).object(1))
             self.refused(store_client.Damaged, store.get, one)
             self.refused(store_client.Damaged, store.get, one)
+
+    def test_a_spilled_file_that_was_cut_short(self) -> None:
+        """It isn't read back, and is once it is whole."""
+        with self.server.connect(3) as store:
+            one, *_ = self.fill(store, 9)
+            two = store.task(2).object(1)
+            store.create(two, 16, wait=True)
+            file = self.server.spill / "3.1"
+            content = file.read_bytes()
+            self.assertEqual(content, bytes([1]) * 16)
+            file.write_bytes(content[:15])
+            store.delete(two)
+            self.refused(store_client.DeviceFailed, store.get, one)
+            file.write_bytes(content)
+            with store.get(one) as view:
+                self.assertEqual(bytes(view), content)
 
     def test_what_no_call_of_a_program_should_send(self) -> None:
         self.refused(store_client.Malformed, self.store.create, self.one, 16, 7)
