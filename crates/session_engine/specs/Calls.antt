@@ -9,16 +9,18 @@ use Rattle.obj_id.specs.declared.commands.Reply.{Reply}
 use Rattle.obj_id.specs.declared.commands.Reply.TheVariants as reply
 use Rattle.private_store.specs.declared.frames.Awaited.{Awaited}
 
--- to enter a job; a command of a job's session; a command that is tried until it isn't Pending
+-- to enter a job; a command of a job's session; a command that is tried until it isn't Pending; a session's last Leave
 pub data Asked : Type 0 where
   to_enter : JobNo → JobKey → Asked
   to_call : JobNo → ℕ → Command (List ℕ) → Asked
   to_wait : JobNo → ℕ → Awaited → Asked
+  to_leave : JobNo → ℕ → Asked
 
--- the number of the session that entered, or a reply
+-- the number of the session that entered; a reply; the end of a session, to which nothing is said
 pub data Answered : Type 0 where
   entered : ℕ → Answered
   replied : Reply (List ℕ) → Answered
+  left : Answered
 
 -- who isn't let in is refused
 abbrev pub entry_of : Result ℕ Refusal → Answered

@@ -73,7 +73,7 @@ module _ {G : Type 0} (gives : G → Asked → Answered → G → Type 0) where
     pub consumed : Consumes read_old read_new bytes
     pub outcome : IsOutcome bytes read_old old new result
 
-  -- a session from its beginning, where it has no seat, to its end: the last that its gate is asked is the Leave
+  -- a session from its beginning, where it has no seat, to its end: the last that its gate is asked is to leave it
   pub record Served (gate_old gate_new : G) (read_old read_new written_old written_new : Option (List ℕ)) (result : Result Ended SessionFault) : Type 0 where
     pub gate_then : G
     pub seat_then : Option Seat

@@ -1,27 +1,26 @@
 -- A session: the answer to each item, over a gate that is known by a relation of the gate before, what it is
 -- asked, what it answers, and the gate after.
-use Rattle.std.specs.Prelude.{◌≡◌, ℕ, List, [], ◌∷◌, Option, Some, None}
+use Rattle.std.specs.Prelude.{◌≡◌, ℕ, List, [], ◌∷◌, Option, Some, None, Result, Ok, Err}
 use Rattle.obj_id.specs.declared.ids.JobNo.{JobNo}
 use Rattle.obj_id.specs.declared.works.JobKey.{JobKey}
 use Rattle.obj_id.specs.declared.refusals.Refusal.{Refusal}
 use Rattle.obj_id.specs.declared.refusals.Refusal.TheVariants.{NotAdmitted, BadId, Exists}
-use Rattle.obj_id.specs.declared.commands.Command.TheVariants as command
 use Rattle.obj_id.specs.declared.commands.Reply.{Reply}
 use Rattle.obj_id.specs.declared.commands.Reply.TheVariants as reply
 use Rattle.private_store.specs.declared.frames.Item.{Item}
 use Rattle.private_store.specs.declared.frames.Item.TheVariants as item
 use Rattle.session_engine.specs.declared.session.Seat.{Seat}
-use Rattle.session_engine.specs.Calls.{Asked, to_enter, to_call, to_wait, Answered, entered, replied}
+use Rattle.session_engine.specs.Calls.{Asked, to_enter, to_call, to_wait, to_leave, Answered, replied, left, entry_of}
 
 -- what is written to a Hello
-abbrev pub greeting : Answered → Reply (List ℕ)
-greeting (entered number) = reply.Ok
-greeting (replied refused) = refused
+abbrev pub greeting : Result ℕ Refusal → Reply (List ℕ)
+greeting (Ok number) = reply.Ok
+greeting (Err refusal) = reply.Refused refusal
 
 -- the session's seat after a Hello: the Hello's job, and the number that the gate gave
-abbrev pub seat_of : JobNo → Answered → Option Seat
-seat_of job (entered number) = Some (record { job = job; number = number })
-seat_of job (replied refused) = None
+abbrev pub seat_of : JobNo → Result ℕ Refusal → Option Seat
+seat_of job (Ok number) = Some (record { job = job; number = number })
+seat_of job (Err refusal) = None
 
 -- where a session stands: its gate, its seat, and what its writer holds, where that is known
 pub record Standing (G : Type 0) : Type 0 where
@@ -46,8 +45,8 @@ module _ {G : Type 0} (gives : G → Asked → Answered → G → Type 0) where
 
   -- the session has entered where the gate gave it a number
   pub record Greets (job : JobNo) (key : JobKey) (before : G) (answer : Reply (List ℕ)) (after : G) (seat_after : Option Seat) : Type 0 where
-    pub entry : Answered
-    pub asked : gives before (to_enter job key) entry after
+    pub entry : Result ℕ Refusal
+    pub asked : gives before (to_enter job key) (entry_of entry) after
     pub answered : answer ≡ greeting entry
     pub seated : seat_after ≡ seat_of job entry
 
@@ -76,7 +75,7 @@ module _ {G : Type 0} (gives : G → Asked → Answered → G → Type 0) where
   Run (_ ∷ _) [] before seat after seat_after = ⊥
   Run (x ∷ items) (answer ∷ replies) before seat after seat_after = Then before seat x answer (λ gate seat_then. Run items replies gate seat_then after seat_after)
 
-  -- a session that entered asks for one Leave, whatever the answer
+  -- a session that entered asks once to be left
   abbrev pub Leaves : Option Seat → G → G → Type 0
   Leaves None before after = after ≡ before
-  Leaves (Some at) before after = (answer : Reply (List ℕ)) × gives before (to_call at.job at.number command.Leave) (replied answer) after
+  Leaves (Some at) before after = gives before (to_leave at.job at.number) left after

@@ -7,7 +7,7 @@ use private_store::Awaited;
 pub trait Gate {
     ghost use Rattle.std.specs.Prelude.{IsTrue, IfErr};
     ghost use Rattle.wire_frames.specs.Writing.{has_reply_frame};
-    ghost use Rattle.session_engine.specs.Calls.{Asked, to_enter, to_call, to_wait, Answered, replied, entry_of, IsEntryRefusal};
+    ghost use Rattle.session_engine.specs.Calls.{Asked, to_enter, to_call, to_wait, to_leave, Answered, replied, left, entry_of, IsEntryRefusal};
 
     // the gate before, what it is asked, what it answers, and the gate after
     ghost gives: { Self → Asked → Answered → Self → Type 0 };
@@ -28,4 +28,9 @@ pub trait Gate {
     fn call_wait(&mut self, job: JobNo, session: u32, awaited: Awaited) -> Reply<Bytes>
         ensures gives { gives self.old (to_wait job session awaited) (replied result) self.new }
         ensures frame { IsTrue (has_reply_frame result) };
+
+    /// Releases all that the session holds, which calls no more: now, or later if there is no memory for it now. Takes none of its
+    /// own.
+    fn leave(&mut self, job: JobNo, session: u32)
+        ensures gives { gives self.old (to_leave job session) left self.new };
 }

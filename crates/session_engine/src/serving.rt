@@ -27,8 +27,8 @@ pub enum Heard {
     NoFrame,
 }
 
-/// Serves a session to its end: answers what the reader gives, item by item, and then asks the gate for
-/// the Leave of a session that has entered.
+/// Serves a session to its end: answers what the reader gives, item by item, and then asks the gate once to leave
+/// a session that has entered.
 ///
 /// Before an accepted Hello a command is answered `NotAdmitted`, after it a Hello `Exists`. An invalid id
 /// is always answered `BadId`, and everything else is answered by the gate. What isn't a frame is answered

@@ -5,7 +5,7 @@ ghost use Rattle.session_engine.specs.Sessions.{AnswersItem, Leaves};
 
 use crate::Gate;
 use bytes::Bytes;
-use obj_id::{Command, JobKey, JobNo, Refusal, Reply};
+use obj_id::{JobKey, JobNo, Refusal, Reply};
 use private_store::Item;
 
 /// Where a session sits that has entered: its job, and its number there.
@@ -68,11 +68,11 @@ fn answer_seated<G: Gate>(gate: &mut G, seat: Seat, item: Item) -> Reply<Bytes>
     }
 }
 
-/// Releases all that the session holds, if it has entered. The answer isn't written.
+/// Has the gate release all that the session holds, if it has entered.
 pub(crate) fn leave<G: Gate>(gate: &mut G, seat: Option<Seat>)
     ensures { Leaves G.gives seat gate.old gate.new }
 {
     if let Some(seat) = seat {
-        let _ = gate.call(seat.job, seat.number, Command::Leave);
+        gate.leave(seat.job, seat.number);
     }
 }

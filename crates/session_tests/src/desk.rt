@@ -21,9 +21,9 @@ pub struct Desk {
     length: u32,
     /// Sessions that were let in.
     pub entries: u32,
-    /// How often a session left.
+    /// How often a session was left.
     pub leaves: u32,
-    /// Whether the last call was a Leave.
+    /// Whether that was the last call.
     pub is_left: bool,
     /// Calls of another job or session, or of nobody who is in.
     pub strays: u32,
@@ -61,17 +61,9 @@ impl Desk {
             Command::Create(_, _, length) => self.make(*length),
             Command::Seal(_) => Reply::Ok,
             Command::Get(_) => Reply::Got(self.length),
-            Command::Leave => self.leave(),
+            Command::Leave => Reply::Ok,
             _ => Reply::Refused(Refusal::Absent),
         }
-    }
-
-    fn leave(&mut self) -> Reply<Bytes>
-        ensures { IsTrue (has_reply_frame result) }
-    {
-        self.leaves = self.leaves.saturating_add(1);
-        self.is_left = true;
-        Reply::Ok
     }
 }
 
@@ -99,5 +91,11 @@ impl Gate for Desk {
             Awaited::Create(_, _, length) => self.make(length),
             Awaited::Get(_) => Reply::Got(self.length),
         }
+    }
+
+    fn leave(&mut self, job: JobNo, session: u32) {
+        self.look_at(job, session);
+        self.leaves = self.leaves.saturating_add(1);
+        self.is_left = true;
     }
 }

@@ -13,7 +13,7 @@ use Rattle.std.specs.contracts.alloc.Global as Heap
 use Rattle.std.specs.contracts.boxed.Box as Box
 use Rattle.std.specs.contracts.impls.GlobalAllocator.TheImpl.{ghosts}
 use Rattle.std.specs.contracts.sync.Arc as Arc
-use Rattle.std.proofs.Crossing.{crosses, send, Box-send, Arc-send, Arc-sync}
+use Rattle.std.proofs.Crossing.{crosses, send, Box-send, Arc-send}
 use Rattle.indexmap.proofs.map.IndexMap.TheSendSync.{the_send as map_send}
 use Rattle.indexmap.proofs.set.IndexSet.TheSendSync.{the_send as set_send}
 use Rattle.obj_id.proofs.ids.JobNo.TheSendSync.{the_send as job_send}
@@ -36,12 +36,8 @@ use Rattle.node_journal.specs.contracts.kept.Kept as Kept
 use Rattle.node_journal.proofs.logs.Logs.TheSendSync.{the_send as logs_send}
 use Rattle.std.specs.declared.sync.ledger.Ledger.{Ghosts}
 use Rattle.std.proofs.sync.ledger.Share.TheSendSync.{the_send as share_send}
-use Rattle.std.proofs.sync.Condvar.TheSendSync.{the_send as condvar_send, the_sync as condvar_sync}
-use Rattle.obj_id.proofs.works.DeviceKey.TheSendSync.{the_send as key_send}
-use Rattle.session_threads.proofs.device_calls.Place.TheSendSync.{the_send as place_send}
+use Rattle.session_threads.proofs.upkeep.Upkeep.TheSendSync.{the_send as upkeep_send, the_sync as upkeep_sync}
 use Rattle.session_threads.proofs.posting.Ways.TheSendSync.{the_send as ways_send, the_sync as ways_sync}
-use Rattle.session_threads.proofs.waiting.Waiting.TheSendSync.{the_send as waiting_send, the_sync as waiting_sync}
-use Rattle.session_threads.specs.contracts.waiting.Waiting as Waiting
 use Rattle.session_threads.specs.contracts.shared.SharedNode as Shared
 
 layer_sends : (i : block.the_members) → Sends knot.ring i
@@ -80,10 +76,10 @@ module _ (L : RattleType) (g : Ghosts L.Denot) where
   kept_send = declared_send (Kept.the_type L g) (search (sendable, crosses) depth 20, (node_send, (search sendable, (logs_send, (search sendable, (search (share_send, sendable) depth 20, tt))))))
 
   pub shared_send : IsSend (Shared.the_row L g)
-  shared_send = declared_send (Shared.the_type L g) (search (kept_send, sendable, crosses) depth 20, (ways_send L, (Arc-send Waiting.the_row waiting_send waiting_sync, (condvar_send, (search (sendable, crosses) depth 20, (search (key_send, sendable, crosses) depth 20, (search (place_send, sendable, crosses) depth 20, (search (sendable, crosses) depth 20, (search (sendable, crosses) depth 20, (search (sendable, crosses) depth 20, (condvar_send, tt)))))))))))
+  shared_send = declared_send (Shared.the_type L g) (search (kept_send, sendable, crosses) depth 20, (ways_send L, (upkeep_send, tt)))
 
   pub shared_sync : IsSync (Shared.the_row L g)
-  shared_sync = declared_sync (Shared.the_type L g) (search (kept_send, sendable, crosses) depth 20, (ways_sync L, (Arc-sync Waiting.the_row waiting_send waiting_sync, (condvar_sync, (search (sendable, crosses) depth 20, (search (key_send, sendable, crosses) depth 20, (search (place_send, sendable, crosses) depth 20, (search (sendable, crosses) depth 20, (search (sendable, crosses) depth 20, (search (sendable, crosses) depth 20, (condvar_sync, tt)))))))))))
+  shared_sync = declared_sync (Shared.the_type L g) (search (kept_send, sendable, crosses) depth 20, (ways_sync L, (upkeep_sync, tt)))
 
   node_arc_send : IsSend (Arc.the_row (Shared.the_row L g) Heap.the_row ghosts)
   node_arc_send = Arc-send (Shared.the_row L g) shared_send shared_sync

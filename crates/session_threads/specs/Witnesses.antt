@@ -12,7 +12,7 @@ use Rattle.private_store.specs.declared.inputs.Judged.TheVariants as judged
 use Rattle.private_store.specs.Contents.{brief}
 use Rattle.node_journal.specs.declared.entries.Entry.{Entry}
 use Rattle.node_journal.specs.Replies.{kept_reply}
-use Rattle.session_engine.specs.Calls.{Asked, to_call, to_wait, Answered, replied}
+use Rattle.session_engine.specs.Calls.{Asked, to_call, to_wait, to_leave, Answered, replied, left}
 
 -- what a receipt tells of its entry: the job under which it is kept, and the entry
 pub record Witness : Type 0 where
@@ -34,7 +34,17 @@ tried (awaited.Create id kind n) = command.Create id kind n
 abbrev pub IsStepped : JobNo → ℕ → Command (List ℕ) → Reply (List ℕ) → Option Witness → Type 0
 IsStepped job session c told last = IsSomeAnd last (IsCalled job session c told) ⊎ (told ≡ reply.Refused NoMemory)
 
-abbrev pub IsWitnessed : Asked → Answered → Option Witness → Type 0
-IsWitnessed (to_call job session c) (replied told) last = IsStepped job session c told last
-IsWitnessed (to_wait job session a) (replied told) last = IsStepped job session (tried a) told last
-IsWitnessed _ _ last = ⊤
+-- the entry is of the session's last Leave
+pub record IsLast (job : JobNo) (session : ℕ) (witness : Witness) : Type 0 where
+  pub told : Reply (List ℕ)
+  pub is_called : IsCalled job session command.Leave told witness
+
+-- the last receipt is of the Leave, or the session is left later and it is the one from before
+abbrev pub IsLeft : JobNo → ℕ → Option Witness → Option Witness → Type 0
+IsLeft job session before last = IsSomeAnd last (IsLast job session) ⊎ (last ≡ before)
+
+abbrev pub IsWitnessed : Asked → Answered → Option Witness → Option Witness → Type 0
+IsWitnessed (to_call job session c) (replied told) before last = IsStepped job session c told last
+IsWitnessed (to_wait job session a) (replied told) before last = IsStepped job session (tried a) told last
+IsWitnessed (to_leave job session) left before last = IsLeft job session before last
+IsWitnessed _ _ before last = ⊤

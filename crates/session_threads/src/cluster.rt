@@ -4,6 +4,7 @@ ghost use Rattle.job_admission.specs.Admissions.{largest_memory};
 
 use crate::SharedNode;
 use crate::posting::{WayIn, Ways, receive};
+use crate::tally::Tally;
 use crate::waiting::Waiting;
 use owner_directory::Directory;
 use std::alloc::{AllocError, Global};
@@ -25,6 +26,27 @@ pub struct Report {
     pub lost: u64,
     /// Device keys that weren't erased.
     pub erase_failures: u64,
+}
+
+impl Report {
+    fn new() -> Report {
+        Report {
+            entries: 0,
+            receipts: 0,
+            disagreeing: 0,
+            lost: 0,
+            erase_failures: 0,
+        }
+    }
+
+    /// Counts so many entries of a node, and what else was counted there.
+    fn count(&mut self, entries: u64, tally: Tally) {
+        self.entries = self.entries.saturating_add(entries);
+        self.receipts = self.receipts.saturating_add(tally.receipts);
+        self.disagreeing = self.disagreeing.saturating_add(tally.disagreeing);
+        self.lost = self.lost.saturating_add(tally.lost);
+        self.erase_failures = self.erase_failures.saturating_add(tally.unerased);
+    }
 }
 
 /// The nodes of a process, by number, with one directory and a link from each node to each other one.
@@ -92,7 +114,7 @@ impl<L: Ledger> Cluster<L> {
     /// Closes the links, and waits for what was accepted to be received. What is sent from then on is lost.
     pub fn disconnect<R: Threads + Wait>(&mut self, rt: &R) {
         for node in &self.nodes {
-            node.close_links(rt);
+            node.ways.close(rt);
         }
         for thread in mem::replace(&mut self.receiving, Vec::new(self.alloc)) {
             thread.join(rt);
@@ -120,20 +142,10 @@ impl<L: Ledger> Cluster<L> {
 
     /// Waits for the open sessions to end, and says what was counted.
     pub fn report<R: Wait>(&self, rt: &R) -> Report {
-        let mut report = Report {
-            entries: 0,
-            receipts: 0,
-            disagreeing: 0,
-            lost: 0,
-            erase_failures: 0,
-        };
+        let mut report = Report::new();
         for node in &self.nodes {
-            let (entries, tally) = node.counted(rt);
-            report.entries = report.entries.saturating_add(entries);
-            report.receipts = report.receipts.saturating_add(tally.receipts);
-            report.disagreeing = report.disagreeing.saturating_add(tally.disagreeing);
-            report.lost = report.lost.saturating_add(tally.lost);
-            report.erase_failures = report.erase_failures.saturating_add(tally.unerased);
+            node.end_sessions(rt);
+            report.count(node.entries(rt), node.upkeep.counted(rt));
         }
         report
     }

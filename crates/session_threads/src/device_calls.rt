@@ -14,16 +14,6 @@ pub(crate) struct Finishing {
     pub written: Option<DeviceKey>,
 }
 
-/// The place of a node for a Finish that found no memory. It is there before a work is taken.
-#[derive(Drop)]
-pub(crate) enum Place {
-    Free,
-    /// A round has it.
-    Taken,
-    /// The next round begins with it.
-    Holds(Finishing),
-}
-
 /// Asks the device for what the work says, and gives what is to be handed in for it. Without memory for the call the work has
 /// failed.
 pub(crate) fn call_device<D: SpillDevice>(device: &mut D, work: &Work<Bytes>) -> Finishing
@@ -53,4 +43,15 @@ fn answer_of<D: SpillDevice>(device: &mut D, work: &Work<Bytes>) -> DeviceAnswer
             Err(_) => DeviceAnswer::Failed,
         },
     }
+}
+
+/// Erases keys: of how many it failed.
+pub(crate) fn erase_all<D: SpillDevice>(device: &mut D, keys: &[DeviceKey]) -> u64 {
+    let mut failed = 0u64;
+    for key in keys {
+        if device.erase(*key).is_err() {
+            failed = failed.saturating_add(1);
+        }
+    }
+    failed
 }

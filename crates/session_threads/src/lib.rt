@@ -5,11 +5,19 @@
 mod cluster;
 mod device_calls;
 mod frames;
+mod leaving;
 mod listening;
+mod open_sessions;
 mod posting;
 mod session;
 mod shared;
+mod stepping;
+mod tally;
+mod upkeep;
 mod waiting;
+mod waiting_keys;
+mod work_place;
+mod worker_bell;
 mod working;
 
 pub use cluster::{Cluster, Report};

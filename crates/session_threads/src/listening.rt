@@ -57,7 +57,7 @@ fn accept_all<L: Ledger + Send + Sync + 'static, R: Threads + Wait + Clock + Cop
     listener: &UnixListener,
 ) {
     for stream in listener.incoming() {
-        if node.is_shut() {
+        if node.upkeep.waiting.is_shut() {
             return;
         }
         match stream {
@@ -75,12 +75,12 @@ fn start_session<
     R: Threads + Wait + Clock + Copy + Send + 'static,
 >(rt: R, alloc: Global, node: &Arc<SharedNode<L>>, stream: UnixStream) -> Result<(), AllocError> {
     let theirs = Arc::try_clone(node)?;
-    if !node.open_session(&rt) {
+    if !node.upkeep.sessions.begin(&rt) {
         return Ok(());
     }
     let job = move || serve_stream(&rt, alloc, &*theirs, &stream);
     if thread::spawn(&rt, job).is_err() {
-        node.end_session(&rt);
+        node.upkeep.sessions.end(&rt);
     }
     Ok(())
 }
@@ -99,5 +99,5 @@ fn serve_stream<L: Ledger, R: Wait + Clock>(
     let _ = serve(alloc, &mut reader, &mut writer, &mut session);
     session.check();
     let _ = stream.shutdown(Shutdown::Both);
-    node.end_session(rt);
+    node.upkeep.sessions.end(rt);
 }

@@ -1,8 +1,8 @@
 //! The ways out of a node: what a step sends is handed over once the node's lock is left.
 use crate::SharedNode;
-use crate::shared::Stepped;
+use crate::stepping::Stepped;
 use fetch_link::{LinkReceiver, LinkSender, Sent, open};
-use node_journal::{Mail, Posted};
+use node_journal::{Mail, Posted, Receipt};
 use obj_id::{Message, PeerMessage, Place};
 use owner_directory::Directory;
 use std::alloc::{AllocError, Global};
@@ -54,14 +54,49 @@ impl<L: Ledger> Ways<L> {
     fn link(&self, node: u32) -> Option<&Mutex<LinkSender<Posted<L>>>> {
         self.links.get(node as usize)?.as_ref()
     }
+
+    /// Hands a message over to its place.
+    fn hand_over<R: Wait>(&self, rt: &R, posted: Posted<L>) -> Handed<L> {
+        match posted.to() {
+            Place::Directory => match posted.through(&mut *self.directory.lock(rt)) {
+                Err(_) => Handed::Lost,
+                Ok(None) => Handed::Over,
+                Ok(Some(located)) => Handed::Answered(located),
+            },
+            Place::Node(node) => match self.link(node) {
+                None => Handed::Lost,
+                Some(link) => match link.lock(rt).send_next(rt, posted) {
+                    Sent::Accepted => Handed::Over,
+                    _ => Handed::Lost,
+                },
+            },
+        }
+    }
+
+    /// Closes the ways out to other nodes: what was accepted is still received.
+    pub(crate) fn close<R: Wait>(&self, rt: &R) {
+        for link in &self.links {
+            if let Some(link) = link {
+                link.lock(rt).close();
+            }
+        }
+    }
+}
+
+/// What became of a message that was handed over.
+#[derive(Drop)]
+enum Handed<L: Ledger> {
+    /// It came to its place, or is on its way.
+    Over,
+    /// It didn't come there.
+    Lost,
+    /// The directory's answer to it.
+    Answered(Posted<L>),
 }
 
 impl<L: Ledger> SharedNode<L> {
     /// Hands over what a step has sent, in order, and counts what is lost: whether a Pull was among it.
-    pub(crate) fn post<R: Wait>(&self, rt: &R, mail: Option<Mail<L>>) -> bool {
-        let Some(mail) = mail else {
-            return false;
-        };
+    pub(crate) fn post<R: Wait>(&self, rt: &R, mail: Mail<L>) -> bool {
         let mut is_pulling = false;
         let mut lost = 0u64;
         for posted in mail {
@@ -70,38 +105,29 @@ impl<L: Ledger> SharedNode<L> {
                 lost = lost.saturating_add(1);
             }
         }
-        self.count_lost(rt, lost);
+        self.upkeep.tallies.lost(rt, lost);
         is_pulling
     }
 
-    /// Hands a message over to its place: whether it came there.
+    /// Hands a message over to its place: whether it came there. What the directory answers arrives here, and no answer of it makes
+    /// a node send.
     fn hand_over<R: Wait>(&self, rt: &R, posted: Posted<L>) -> bool {
-        match posted.to() {
-            Place::Directory => self.tell_directory(rt, posted),
-            Place::Node(node) => match self.ways.link(node) {
-                None => false,
-                Some(link) => link.lock(rt).send_next(rt, posted) == Sent::Accepted,
-            },
+        match self.ways.hand_over(rt, posted) {
+            Handed::Over => true,
+            Handed::Lost => false,
+            Handed::Answered(located) => self.arrive(rt, located).is_some(),
         }
     }
 
-    /// Passes a message through the directory, whose answer arrives here. No answer of the directory makes a node send.
-    fn tell_directory<R: Wait>(&self, rt: &R, posted: Posted<L>) -> bool {
-        let answer = posted.through(&mut *self.ways.directory.lock(rt));
-        match answer {
-            Err(_) => false,
-            Ok(None) => true,
-            Ok(Some(located)) => self.arrive(rt, located).is_some(),
-        }
-    }
-
-    /// Closes the ways out to other nodes: what was accepted is still received.
-    pub(crate) fn close_links<R: Wait>(&self, rt: &R) {
-        for link in &self.ways.links {
-            if let Some(link) = link {
-                link.lock(rt).close();
-            }
-        }
+    /// A message of a link arrives, and what its step sends is handed over: the receipt, if it isn't lost.
+    fn receive_one<R: Wait>(&self, rt: &R, posted: Posted<L>) -> Option<Receipt<L>> {
+        let Some(stepped) = self.arrive(rt, posted) else {
+            self.upkeep.tallies.lost(rt, 1);
+            return None;
+        };
+        let Stepped { receipt, mail, .. } = stepped;
+        self.post(rt, mail);
+        Some(receipt)
     }
 }
 
@@ -124,13 +150,9 @@ fn receive_all<L: Ledger, R: Wait>(rt: &R, node: &SharedNode<L>, way: WayIn<L>) 
         let Some(posted) = link.receive_next(rt) else {
             break;
         };
-        match node.arrive(rt, posted) {
-            None => node.count_lost(rt, 1),
-            Some(stepped) => {
-                let Stepped { receipt, mail, .. } = stepped;
-                node.post(rt, mail);
-                last = receipt;
-            }
+        let receipt = node.receive_one(rt, posted);
+        if receipt.is_some() {
+            last = receipt;
         }
     }
     if let Some(receipt) = &last {

@@ -37,12 +37,14 @@ impl<'a, L: Ledger, R: Wait + Clock> Session<'a, L, R> {
     }
 }
 
-/// After each answer the last receipt is of this job, session, command and reply, or the reply is `NoMemory`.
+/// After each answer the last receipt is of this job, session, command and reply, or the reply is `NoMemory`. After the session was
+/// left, the last receipt is of its Leave, or the same as before.
 impl<'a, L: Ledger, R: Wait + Clock> Gate for Session<'a, L, R> {
     ghost use Rattle.std.specs.Prelude.{option_map};
     ghost use Rattle.session_threads.specs.Witnesses.{IsWitnessed};
 
-    ghost gives = { λ before asked told after. IsWitnessed asked told (option_map (λ r. record { job = r.job; entry = r.entry }) after.last) };
+    ghost gives = { λ before asked told after. IsWitnessed asked told (option_map (λ r. record { job = r.job; entry = r.entry }) before.last)
+        (option_map (λ r. record { job = r.job; entry = r.entry }) after.last) };
 
     fn enter(&mut self, job: JobNo, key: JobKey) -> Result<u32, Refusal> {
         self.node.enter(self.rt, job, &key)
@@ -62,5 +64,11 @@ impl<'a, L: Ledger, R: Wait + Clock> Gate for Session<'a, L, R> {
             self.last = Some(receipt);
         }
         framed(reply)
+    }
+
+    fn leave(&mut self, job: JobNo, session: u32) {
+        if let Some(receipt) = self.node.leave(self.rt, job, session) {
+            self.last = Some(receipt);
+        }
     }
 }

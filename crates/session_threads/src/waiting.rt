@@ -14,7 +14,7 @@ use std::time::{Clock, Duration};
 const PATIENCE: u64 = 2_000;
 
 /// What a step may have moved for the job's calls that wait.
-#[derive(Clone, Copy, Debug, PartialEq, Eq)]
+#[derive(Clone, Copy, PartialEq, Eq)]
 pub(crate) enum Stir {
     /// Nothing that a call waits for.
     Nothing,
@@ -27,7 +27,7 @@ pub(crate) enum Stir {
 }
 
 /// How often the copies of a job moved, and how often its fetches did.
-#[derive(Clone, Copy, Debug, PartialEq, Eq)]
+#[derive(Clone, Copy, PartialEq, Eq)]
 pub(crate) struct Moved {
     pub copies: u64,
     pub fetches: u64,
@@ -79,8 +79,23 @@ impl Waiting {
         }
     }
 
+    /// Waits for what the next try of a call may find, by the counts of the last one, and whether that asked for chunks.
+    pub(crate) fn await_next<R: Wait + Clock>(
+        &self,
+        rt: &R,
+        job: JobNo,
+        seen: Moved,
+        is_pulling: bool,
+    ) {
+        if is_pulling {
+            self.await_chunks(rt, job, seen);
+        } else {
+            self.await_move(rt, job, seen);
+        }
+    }
+
     /// Waits until something may have moved for the job since these were its counts, or the nodes are shut.
-    pub(crate) fn await_move<R: Wait>(&self, rt: &R, job: JobNo, seen: Moved) {
+    fn await_move<R: Wait>(&self, rt: &R, job: JobNo, seen: Moved) {
         let moves = self.moves.lock(rt);
         let moves = self.changed.wait_while(rt, moves, |moves| {
             !self.is_shut() && moves.of(job) == seen
@@ -89,7 +104,7 @@ impl Waiting {
     }
 
     /// The same for a fetch that has asked for chunks, which waits no longer than its patience.
-    pub(crate) fn await_chunks<R: Wait + Clock>(&self, rt: &R, job: JobNo, seen: Moved) {
+    fn await_chunks<R: Wait + Clock>(&self, rt: &R, job: JobNo, seen: Moved) {
         let moves = self.moves.lock(rt);
         let patience = Duration::from_millis(PATIENCE);
         let (moves, _) = self

@@ -1,0 +1,48 @@
+//! How a session is left at its end: now, or, if there is no memory for it, by a later step of its node.
+ghost use Rattle.std.specs.Prelude.{IfSome};
+ghost use Rattle.session_threads.specs.Witnesses.{IsLast};
+
+use crate::SharedNode;
+use crate::open_sessions::MOST_SESSIONS;
+use crate::stepping::step_mark;
+use node_journal::{Mail, Receipt};
+use obj_id::{Command, JobNo};
+use std::sync::Wait;
+use std::sync::ledger::Ledger;
+
+impl<L: Ledger> SharedNode<L> {
+    /// Leaves a session, with the receipt of the entry. If there is no memory for that, the session is marked.
+    pub(crate) fn leave<R: Wait>(&self, rt: &R, job: JobNo, session: u32) -> Option<Receipt<L>>
+        ensures { IfSome result (λ r. IsLast job session (record { job = r.job; entry = r.entry })) }
+    {
+        let (_, receipt) = self.call(rt, job, session, Command::Leave);
+        if receipt.is_none() {
+            self.upkeep.sessions.mark(rt, job, session);
+        }
+        receipt
+    }
+
+    /// Leaves the sessions that are marked, in order, until one finds no memory.
+    pub(crate) fn leave_marked<R: Wait>(&self, rt: &R) {
+        for _ in 0..MOST_SESSIONS {
+            if self.upkeep.sessions.first_marked(rt).is_none() {
+                return;
+            }
+            let Some(mail) = self.leave_first(rt) else {
+                return;
+            };
+            self.post(rt, mail);
+        }
+    }
+
+    /// Leaves the session that was marked first: what that sends. None if no session is marked, or there is no memory for it.
+    fn leave_first<R: Wait>(&self, rt: &R) -> Option<Mail<L>> {
+        step_mark(rt, &mut *self.kept.lock(rt), &self.upkeep)
+    }
+
+    /// Waits for the open sessions to end, and leaves those that are marked then.
+    pub(crate) fn end_sessions<R: Wait>(&self, rt: &R) {
+        self.upkeep.sessions.wait_for_all(rt);
+        self.leave_marked(rt);
+    }
+}

@@ -1,0 +1,105 @@
+//! What a node's steps leave to be done, beside the node itself.
+use crate::device_calls::{Finishing, erase_all};
+use crate::open_sessions::OpenSessions;
+use crate::tally::{Tallies, Tally};
+use crate::waiting::{Stir, Waiting};
+use crate::waiting_keys::WaitingKeys;
+use crate::work_place::{Place, WorkPlace};
+use crate::worker_bell::WorkerBell;
+use crate::working::WorkDone;
+use bytes::Bytes;
+use node_core::Erase;
+use obj_id::{JobNo, Refusal, Reply};
+use spill_device::SpillDevice;
+use std::alloc::Global;
+use std::slice;
+use std::sync::{Arc, Wait};
+
+/// The counts of a node, its sessions, the keys that wait, and whom its steps wake.
+//
+// Each has a lock of its own, under which no other is taken.
+#[derive(Drop)]
+pub(crate) struct Upkeep {
+    pub tallies: Tallies,
+    pub sessions: OpenSessions,
+    pub keys: WaitingKeys,
+    pub place: WorkPlace,
+    pub bell: WorkerBell,
+    pub waiting: Arc<Waiting>,
+}
+
+impl Upkeep {
+    /// Of a node that has made no step.
+    pub(crate) fn new(alloc: Global, waiting: Arc<Waiting>) -> Upkeep {
+        Upkeep {
+            tallies: Tallies::new(),
+            sessions: OpenSessions::new(alloc),
+            keys: WaitingKeys::new(alloc),
+            place: WorkPlace::new(),
+            bell: WorkerBell::new(),
+            waiting,
+        }
+    }
+
+    /// Counts a step, lets its keys wait, and wakes the worker, if it has something to do, and who waits for what the step may have
+    /// moved for this job. The node is locked, so that nobody is between a look and a wait.
+    pub(crate) fn settle<R: Wait>(
+        &self,
+        rt: &R,
+        erase: &Erase,
+        has_work: bool,
+        job: JobNo,
+        stir: Stir,
+    ) {
+        let (has_keys, unerased) = self.keys.add(rt, erase);
+        self.tallies.given(rt);
+        self.tallies.unerased(rt, unerased);
+        if has_keys || has_work {
+            self.bell.ask(rt);
+        }
+        self.waiting.note(rt, job, stir);
+    }
+
+    /// Erases the keys that wait.
+    pub(crate) fn erase_keys<R: Wait, D: SpillDevice>(&self, rt: &R, device: &mut D) {
+        let keys = self.keys.take(rt);
+        let failed = erase_all(device, &keys);
+        self.tallies.unerased(rt, failed);
+    }
+
+    /// Ends a round whose Take was answered so, and took no work.
+    pub(crate) fn end_take<R: Wait>(&self, rt: &R, told: &Reply<Bytes>) -> WorkDone {
+        self.place.leave(rt, Place::Free);
+        match told {
+            Reply::Refused(Refusal::NoMemory) => WorkDone::NoMemory,
+            _ => WorkDone::Nothing,
+        }
+    }
+
+    /// Ends a round that has handed in a device's answer. One that found no memory is kept in the round's place; what was written for
+    /// a work that is no more is erased.
+    pub(crate) fn end_round<R: Wait, D: SpillDevice>(
+        &self,
+        rt: &R,
+        device: &mut D,
+        finishing: Finishing,
+        done: WorkDone,
+    ) {
+        if done == WorkDone::NoMemory {
+            self.place.leave(rt, Place::Holds(finishing));
+            return;
+        }
+        self.place.leave(rt, Place::Free);
+        if let (WorkDone::Stale, Some(key)) = (done, finishing.written) {
+            let failed = erase_all(device, slice::from_ref(&key));
+            self.tallies.unerased(rt, failed);
+        }
+    }
+
+    /// What was counted. Keys that still wait weren't erased.
+    pub(crate) fn counted<R: Wait>(&self, rt: &R) -> Tally {
+        let mut tally = self.tallies.now(rt);
+        tally.unerased = tally.unerased.saturating_add(self.keys.count(rt));
+        tally
+    }
+}
