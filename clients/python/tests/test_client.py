@@ -348,6 +348,19 @@ class Sessions(unittest.TestCase):
             with store.get(one) as view:
                 self.assertEqual(bytes(view), bytes([1]) * 16)
 
+    def check_others_are_answered(self) -> None:
+        """Another job's commands are answered while a device call of job 3 is held."""
+        with self.server.connect(1) as other:
+            one = other.put(b"abcd", other.task(1).object(1))
+            with other.get(one) as view:
+                self.assertEqual(bytes(view), b"abcd")
+            other.delete(one)
+
+    def await_works(self, store: store_client.Connection) -> None:
+        end = time.monotonic() + PATIENCE
+        while store.usage().works:
+            self.assertLess(time.monotonic(), end, "the device works don't end")
+
     def test_a_device_that_is_slow(self) -> None:
         """Nine objects are in the way of one. Eight are being written, and the first write waits for a reader."""
         with self.server.connect(3) as store:
@@ -358,12 +371,33 @@ class Sessions(unittest.TestCase):
             self.refused(store_client.Pending, store.create, two, 144)
             self.assertEqual(store.usage().works, 8)
             self.refused(store_client.Busy, store.create, two, 144)
+            self.check_others_are_answered()
             reader = os.open(file, os.O_RDONLY | os.O_NONBLOCK)
             self.addCleanup(os.close, reader)
-            end = time.monotonic() + PATIENCE
-            while store.usage().works:
-                self.assertLess(time.monotonic(), end, "the device works don't end")
+            self.await_works(store)
             self.assertEqual(store.create(two, 144, wait=True), (0, 144))
+
+    def test_a_device_that_reads_slowly(self) -> None:
+        """A read of a spilled file waits for a writer; it has no bytes then, and is read once it has them."""
+        with self.server.connect(3) as store:
+            one, *_ = self.fill(store, 9)
+            two = store.task(2).object(1)
+            store.create(two, 16, wait=True)
+            file = self.server.spill / "3.1"
+            content = file.read_bytes()
+            file.unlink()
+            os.mkfifo(file)
+            store.delete(two)
+            self.refused(store_client.Pending, store.hold, one)
+            self.assertEqual(store.usage().works, 1)
+            self.check_others_are_answered()
+            os.close(os.open(file, os.O_WRONLY))
+            self.await_works(store)
+            file.unlink()
+            file.write_bytes(content)
+            self.refused(store_client.DeviceFailed, store.hold, one)
+            with store.get(one) as view:
+                self.assertEqual(bytes(view), content)
 
     @unittest.skipUnless(is_held_to_its_memory(), "no process is held to a limit of its memory here")
     def test_a_server_without_memory(self) -> None:
