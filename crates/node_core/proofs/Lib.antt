@@ -11,7 +11,7 @@ mod HandsEnd
 mod Ending
 mod Asking
 mod Entering
-mod Taking
+pub mod Taking
 mod Finishing
 mod Requotas
 pub mod Never

@@ -4,10 +4,11 @@ ghost use Rattle.obj_id.specs.declared.refusals.Refusal.{Refusal};
 ghost use Rattle.obj_id.specs.declared.refusals.Refusal.TheVariants.{NoMemory};
 ghost use Rattle.private_store.specs.declared.schedules.Event.TheVariants as event;
 ghost use Rattle.private_store.specs.Contents.{View, judge};
-ghost use Rattle.spill_work.specs.Line.{front_of};
+ghost use Rattle.spill_work.specs.Line.{front_of, taken_by};
 ghost use Rattle.node_table.specs.Outcomes.{given_of as row_given_of};
 ghost use Rattle.node_core.specs.Hosted.{Shows};
 ghost use Rattle.node_core.specs.Late.{IsFront};
+ghost use Rattle.node_core.specs.Steps.{job_in_turn as job_in_turn_lem};
 ghost use Rattle.node_core.specs.OneJob.{input_of, StepsOne};
 
 use crate::Node;
@@ -21,6 +22,24 @@ impl Node {
         ensures { result ≡ is_some (front_of self.now.works.works) }
     {
         self.works.front().is_some()
+    }
+
+    /// The job whose work a Take gives next: 0 if none waits. No event: nothing changes. Takes no memory.
+    pub fn job_in_turn(&self) -> JobNo
+        ensures { result.0 ≡ job_in_turn_lem self.now.works.works }
+    {
+        match self.works.front() {
+            Some(asked) => asked.job,
+            None => JobNo(0),
+        }
+    }
+
+    /// How many works of the job were taken and not answered. No event: nothing changes. Takes no memory, and a walk over the
+    /// job's works.
+    pub fn taken(&self, job: JobNo) -> usize
+        ensures { result ≡ taken_by self.now.works job }
+    {
+        self.works.taken(job)
     }
 
     /// A worker asks for a work: of all jobs' the first that nobody has taken, with a write's bytes. `NoWork` if there is

@@ -201,6 +201,12 @@ module _ (job : JobNo) (number : ℕ) where
     pub count_is : length (row_of rows job) ≡ length (filter (is_of job) (works_in rows))
     count_is = sym (length_map (λ (t : Timed). t.work) (row_of rows job)) ∙ sym (ap length part_is)
 
+    pub taken_is : length (filter (λ (t : Timed). t.work.taken) (row_of rows job)) ≡ length (filter (λ (w : Queued). w.taken) (filter (is_of job) (works_in rows)))
+    taken_is =
+        sym (length_map (λ (t : Timed). t.work) (filter (λ (t : Timed). t.work.taken) (row_of rows job)))
+        ∙ sym (ap length (filter_map (λ (t : Timed). t.work) (λ (w : Queued). w.taken) (row_of rows job)))
+        ∙ sym (ap (λ ws. length (filter (λ (w : Queued). w.taken) ws)) part_is)
+
     pub work_is : option_map (λ (t : Timed). t.work) (find (has_number number) (row_of rows job)) ≡ find (is_at job number) (works_in rows)
     work_is =
         ap (λ r. option_map (λ (t : Timed). t.work) (find (has_number number) r)) (h.in_order job)

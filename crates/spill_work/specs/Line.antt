@@ -47,6 +47,10 @@ works_of line job = map (λ work. shown work.asked) (filter (is_of job) line.wor
 abbrev pub in_flight : WorkLine → JobNo → ℕ
 in_flight line job = length (works_of line job)
 
+-- how many of the job's works were taken
+abbrev pub taken_by : WorkLine → JobNo → ℕ
+taken_by line job = length (filter (λ work. work.taken) (filter (is_of job) line.works))
+
 -- the last number that a work of the job had
 abbrev pub used_by : WorkLine → JobNo → ℕ
 used_by line job = unwrap_or (lookup (same_job job) line.used) 0

@@ -54,6 +54,16 @@ impl ByJob {
         }
     }
 
+    /// How many of the job's works were taken.
+    pub(crate) fn taken_of(&self, job: JobNo) -> usize
+        ensures { result ≡ length (filter (λ work. work.taken) (filter (is_of job) self.now)) }
+    {
+        match self.rows.get(&job) {
+            Some(row) => row.taken(),
+            None => 0,
+        }
+    }
+
     /// What the job's works ask, in their order. Takes a walk over them, and memory for each.
     pub(crate) fn asked_of(&self, job: JobNo) -> Result<Items<Asked>, AllocError>
         ensures { IfOk result (λ asked. asked ≡ map (λ work. work.asked) (filter (is_of job) self.now)) }

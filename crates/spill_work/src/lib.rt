@@ -8,7 +8,7 @@ ghost use Rattle.std.specs.Map.{lookup, set_value, remove_entry};
 ghost use Rattle.indexmap.specs.IndexMap.{insert_entry, Updates};
 ghost use Rattle.obj_id.specs.declared.refusals.Refusal.{Refusal};
 ghost use Rattle.obj_id.specs.declared.refusals.Refusal.TheVariants.{NoMemory};
-ghost use Rattle.spill_work.specs.Line.{WorkLine, same_job, shown, works_of, used_by, in_flight as in_flight_lem, room_for as room_for_lem, ask_check as ask_check_lem, Asks, TakesBack, AsksAll, front_of, Takes, MarksTaken, finish_check as finish_check_lem, Finishes, Drops};
+ghost use Rattle.spill_work.specs.Line.{WorkLine, same_job, shown, works_of, used_by, in_flight as in_flight_lem, taken_by, room_for as room_for_lem, ask_check as ask_check_lem, Asks, TakesBack, AsksAll, front_of, Takes, MarksTaken, finish_check as finish_check_lem, Finishes, Drops};
 ghost use Rattle.spill_work.specs.Numbers.{entry_of};
 
 mod by_job;
@@ -58,6 +58,13 @@ impl Works {
         ensures { result ≡ in_flight_lem self.now job }
     {
         self.line.count_of(job)
+    }
+
+    /// How many works of the job were taken and not answered. Takes a walk over its works.
+    pub fn taken(&self, job: JobNo) -> usize
+        ensures { result ≡ taken_by self.now job }
+    {
+        self.line.taken_of(job)
     }
 
     /// The job's works in flight, in the order asked. Takes a walk over them, and memory for each.

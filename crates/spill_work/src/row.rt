@@ -47,6 +47,13 @@ impl Row {
         self.works.len()
     }
 
+    /// How many of them were taken.
+    pub(crate) fn taken(&self) -> usize
+        ensures { result ≡ length (filter (λ t. t.work.taken) self.now) }
+    {
+        self.works.iter().filter(|timed| timed.work.taken).count()
+    }
+
     /// What each asks, in their order. Takes a walk over them, and memory for each.
     pub(crate) fn asked(&self, alloc: Global) -> Result<Items<Asked>, AllocError>
         ensures { IfOk result (λ asked. asked ≡ map (λ t. t.work.asked) self.now) }
