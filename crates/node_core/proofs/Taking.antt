@@ -61,7 +61,7 @@ module _ (job : JobNo) (number : ℕ) where
           ∙ rest
           ∙ sym (ap (λ t. count_by (λ v. v.number == number) (map (λ (work : Queued). shown work.asked) (cond t (w ∷ filter (is_of job) ws) (filter (is_of job) ws)))) a)
 
-  unmarked : (ws : List Queued) → length (filter (is_at job number) ws) ≤ 0 → map (taken_if job number) ws ≡ ws
+  pub unmarked : (ws : List Queued) → length (filter (is_at job number) ws) ≤ 0 → map (taken_if job number) ws ≡ ws
   unmarked [] none = refl
   unmarked (w ∷ ws) none = by (is_at job number w) (unmarked ws) none
     where

@@ -4,16 +4,19 @@ use Rattle.std.specs.Prelude.{slice_get}
 use Rattle.std.specs.List.{list_any}
 use Rattle.std.proofs.Math.Logic.{∥∥₁_elim}
 use base.Stored.{Coded-set}
+use native.Mathlib.Nat.{ℕ_set}
 use Rattle.obj_id.specs.declared.ids.JobNo.{JobNo}
 use Rattle.private_store.specs.Contents.{View}
 use Rattle.private_store.specs.Replay.{Brief, brief_of}
 use Rattle.private_store.proofs.Tests.{none_some}
 use Rattle.plain_store.specs.contracts.store.PlainStore as plain
 use Rattle.plain_store.specs.Parts.{has_begun}
+use Rattle.spill_work.specs.Line.{taken_by}
 use Rattle.node_core.specs.Hosted.{Hosted, Shows}
 use Rattle.node_journal.specs.declared.entries.Line.{Line}
-use Rattle.node_journal.specs.Journals.{Journal, Tells, begins, folded_if, last_of, step_of, store_of}
+use Rattle.node_journal.specs.Journals.{Journal, Tells, begins, folded_if, last_of, step_of, store_of, taken_of, base_after}
 use Rattle.node_journal.specs.Logs.{Bases, AreStores, has_base}
+use Rattle.node_journal.specs.declared.folding.Base.{Base}
 use Rattle.node_journal.proofs.Lives.{replay_begins}
 
 -- the number of the last line
@@ -32,16 +35,20 @@ Brief-set = Coded-set plain.the_row.coded
 
 -- what the node shows is what the journal tells of
 pub base_is : (node : Hosted) (journals : ℕ → Journal) (job : ℕ) (base : Brief) → ∥ Tells node journals ∥₁
-    → ((view : View) → Shows node job view → has_begun view.shape.life ≡ (has_begun (journals job).base.shape.life || list_any begins (journals job).list) → base ≡ brief_of view) → base ≡ store_of (journals job)
+    → ((view : View) → Shows node job view → has_begun view.shape.life ≡ (has_begun (journals job).base.store.shape.life || list_any begins (journals job).list) → base ≡ brief_of view) → base ≡ store_of (journals job)
 base_is node journals job base h is = ∥∥₁_elim h (Brief-set _ _) (λ t.
     let told = t.told job in
-    is (t.views job) (t.shown job) (sym (ap (λ (b : Brief). has_begun b.shape.life) told.replays) ∙ replay_begins (journals job).list (journals job).base told.due) ∙ sym told.replays)
+    is (t.views job) (t.shown job) (sym (ap (λ (b : Brief). has_begun b.shape.life) told.replays) ∙ replay_begins (journals job).list (journals job).base.store told.due) ∙ sym told.replays)
+
+-- and so are the works that it has as taken
+pub taken_is : (node : Hosted) (journals : ℕ → Journal) (job : JobNo) → ∥ Tells node journals ∥₁ → taken_by node.works job ≡ taken_of (journals job.0)
+taken_is node journals job h = ∥∥₁_elim h (ℕ_set _ _) (λ t. sym (t.taken job.0))
 
 -- ---- those of several
 
-store_folded : (b : Bool) (j : Journal) → store_of (folded_if b j) ≡ store_of j
-store_folded true j = refl
-store_folded false j = refl
+base_folded : (b : Bool) (j : Journal) → base_after (folded_if b j) ≡ base_after j
+base_folded true j = refl
+base_folded false j = refl
 
 -- folded twice is folded
 folded_twice : (a b : Bool) (j : Journal) → folded_if b (folded_if a j) ≡ folded_if (a || b) j
@@ -49,17 +56,17 @@ folded_twice true true j = refl
 folded_twice true false j = refl
 folded_twice false b j = refl
 
-stores_kept : (es : Bases) (before after : ℕ → Journal) → ((job : ℕ) → store_of (after job) ≡ store_of (before job)) → AreStores es before → AreStores es after
+stores_kept : (es : Bases) (before after : ℕ → Journal) → ((job : ℕ) → base_after (after job) ≡ base_after (before job)) → AreStores es before → AreStores es after
 stores_kept [] before after same h = tt
 stores_kept (e ∷ es) before after same h = (h.0 ∙ sym (same e.0.0), stores_kept es before after same h.1)
 
-pub stores_left : (e : JobNo × Brief) (es : Bases) (before after : ℕ → Journal) → ((job : ℕ) → after job ≡ folded_if (e.0.0 == job) (before job)) → AreStores (e ∷ es) before → AreStores es after
-stores_left e es before after is h = stores_kept es before after (λ job. ap store_of (is job) ∙ store_folded (e.0.0 == job) (before job)) h.1
+pub stores_left : (e : JobNo × Base) (es : Bases) (before after : ℕ → Journal) → ((job : ℕ) → after job ≡ folded_if (e.0.0 == job) (before job)) → AreStores (e ∷ es) before → AreStores es after
+stores_left e es before after is h = stores_kept es before after (λ job. ap base_after (is job) ∙ base_folded (e.0.0 == job) (before job)) h.1
 
-pub folds_left : (e : JobNo × Brief) (es : Bases) (before after : ℕ → Journal) → ((job : ℕ) → after job ≡ folded_if (e.0.0 == job) (before job))
+pub folds_left : (e : JobNo × Base) (es : Bases) (before after : ℕ → Journal) → ((job : ℕ) → after job ≡ folded_if (e.0.0 == job) (before job))
     → (job : ℕ) → folded_if (has_base job es) (after job) ≡ folded_if (has_base job (e ∷ es)) (before job)
 folds_left e es before after is job = ap (folded_if (has_base job es)) (is job) ∙ folded_twice (e.0.0 == job) (has_base job es) (before job)
 
-pub stores_push : (es : Bases) (e : JobNo × Brief) (journals : ℕ → Journal) → AreStores es journals → e.1 ≡ store_of (journals e.0.0) → AreStores (es ++ e ∷ []) journals
+pub stores_push : (es : Bases) (e : JobNo × Base) (journals : ℕ → Journal) → AreStores es journals → e.1 ≡ base_after (journals e.0.0) → AreStores (es ++ e ∷ []) journals
 stores_push [] e journals h is = (is, tt)
 stores_push (x ∷ es) e journals h is = (h.0, stores_push es e journals h.1 is)

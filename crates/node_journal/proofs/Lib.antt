@@ -1,3 +1,5 @@
+mod TakenLine
+mod TakenWorks
 mod Logging
 mod OwnInputs
 mod Lists

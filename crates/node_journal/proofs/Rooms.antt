@@ -13,7 +13,7 @@ use Rattle.private_store.specs.Hands.{Hand}
 use Rattle.node_core.specs.declared.outcome.Note.{Note}
 use Rattle.node_core.specs.Foreseen.{AreTakers, takers_of}
 use Rattle.node_core.specs.Outcomes.{inputs_noted}
-use Rattle.node_core.specs.Steps.{JobJudged, job_of_event}
+use Rattle.node_core.specs.Steps.{JobJudged}
 use Rattle.node_journal.specs.declared.entries.Line.{Line}
 use Rattle.node_journal.specs.declared.entries.Line.TheVariants as line
 use Rattle.node_journal.specs.Journals.{Journal, folded_if, has_no_room, lines_due, most_lines, notes_for, with_lines}
@@ -113,16 +113,16 @@ stays_few own job takers j made full is some few = by full is
     by true is = omega (arith, few, some, count_few job takers, one (own == job))
     by false is = omega (arith, few, room (length j.list) (lines_due own takers job) is, length-append j.list made)
 
-pub all_few : (hands : List Hand) (e : Event) (told : Reply (List ℕ)) (number job : ℕ) (notes : List Note) (j after : Journal) (entry : Line)
+pub all_few : (own : ℕ) (hands : List Hand) (e : Event) (told : Reply (List ℕ)) (number job : ℕ) (notes : List Note) (j after : Journal) (entry : Line)
     → AreTakers hands e told (map (λ (note : Note). note.job) notes) → length (takers_of hands e) < most_lines
-    → after ≡ with_lines (folded_if (has_no_room (job_of_event e) (takers_of hands e) job (length j.list)) j) ((if job_of_event e == job then entry ∷ [] else []) ++ notes_for number (inputs_noted notes) job)
+    → after ≡ with_lines (folded_if (has_no_room own (takers_of hands e) job (length j.list)) j) ((if own == job then entry ∷ [] else []) ++ notes_for number (inputs_noted notes) job)
     → length after.list ≤ most_lines
-all_few hands e told number job notes j after entry are some is =
+all_few own hands e told number job notes j after entry are some is =
     let takers : List JobNo = takers_of hands e in
-    let made : List Line = (if job_of_event e == job then entry ∷ [] else []) ++ notes_for number (inputs_noted notes) job in
+    let made : List Line = (if own == job then entry ∷ [] else []) ++ notes_for number (inputs_noted notes) job in
     subst (λ (k : Journal). length k.list ≤ most_lines) (sym is)
-    (stays_few (job_of_event e) job takers j made (has_no_room (job_of_event e) takers job (length j.list)) refl some
-    (made_few (job_of_event e) job takers entry (notes_for number (inputs_noted notes) job) (notes_few hands e told number job notes are)))
+    (stays_few own job takers j made (has_no_room own takers job (length j.list)) refl some
+    (made_few own job takers entry (notes_for number (inputs_noted notes) job) (notes_few hands e told number job notes are)))
 
 -- after a message, which tells nobody
 pub arrival_few : (own number job : ℕ) (notes : List Note) (j after : Journal) (entry : Line) → notes ≡ []

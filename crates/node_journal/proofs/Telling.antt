@@ -26,19 +26,21 @@ use Rattle.private_store.proofs.AnswersAre.{view_never_wants, answers_whole}
 use Rattle.private_store.proofs.Tests.{none_some}
 use Rattle.private_store.proofs.StepsKept.{no_store_kept, view_keeps}
 use Rattle.job_admission.specs.Admissions.{Admissions, live_at}
+use Rattle.spill_work.specs.Line.{WorkLine, taken_by}
 use Rattle.node_core.specs.Hosted.{Hosted, Shows, ShowsAll}
-use Rattle.node_core.specs.Steps.{Given, JobJudged, Steps, StepsFrom, IsStepOf, IsGiven, before_of, job_of_event, judged_notes, answered, stale_unless}
+use Rattle.node_core.specs.Steps.{Given, JobJudged, Steps, StepsFrom, IsStepOf, IsGiven, before_of, job_of_event, job_at, judged_notes, answered, stale_unless}
 use Rattle.node_core.specs.OneJob.{input_of}
 use Rattle.node_core.specs.Judged.{IsJudged, arrived, IsArrivalJudged, IsSmall, IsSmallCall}
 use Rattle.node_journal.specs.declared.entries.Entry.{Entry}
 use Rattle.node_journal.specs.declared.entries.Line.{Line}
 use Rattle.node_journal.specs.declared.entries.Line.TheVariants as line
 use Rattle.node_journal.specs.Replies.{unlisted, kept_reply}
-use Rattle.node_journal.specs.Journals.{Journal, fresh, entry_for, notes_for, lines_made, line_of, lines_of, AreDue, IsTold, Tells, folded_if, with_lines, is_call}
+use Rattle.node_journal.specs.Journals.{Journal, fresh, entry_for, notes_for, lines_made, line_of, lines_of, AreDue, IsTold, Tells, taken_of, taken_come_first, folded_if, with_lines, is_call}
 use Rattle.node_core.proofs.AllJobs.{own_of, IsFinishAnswer, finish_answer, own_due_is}
 use Rattle.node_core.proofs.Notes.{is_note, AreJobNotes, here_notes}
 use Rattle.node_journal.proofs.OwnInputs.{of_job, here_is, if_own, own_inputs}
 use Rattle.node_journal.proofs.Lists.{lines_of-snoc, replayed-snoc, due-snoc}
+use Rattle.node_journal.proofs.TakenWorks.{KeepsTaken, step_keeps, arrival_keeps, stale_keeps, next_taken, folded_taken, numbered}
 
 -- ---- lines
 
@@ -53,8 +55,8 @@ module _ (node : ℕ) (view : View) (x : Input) (j : Journal) (l : Line) (told :
       let lines : lines_of (ls ++ l ∷ []) ≡ lines_of ls ++ next ∷ [] = lines_of-snoc ls l ∙ ap (λ o. lines_of ls ++ option_to_list o) is in
       record {
         kept = view_keeps node view x h.kept;
-        replays = ap (replayed j.base) lines ∙ replayed-snoc j.base (lines_of ls) next ∙ ap (λ b. brief_after b next.input) h.replays;
-        due = subst (AreDue j.base) (sym lines) (due-snoc j.base (lines_of ls) next h.due (due ∙ ap (λ b. unlisted (brief_step b next.input).reply) (sym h.replays)));
+        replays = ap (replayed j.base.store) lines ∙ replayed-snoc j.base.store (lines_of ls) next ∙ ap (λ b. brief_after b next.input) h.replays;
+        due = subst (AreDue j.base.store) (sym lines) (due-snoc j.base.store (lines_of ls) next h.due (due ∙ ap (λ b. unlisted (brief_step b next.input).reply) (sym h.replays)));
       }
 
 -- ---- notes
@@ -112,10 +114,18 @@ told_alike old new _ after same is h = subst (λ node. ∥ Tells node after ∥�
   views = t.views;
   shown = t.shown;
   told = λ job. subst (IsTold (t.views job)) (sym (is job)) (t.told job);
+  taken = λ job. ap taken_of (is job) ∙ t.taken job;
+  first = t.first;
 }))
 
 told_folded : (node : Hosted) (journals : ℕ → Journal) (full : ℕ → Bool) → Tells node journals → Tells node (λ job. folded_if (full job) (journals job))
-told_folded node journals full h = record { views = h.views; shown = h.shown; told = λ job. by job (full job) }
+told_folded node journals full h = record {
+  views = h.views;
+  shown = h.shown;
+  told = λ job. by job (full job);
+  taken = λ job. folded_taken (full job) (journals job) ∙ h.taken job;
+  first = h.first;
+}
   where
     by : (job : ℕ) (b : Bool) → IsTold (h.views job) (folded_if b (journals job))
     by job true = record { kept = (h.told job).kept; replays = (h.told job).replays; due = refl }
@@ -146,6 +156,18 @@ from-append node view (x ∷ xs) ys = from-append node (view_step node view x).v
 module _ (old new : Hosted) (e : Event) (given : Given) (number : ℕ) (steps : Steps old (Own e) given new) (was : Option Judged) (is_judged : IsJudged old e given.reply was) where
   abbrev entry : Entry
   entry = entry_for number was given.reply
+
+  -- the job that the entry stands under
+  abbrev own : ℕ
+  own = job_at old.works.works (Own e)
+
+  own_at : (g : Event) (told : Reply (List ℕ)) (x : Input) → input_of g told ≡ Some x → job_at old.works.works (Own g) ≡ job_of_event g
+  own_at (event.Admit job quota key) told x is = refl
+  own_at (event.Requota job quota) told x is = refl
+  own_at (event.JobEnd job) told x is = refl
+  own_at event.Take told x is = none_some x is
+  own_at (event.Finish job n a) told x is = refl
+  own_at (event.Call job session c) told x is = refl
 
   module _ (v : ℕ → View) (shows : ShowsAll old v) where
     abbrev before : Before
@@ -185,7 +207,7 @@ module _ (old new : Hosted) (e : Event) (given : Given) (number : ℕ) (steps : 
     judged_is : (o : Option Input) → input_of e given.reply ≡ o → was ≡ option_map (judge old.number (v (job_of_event e))) o
     judged_is o is = sym (is_judged.by_view (v (job_of_event e)) (shows (job_of_event e))) ∙ ap (option_map (judge old.number (v (job_of_event e)))) is
 
-    module _ (job : ℕ) (own : job_of_event e ≡ job) (j : Journal) (h : IsTold (v job) j) where
+    module _ (job : ℕ) (j : Journal) (h : IsTold (v job) j) where
       abbrev ls : List Line
       ls = j.list
 
@@ -196,53 +218,71 @@ module _ (old new : Hosted) (e : Event) (given : Given) (number : ℕ) (steps : 
           lines_of-snoc ls (line.Entry entry) ∙ ap (λ o. lines_of ls ++ option_to_list (option_map (λ x. record { input = x; reply = entry.reply }) o)) (judged_is None is) ∙ append-nil (lines_of ls) in
           record {
             kept = h.kept;
-            replays = ap (replayed j.base) lines ∙ h.replays;
-            due = subst (AreDue j.base) (sym lines) h.due;
+            replays = ap (replayed j.base.store) lines ∙ h.replays;
+            due = subst (AreDue j.base.store) (sym lines) h.due;
           }
 
-      -- one that is
+    -- one that is
+    module _ (job : ℕ) (its : job_of_event e ≡ job) (j : Journal) (h : IsTold (v job) j) where
       some_told : (x : Input) → input_of e given.reply ≡ Some x → IsTold (view_step old.number (v job) x).view (with_lines j (line.Entry entry ∷ []))
       some_told x is =
           line_told old.number (v job) x j (line.Entry entry) (kept_reply given.reply) h
-          (ap (option_map (λ y. record { input = y; reply = entry.reply })) (judged_is (Some x) is ∙ ap (λ k. Some (judge old.number (v k) x)) own))
-          (ap kept_reply ((told_is x is).reply ∙ ap (λ k. (view_step old.number (v k) x).reply) own) ∙ ap unlisted (answers_whole old.number (v job) x h.kept))
+          (ap (option_map (λ y. record { input = y; reply = entry.reply })) (judged_is (Some x) is ∙ ap (λ k. Some (judge old.number (v k) x)) its))
+          (ap kept_reply ((told_is x is).reply ∙ ap (λ k. (view_step old.number (v k) x).reply) its) ∙ ap unlisted (answers_whole old.number (v job) x h.kept))
+
+    -- the job that the entry stands under is that of the event, if it is an input
+    input_at : (o : Option Input) → input_of e given.reply ≡ o → (job : ℕ) → if_own (job_of_event e == job) o ≡ if_own (own == job) o
+    input_at None is job = by (job_of_event e == job) (own == job)
+      where
+        by : (a b : Bool) → if_own a None ≡ if_own b None
+        by true true = refl
+        by true false = refl
+        by false true = refl
+        by false false = refl
+    input_at (Some x) is job = ap (λ k. if_own (k == job) (Some x)) (sym (own_at e given.reply x is))
 
     own_told : (job : ℕ) (j : Journal) → IsTold (v job) j
-        → IsTold (view_from old.number (v job) (if_own (job_of_event e == job) (input_of e given.reply))) (with_lines j (if job_of_event e == job then line.Entry entry ∷ [] else []))
-    own_told job j h = by (job_of_event e == job) (input_of e given.reply) refl refl
+        → IsTold (view_from old.number (v job) (if_own (own == job) (input_of e given.reply))) (with_lines j (if own == job then line.Entry entry ∷ [] else []))
+    own_told job j h = by (own == job) (input_of e given.reply) refl refl
       where
-        own_is : (job_of_event e == job) ≡ true → job_of_event e ≡ job
+        own_is : (own == job) ≡ true → own ≡ job
         own_is t = grind (arith, nat_tests)
 
-        by : (b : Bool) (o : Option Input) → (job_of_event e == job) ≡ b → input_of e given.reply ≡ o
+        by : (b : Bool) (o : Option Input) → (own == job) ≡ b → input_of e given.reply ≡ o
             → IsTold (view_from old.number (v job) (if_own b o)) (with_lines j (cond b (line.Entry entry ∷ []) []))
-        by true None t is = none_told job (own_is t) j h is
-        by true (Some x) t is = some_told job (own_is t) j h x is
+        by true None t is = none_told job j h is
+        by true (Some x) t is = some_told job (sym (own_at e given.reply x is) ∙ own_is t) j h x is
         by false o t is = subst (λ ls. IsTold (v job) (record j { list = ls })) (sym (append-nil j.list)) h
 
     one_told : (job : ℕ) (j : Journal) → IsTold (v job) j
-        → IsTold (view_from old.number (v job) (inputs_to before (Own e) given.reply job)) (with_lines j (lines_made number (Own e) was given job))
+        → IsTold (view_from old.number (v job) (inputs_to before (Own e) given.reply job)) (with_lines j (lines_made number own was given job))
     one_told job j h =
-        let own : List Line = if job_of_event e == job then line.Entry entry ∷ [] else [] in
-        let mine : List Input = if_own (job_of_event e == job) (input_of e given.reply) in
-        subst (λ xs. IsTold (view_from old.number (v job) xs) (with_lines j (lines_made number (Own e) was given job))) (sym (inputs_are job))
-        (subst (λ w. IsTold w (with_lines j (lines_made number (Own e) was given job))) (sym (from-append old.number (v job) mine (only_of job noted)))
-        (subst (λ notes. IsTold (view_from old.number (view_from old.number (v job) mine) (only_of job noted)) (with_lines j (own ++ notes_for number notes job))) (sym from.notes)
-        (subst (λ ls. IsTold (view_from old.number (view_from old.number (v job) mine) (only_of job noted)) (record j { list = ls })) (append_assoc j.list own (notes_for number (judged_notes old.number v noted) job))
-        (notes_told old.number number job v noted (here_notes before (Own e) given.reply) (view_from old.number (v job) mine) (with_lines j own) (own_told job j h)))))
+        let entered : List Line = if own == job then line.Entry entry ∷ [] else [] in
+        let mine : List Input = if_own (own == job) (input_of e given.reply) in
+        let inputs = inputs_are job ∙ ap (λ xs. xs ++ only_of job noted) (input_at (input_of e given.reply) refl job) in
+        subst (λ xs. IsTold (view_from old.number (v job) xs) (with_lines j (lines_made number own was given job))) (sym inputs)
+        (subst (λ w. IsTold w (with_lines j (lines_made number own was given job))) (sym (from-append old.number (v job) mine (only_of job noted)))
+        (subst (λ notes. IsTold (view_from old.number (view_from old.number (v job) mine) (only_of job noted)) (with_lines j (entered ++ notes_for number notes job))) (sym from.notes)
+        (subst (λ ls. IsTold (view_from old.number (view_from old.number (v job) mine) (only_of job noted)) (record j { list = ls })) (append_assoc j.list entered (notes_for number (judged_notes old.number v noted) job))
+        (notes_told old.number number job v noted (here_notes before (Own e) given.reply) (view_from old.number (v job) mine) (with_lines j entered) (own_told job j h)))))
 
   -- the fact under the lock
-  told_next : (before after : ℕ → Journal) → ((job : ℕ) → after job ≡ with_lines (before job) (lines_made number (Own e) was given job)) → Tells old before → Tells new after
+  told_next : (before after : ℕ → Journal) → ((job : ℕ) → after job ≡ with_lines (before job) (lines_made number own was given job)) → Tells old before → Tells new after
   told_next before after is h = record {
     views = λ job. view_from old.number (h.views job) (inputs_to (before_of old h.views) (Own e) given.reply job);
     shown = (steps.each h.views h.shown).views;
     told = λ job.
         subst (IsTold (view_from old.number (h.views job) (inputs_to (before_of old h.views) (Own e) given.reply job))) (sym (is job))
         (one_told h.views h.shown job (before job) (h.told job));
+    taken = λ job. next_taken old.works.works new.works.works number own job was given (before job) (after job) keeps (is job) (h.taken job);
+    first = keeps.first h.first;
   }
+    where
+      keeps : KeepsTaken old.works.works new.works.works own (line.Entry entry)
+      keeps = step_keeps old h.views h.shown number e given new (steps.each h.views h.shown) was (judged_is h.views h.shown (input_of e given.reply) refl)
 
   -- also where lists are folded first
-  pub all_told : (before after : ℕ → Journal) (full : ℕ → Bool) → ((job : ℕ) → after job ≡ with_lines (folded_if (full job) (before job)) (lines_made number (Own e) was given job)) → ∥ Tells old before ∥₁ → ∥ Tells new after ∥₁
+  pub all_told : (before after : ℕ → Journal) (full : ℕ → Bool) → ((job : ℕ) → after job ≡ with_lines (folded_if (full job) (before job)) (lines_made number own was given job)) → ∥ Tells old before ∥₁ → ∥ Tells new after ∥₁
   all_told before after full is h = ∥∥₁_map h (λ t. told_next (λ job. folded_if (full job) (before job)) after is (told_folded old before full t))
 
   -- what a session is answered
@@ -283,7 +323,7 @@ module _ (old new : Hosted) (to : JobNo) (a : Arrival) (given : Given) (number :
   came = line.Entry (entry_for number was given.reply)
 
   abbrev made : ℕ → List Line
-  made job = lines_made number (Arrive to a) was given job
+  made job = lines_made number to.0 was given job
 
   made_is : (job : ℕ) → made job ≡ (if to.0 == job then came ∷ [] else [])
   made_is job =
@@ -340,8 +380,8 @@ module _ (old new : Hosted) (to : JobNo) (a : Arrival) (given : Given) (number :
           ∙ append-nil (lines_of ls) in
           record {
             kept = h.kept;
-            replays = ap (replayed j.base) lines ∙ h.replays;
-            due = subst (AreDue j.base) (sym lines) h.due;
+            replays = ap (replayed j.base.store) lines ∙ h.replays;
+            due = subst (AreDue j.base.store) (sym lines) h.due;
           }
 
       stale_told : (job : ℕ) (j : Journal) → IsTold (v job) j → IsTold (v job) (with_lines j (made job))
@@ -354,6 +394,12 @@ module _ (old new : Hosted) (to : JobNo) (a : Arrival) (given : Given) (number :
   arrival_next : (before after : ℕ → Journal) → ((job : ℕ) → after job ≡ with_lines (before job) (made job)) → Tells old before → Tells new after
   arrival_next before after is h = by (is_some (live_at old.admissions to)) (came_from h.views h.shown).operator
     where
+      keeps : given.reply ≡ reply.Ok → KeepsTaken old.works.works new.works.works to.0 came
+      keeps ok = arrival_keeps old h.views h.shown number to a given new (came_from h.views h.shown) was (word_is h.views h.shown reply.Ok ok)
+
+      same : given.reply ≡ reply.Refused Stale → KeepsTaken old.works.works old.works.works to.0 came
+      same late = stale_keeps old.works.works to.0 number was given.reply Stale (word_is h.views h.shown (reply.Refused Stale) late) late
+
       by : (live : Bool) → given.reply ≡ answered (stale_unless live) → Tells new after
       by true ok = record {
         views = λ job. view_from old.number (h.views job) (inputs_to (before_of old h.views) (Arrive to a) given.reply job);
@@ -361,11 +407,15 @@ module _ (old new : Hosted) (to : JobNo) (a : Arrival) (given : Given) (number :
         told = λ job.
             subst (IsTold (view_from old.number (h.views job) (inputs_to (before_of old h.views) (Arrive to a) given.reply job))) (sym (is job))
             (taken_told h.views h.shown ok job (before job) (h.told job));
+        taken = λ job. next_taken old.works.works new.works.works number to.0 job was given (before job) (after job) (keeps ok) (is job) (h.taken job);
+        first = (keeps ok).first h.first;
       }
       by false late = subst (λ node. Tells node after) (sym (stale late)) (record {
         views = h.views;
         shown = h.shown;
         told = λ job. subst (IsTold (h.views job)) (sym (is job)) (stale_told h.views h.shown late job (before job) (h.told job));
+        taken = λ job. next_taken old.works.works old.works.works number to.0 job was given (before job) (after job) (same late) (is job) (h.taken job);
+        first = h.first;
       })
 
   -- also where its list is folded first
@@ -374,22 +424,30 @@ module _ (old new : Hosted) (to : JobNo) (a : Arrival) (given : Given) (number :
 
 -- ---- a node in which nothing has happened
 
-pub told_at_first : (node : Hosted) (journals : ℕ → Journal) → ((job : ℕ) → Shows node job (view_of (no_store job))) → ((job : ℕ) → journals job ≡ fresh job) → ∥ Tells node journals ∥₁
-told_at_first node journals shows none = ∣ record {
+pub told_at_first : (node : Hosted) (journals : ℕ → Journal) → node.works ≡ record { works = []; used = [] } → ((job : ℕ) → Shows node job (view_of (no_store job))) → ((job : ℕ) → journals job ≡ fresh job) → ∥ Tells node journals ∥₁
+told_at_first node journals empty shows none = ∣ record {
   views = λ job. view_of (no_store job);
   shown = shows;
   told = λ job. subst (IsTold (view_of (no_store job))) (sym (none job)) (record { kept = no_store_kept job; replays = refl; due = refl });
+  taken = λ job. ap taken_of (none job) ∙ sym (ap (λ (works : WorkLine). taken_by works (numbered job)) empty);
+  first = ap (λ (works : WorkLine). taken_come_first works.works) empty;
 } ∣₁
 
 -- ---- a session that enters
 
-pub told_entered : (old new : Hosted) (journals : ℕ → Journal) → ((job : ℕ) (view : View) → Shows new job view ↔ Shows old job view) → ∥ Tells old journals ∥₁ → ∥ Tells new journals ∥₁
-told_entered old new journals views h = ∥∥₁_map h (λ t. record { views = t.views; shown = λ job. (views job (t.views job)).1 (t.shown job); told = t.told })
+pub told_entered : (old new : Hosted) (journals : ℕ → Journal) → new.works ≡ old.works → ((job : ℕ) (view : View) → Shows new job view ↔ Shows old job view) → ∥ Tells old journals ∥₁ → ∥ Tells new journals ∥₁
+told_entered old new journals same views h = ∥∥₁_map h (λ t. record {
+  views = t.views;
+  shown = λ job. (views job (t.views job)).1 (t.shown job);
+  told = t.told;
+  taken = λ job. t.taken job ∙ sym (ap (λ works. taken_by works (numbered job)) same);
+  first = ap (λ (works : WorkLine). taken_come_first works.works) same ∙ t.first;
+})
 
 module _ (r : Result ℕ Refusal) (old new : Hosted) (a : Admissions) where
-  pub entered_number : OnOk r (new ≡ record old { admissions = a }) → OnErr r (new ≡ old) → new.number ≡ old.number
-  entered_number ok err = by r ok err
+  pub entered_same : {A : Type 0} (part : Hosted → A) → part (record old { admissions = a }) ≡ part old → OnOk r (new ≡ record old { admissions = a }) → OnErr r (new ≡ old) → part new ≡ part old
+  entered_same {A} part same ok err = by r ok err
     where
-      by : (r : Result ℕ Refusal) → OnOk r (new ≡ record old { admissions = a }) → OnErr r (new ≡ old) → new.number ≡ old.number
-      by (Ok n) ok err = ap (λ (h : Hosted). h.number) ok
-      by (Err e) ok err = ap (λ (h : Hosted). h.number) err
+      by : (r : Result ℕ Refusal) → OnOk r (new ≡ record old { admissions = a }) → OnErr r (new ≡ old) → part new ≡ part old
+      by (Ok n) ok err = ap part ok ∙ same
+      by (Err e) ok err = ap part err

@@ -1,5 +1,5 @@
 -- What a journal tells of its node.
-use Rattle.std.specs.Prelude.{◌≡◌, ℕ, ◌+◌, ◌==◌, nat_lt, nat_le, Bool, true, false, not, ◌&&◌, if◌then◌else◌, List, [], ◌∷◌, ◌++◌, length, map, filter, count_by, Option, Some, option_map, option_to_list}
+use Rattle.std.specs.Prelude.{◌≡◌, ℕ, ◌+◌, ◌-◌, ◌==◌, nat_lt, nat_le, Bool, true, false, not, ◌&&◌, if◌then◌else◌, List, [], ◌∷◌, ◌++◌, length, map, filter, count_by, Option, Some, None, option_map, option_to_list}
 use Rattle.std.specs.List.{list_all, list_any}
 use Rattle.std.specs.Option.{option_map_or}
 use Rattle.obj_id.specs.declared.ids.JobNo.{JobNo}
@@ -13,11 +13,14 @@ use Rattle.private_store.specs.declared.schedules.NodeEvent.{NodeEvent}
 use Rattle.private_store.specs.declared.schedules.NodeEvent.TheVariants.{Own, Arrive}
 use Rattle.private_store.specs.Contents.{View}
 use Rattle.private_store.specs.Hands.{Hand}
+use Rattle.spill_work.specs.declared.queue.Queued.{Queued}
+use Rattle.spill_work.specs.Line.{taken_by}
 use Rattle.private_store.specs.Kept.{IsViewKept}
 use Rattle.private_store.specs.Replay.{Brief, Line as Replayed, unbegun_brief, replayed, answers_due, brief_of}
 use Rattle.node_core.specs.Hosted.{Hosted, ShowsAll}
 use Rattle.node_core.specs.Foreseen.{takers_of}
-use Rattle.node_core.specs.Steps.{Given, JobJudged, job_of}
+use Rattle.node_core.specs.Steps.{Given, JobJudged, job_at}
+use Rattle.node_journal.specs.declared.folding.Base.{Base}
 use Rattle.node_journal.specs.declared.entries.Entry.{Entry}
 use Rattle.node_journal.specs.declared.entries.Agreement.{Agreement}
 use Rattle.node_journal.specs.declared.entries.Agreement.TheVariants as agree
@@ -28,8 +31,8 @@ use Rattle.node_journal.specs.Replies.{unlisted, kept_reply}
 -- ---- a job's journal
 
 pub record Journal : Type 0 where
-  -- the store without contents as it was after what was folded
-  pub base : Brief
+  -- the store without contents as it was after what was folded, and how many of its works were taken
+  pub base : Base
   -- the number of the step that the last folded line is of, or 0
   pub covered : ℕ
   -- what came after it, oldest first
@@ -37,7 +40,7 @@ pub record Journal : Type 0 where
 
 -- of a job that no step was of
 abbrev pub fresh : ℕ → Journal
-fresh job = record { base = unbegun_brief job; covered = 0; list = [] }
+fresh job = record { base = record { store = unbegun_brief job; taken = 0 }; covered = 0; list = [] }
 
 -- the lines that a list has at most
 abbrev pub most_lines : ℕ
@@ -53,10 +56,11 @@ entry_for number was told = record { number = number; input = was; reply = kept_
 abbrev pub notes_for : ℕ → List JobJudged → ℕ → List Line
 notes_for number notes job = map (λ note. line.Note number note.input) (filter (λ note. note.job == job) notes)
 
--- the lines of a job that an event makes: the entry, if the event is of the job, and then what it was told
-abbrev pub lines_made : ℕ → NodeEvent → Option Judged → Given → ℕ → List Line
-lines_made number e was given job =
-    (if job_of e == job then line.Entry (entry_for number was given.reply) ∷ [] else []) ++ notes_for number given.notes job
+-- the lines of a job that an event makes whose entry stands under the job of this number: the entry, if the job is that one, and
+-- then what it was told
+abbrev pub lines_made : ℕ → ℕ → Option Judged → Given → ℕ → List Line
+lines_made number own was given job =
+    (if own == job then line.Entry (entry_for number was given.reply) ∷ [] else []) ++ notes_for number given.notes job
 
 -- ---- the replay
 
@@ -71,7 +75,45 @@ lines_of (l ∷ ls) = option_to_list (line_of l) ++ lines_of ls
 
 -- the store that the journal tells of
 abbrev pub store_of : Journal → Brief
-store_of journal = replayed journal.base (lines_of journal.list)
+store_of journal = replayed journal.base.store (lines_of journal.list)
+
+-- ---- which works are taken
+
+abbrev pub is_ok : Reply ℕ → Bool
+is_ok reply.Ok = true
+is_ok _ = false
+
+abbrev pub gives_work : Reply ℕ → Bool
+gives_work (reply.Work work) = true
+gives_work _ = false
+
+-- of so many taken works, those that are left after an input: a device's answer ends one, and the job's end all
+abbrev pub taken_left : ℕ → Judged → Reply ℕ → ℕ
+taken_left n (judged.Answer number verdict) told = if is_ok told then n - 1 else n
+taken_left n judged.End told = if is_ok told then 0 else n
+taken_left n _ told = n
+
+-- how many of the job's works are taken after a line, if so many were before it: an entry that is no input may give one
+abbrev pub taken_after : ℕ → Line → ℕ
+taken_after n (line.Entry entry) = elim entry.input [ None ↦ if gives_work entry.reply then n + 1 else n | Some x ↦ taken_left n x entry.reply ]
+taken_after n (line.Note number x) = n
+
+abbrev pub taken_from : ℕ → List Line → ℕ
+taken_from n [] = n
+taken_from n (l ∷ ls) = taken_from (taken_after n l) ls
+
+-- how many of the job's works the journal tells of as taken
+abbrev pub taken_of : Journal → ℕ
+taken_of journal = taken_from journal.base.taken journal.list
+
+-- the base that the lines are folded into
+abbrev pub base_after : Journal → Base
+base_after journal = record { store = store_of journal; taken = taken_of journal }
+
+-- whether the works that were taken are the first of the line
+abbrev pub taken_come_first : List Queued → Bool
+taken_come_first [] = true
+taken_come_first (work ∷ works) = if work.taken then taken_come_first works else list_all (λ other. not other.taken) works
 
 -- each line has the answer that the replay gives there
 abbrev pub AreDue : Brief → List Replayed → Type 0
@@ -82,13 +124,16 @@ pub record IsTold (view : View) (journal : Journal) : Type 0 where
   pub kept : IsViewKept view
   -- the replay of its lines on its base gives it, without its contents, and their answers
   pub replays : store_of journal ≡ brief_of view
-  pub due : AreDue journal.base (lines_of journal.list)
+  pub due : AreDue journal.base.store (lines_of journal.list)
 
 -- the node shows views of which the journals tell, those of every job number
 pub record Tells (node : Hosted) (journals : ℕ → Journal) : Type 0 where
   pub views : ℕ → View
   pub shown : ShowsAll node views
   pub told : (job : ℕ) → IsTold (views job) (journals job)
+  -- of each job's works, in the order asked, those that were taken are as many as its journal tells, and the first
+  pub taken : (job : ℕ) → taken_of (journals job) ≡ taken_by node.works (record { 0 = job })
+  pub first : taken_come_first node.works.works ≡ true
 
 -- ---- numbers
 
@@ -122,7 +167,7 @@ pub record AreNumbered (count : ℕ) (journal : Journal) : Type 0 where
 
 -- all lines are part of the base
 abbrev pub folded : Journal → Journal
-folded journal = record { base = store_of journal; covered = last_of journal.covered journal.list; list = [] }
+folded journal = record { base = base_after journal; covered = last_of journal.covered journal.list; list = [] }
 
 abbrev pub folded_if : Bool → Journal → Journal
 folded_if full journal = if full then folded journal else journal
@@ -145,18 +190,19 @@ takers_at hands (Own e) = takers_of hands e
 takers_at hands (Arrive job a) = []
 
 -- whether the job's list is folded before the event is taken: it might have no room for what the event makes
-abbrev pub is_folded_by : List Hand → NodeEvent → ℕ → List Line → Bool
-is_folded_by hands e job ls = has_no_room (job_of e) (takers_at hands e) job (length ls)
+abbrev pub is_folded_by : Hosted → NodeEvent → ℕ → List Line → Bool
+is_folded_by node e job ls = has_no_room (job_at node.works.works e) (takers_at node.hands e) job (length ls)
+
+-- a job's journal after a step of this number that the node took: folded first if there might be no room, with its lines
+abbrev pub journal_after : Hosted → ℕ → NodeEvent → Option Judged → Given → ℕ → Journal → Journal
+journal_after node number e was given job journal =
+    with_lines (folded_if (is_folded_by node e job journal.list) journal) (lines_made number (job_at node.works.works e) was given job)
 
 -- ---- beginnings
 
 abbrev pub is_begin : Judged → Bool
 is_begin (judged.Begin quota) = true
 is_begin _ = false
-
-abbrev pub is_ok : Reply ℕ → Bool
-is_ok reply.Ok = true
-is_ok _ = false
 
 -- whether the line is of the job's admission
 abbrev pub begins : Line → Bool

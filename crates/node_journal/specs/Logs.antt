@@ -5,9 +5,9 @@ use Rattle.std.specs.Option.{option_map_or}
 use Rattle.std.specs.Map.{lookup}
 use Rattle.obj_id.specs.declared.ids.JobNo.{JobNo}
 use Rattle.private_store.specs.Jobs.{same_job}
-use Rattle.private_store.specs.Replay.{Brief}
 use Rattle.node_journal.specs.declared.entries.Line.{Line}
-use Rattle.node_journal.specs.Journals.{Journal, fresh, store_of}
+use Rattle.node_journal.specs.declared.folding.Base.{Base}
+use Rattle.node_journal.specs.Journals.{Journal, fresh, base_after}
 
 -- what a contract sees of one job's journal
 pub record JobLog : Type 0 where
@@ -29,12 +29,12 @@ spare_of logs job = option_map_or (λ log. log.spare) (lookup (same_job (record 
 -- ---- bases
 
 abbrev pub Bases : Type 0
-Bases = List (JobNo × Brief)
+Bases = List (JobNo × Base)
 
--- each is the store that its job's journal tells of
+-- each is the base that its job's lines are folded into
 abbrev pub AreStores : Bases → (ℕ → Journal) → Type 0
 AreStores [] journals = Unit {0}
-AreStores (e ∷ es) journals = (e.1 ≡ store_of (journals e.0.0)) × AreStores es journals
+AreStores (e ∷ es) journals = (e.1 ≡ base_after (journals e.0.0)) × AreStores es journals
 
 abbrev pub has_base : ℕ → Bases → Bool
 has_base job bases = list_any (λ e. e.0.0 == job) bases

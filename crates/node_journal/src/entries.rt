@@ -1,13 +1,14 @@
 //! What a journal keeps, and what a step gives of it.
 ghost use Rattle.std.specs.Prelude.{◌≡◌};
 ghost use Rattle.obj_id.specs.declared.commands.Reply.TheVariants as reply;
-ghost use Rattle.node_core.specs.Steps.{job_of_event};
+ghost use Rattle.private_store.specs.declared.schedules.NodeEvent.TheVariants as node_event;
+ghost use Rattle.node_core.specs.Steps.{job_at};
 ghost use Rattle.node_journal.specs.Journals.{begins, entry_for, is_entry, step_of};
 ghost use Rattle.node_journal.specs.Replies.{kept_reply};
 
 use crate::copies::copy_of;
 use bytes::Bytes;
-use node_core::Outcome;
+use node_core::{Node, Outcome};
 use obj_id::{Items, JobNo, Reply, Work};
 use private_store::{Event, Judged};
 use std::alloc::Global;
@@ -105,7 +106,7 @@ impl<L: Ledger> Receipt<L> {
         self.entry.number
     }
 
-    /// The job under which the entry is kept: 0 for an event of none.
+    /// The job under which the entry is kept: a Take's stands under the job whose work it gives, or under 0 if none waits.
     pub fn job(&self) -> JobNo
         ensures { result ≡ self.now.job }
     {
@@ -172,15 +173,15 @@ fn brief_work(work: &Work<Bytes>) -> Work<u64>
     }
 }
 
-/// The job that an event is of: 0 for one of none.
-pub(crate) fn job_of(event: &Event) -> JobNo
-    ensures { result.0 ≡ job_of_event event.now }
+/// The job that an event is of, or whose work a Take gives: 0 for one of none.
+pub(crate) fn job_of(node: &Node, event: &Event) -> JobNo
+    ensures { result.0 ≡ job_at node.now.works.works (node_event.Own event.now) }
 {
     match event {
         Event::Admit(job, _, _) => *job,
         Event::Requota(job, _) => *job,
         Event::JobEnd(job) => *job,
-        Event::Take => JobNo(0),
+        Event::Take => node.job_in_turn(),
         Event::Finish(job, _, _) => *job,
         Event::Call(job, _, _) => *job,
     }

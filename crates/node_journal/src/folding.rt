@@ -1,6 +1,6 @@
 //! Which lists a step folds, and the bases that they are folded into.
 ghost use Rattle.std.specs.Prelude.{◌≡◌, ℕ, ◌+◌, ◌<◌, ◌≤◌, ◌==◌, ◌&&◌, ◌||◌, length, IfOk, OnOk};
-ghost use Rattle.node_journal.specs.Journals.{Tells, most_lines, has_no_room as has_no_room_lem, lines_due as lines_due_lem, store_of};
+ghost use Rattle.node_journal.specs.Journals.{Tells, most_lines, has_no_room as has_no_room_lem, lines_due as lines_due_lem, base_after};
 ghost use Rattle.node_journal.specs.Logs.{journal_of, list_of, AreStores, has_base as has_base_lem};
 
 use crate::logs::Logs;
@@ -12,12 +12,24 @@ use std::alloc::{AllocError, Global};
 /// The lines that a job's list has at most.
 pub const MOST_LINES: usize = 65_536;
 
+/// What a job's lines are folded into.
+#[derive(Drop)]
+pub(crate) struct Base {
+    /// The store without contents, as it was after the last folded line.
+    pub store: PlainStore,
+    /// How many of its works were taken and not answered then: in the order asked, the first ones.
+    pub taken: usize,
+}
+
 /// The base that the job's lines are folded into: its store at the node, without contents.
-pub(crate) fn base_of(node: &Node, logs: &Logs, job: JobNo) -> Result<PlainStore, AllocError>
+pub(crate) fn base_of(node: &Node, logs: &Logs, job: JobNo) -> Result<Base, AllocError>
     requires { ∥ Tells node.now (journal_of logs.now) ∥₁ }
-    ensures { IfOk result (λ base. base ≡ store_of (journal_of logs.now job.0)) }
+    ensures { IfOk result (λ base. base ≡ base_after (journal_of logs.now job.0)) }
 {
-    Ok(node.plain(job, logs.has_begun(job))?)
+    Ok(Base {
+        store: node.plain(job, logs.has_begun(job))?,
+        taken: node.taken(job),
+    })
 }
 
 /// The bases of those lists that might have no room for what a step makes of this job that tells these takers of hands, one
@@ -28,7 +40,7 @@ pub(crate) fn bases_of(
     logs: &Logs,
     own: JobNo,
     takers: &[JobNo],
-) -> Result<Vec<(JobNo, PlainStore)>, AllocError>
+) -> Result<Vec<(JobNo, Base)>, AllocError>
     requires told { ∥ Tells node.now (journal_of logs.now) ∥₁ }
     requires few { (job : ℕ) → length (list_of logs.now job) ≤ most_lines }
     requires some { length takers.now < most_lines }
@@ -50,7 +62,7 @@ fn add_base(
     own: JobNo,
     takers: &[JobNo],
     job: JobNo,
-    bases: &mut Vec<(JobNo, PlainStore)>,
+    bases: &mut Vec<(JobNo, Base)>,
 ) -> Result<(), AllocError>
     requires told { ∥ Tells node.now (journal_of logs.now) ∥₁ }
     requires few { (job : ℕ) → length (list_of logs.now job) ≤ most_lines }
@@ -68,7 +80,7 @@ fn add_base(
 }
 
 /// Whether one of the bases is the job's.
-fn has_base(bases: &[(JobNo, PlainStore)], job: JobNo) -> bool
+fn has_base(bases: &[(JobNo, Base)], job: JobNo) -> bool
     ensures { result ≡ has_base_lem job.0 bases.now }
 {
     bases.iter().any(|entry| entry.0.0 == job.0)

@@ -8,7 +8,7 @@ ghost use Rattle.private_store.specs.declared.schedules.NodeEvent.TheVariants as
 ghost use Rattle.private_store.specs.Answers.{wants_memory, is_small_reply};
 ghost use Rattle.job_admission.specs.Admissions.{largest_memory, sessions_entered, enter_check, entered};
 ghost use Rattle.spill_work.specs.Line.{front_of};
-ghost use Rattle.node_core.specs.Steps.{job_of_event, Steps};
+ghost use Rattle.node_core.specs.Steps.{job_at, Steps};
 ghost use Rattle.node_core.specs.Judged.{IsJudged, IsArrivalJudged, IsSmall};
 ghost use Rattle.node_core.specs.Outcomes.{given_of};
 ghost use Rattle.node_journal.specs.declared.entries.Agreement.TheVariants.{No};
@@ -16,7 +16,7 @@ ghost use Rattle.node_journal.specs.Logs.{journal_of, list_of};
 ghost use Rattle.node_journal.specs.Posts.{IsAstray, is_entered};
 ghost use Rattle.private_store.specs.Cluster.{arrival_of};
 ghost use Rattle.obj_id.specs.declared.messages.Arrival.{Arrival};
-ghost use Rattle.node_journal.specs.Journals.{entry_for, lines_made, is_entry, rise_above, Tells, AreNumbered, agreement, folded_if, is_folded_by, most_lines, with_lines, is_call};
+ghost use Rattle.node_journal.specs.Journals.{entry_for, is_entry, rise_above, Tells, AreNumbered, agreement, folded_if, journal_after, most_lines, is_call};
 
 use crate::entries::{Agreement, Line, Receipt, entry_of, job_of};
 use crate::folding::{MOST_LINES, base_of, bases_of};
@@ -46,7 +46,7 @@ pub struct Kept<L: Ledger> {
     logs: Logs,
     // of all jobs' entries
     count: u64,
-    seat: Share<L>,
+    pub(crate) seat: Share<L>,
     pub ghost seated: { seat.parts ≡ 1 },
     pub ghost blank: { seat.amount ≡ 0 },
     pub ghost named: { node.number ≡ number },
@@ -76,7 +76,7 @@ impl<L: Ledger> Kept<L> {
     }
 
     /// Steps the node by one event, and adds one entry, which the receipt names, and after it a note to each job that the
-    /// step told of a hand. A list that might become longer than 65,536 lines by that is folded first: its base is then the
+    /// step told of a hand. The entry stands under the event's job, and a Take's under the job whose work it gives. A list that might become longer than 65,536 lines by that is folded first: its base is then the
     /// replay of its old base and lines, and it has the new lines alone.
     ///
     /// `NoMemory` alone, if the event, its entry or a fold finds no memory, if 1,152,921,504,606,846,975 entries were made,
@@ -84,8 +84,8 @@ impl<L: Ledger> Kept<L> {
     pub fn step(&mut self, event: &Event) -> Result<Made<L>, Refusal>
         ensures node { IfOk result (λ r. Steps self.old.node (node_event.Own event.now) (given_of r.outcome) self.new.node) }
         ensures journal { IfOk result (λ r. (job : ℕ) → journal_of self.new.logs job
-            ≡ with_lines (folded_if (is_folded_by self.old.node.hands (node_event.Own event.now) job (list_of self.old.logs job)) (journal_of self.old.logs job)) (lines_made (self.old.count + 1) (node_event.Own event.now) r.outcome.judged (given_of r.outcome) job)) }
-        ensures receipt { IfOk result (λ r. (r.receipt.node ≡ self.old.number) × (r.receipt.job.0 ≡ job_of_event event.now) × (r.receipt.entry ≡ entry_for (self.old.count + 1) r.outcome.judged r.outcome.reply)) }
+            ≡ journal_after self.old.node (self.old.count + 1) (node_event.Own event.now) r.outcome.judged (given_of r.outcome) job (journal_of self.old.logs job)) }
+        ensures receipt { IfOk result (λ r. (r.receipt.node ≡ self.old.number) × (r.receipt.job.0 ≡ job_at self.old.node.works.works (node_event.Own event.now)) × (r.receipt.entry ≡ entry_for (self.old.count + 1) r.outcome.judged r.outcome.reply)) }
         ensures judged { IfOk result (λ r. IsJudged self.old.node event.now r.outcome.reply r.outcome.judged) }
         ensures count { OnOk result (self.new.count ≡ self.old.count + 1) }
         ensures answered { IfOk result (λ r. is_call event.now ≡ true → wants_memory r.outcome.reply ≡ false) }
@@ -107,11 +107,12 @@ impl<L: Ledger> Kept<L> {
             seat: _,
         } = self;
         let next = *count + 1;
-        let outcome = record(*alloc, node, logs, next, event)?;
+        let job = job_of(node, event);
+        let outcome = record(*alloc, node, logs, next, job, event)?;
         *count = next;
         let receipt = Receipt {
             node: *number,
-            job: job_of(event),
+            job,
             entry: entry_of(*alloc, next, &outcome),
             name: PhantomData,
         };
@@ -128,7 +129,7 @@ impl<L: Ledger> Kept<L> {
         ensures stale { IsErrOf result Stale ↔ IsAstray self.old.number posted }
         ensures node { IfOk result (λ r. (a : Arrival) → arrival_of posted.from posted.message ≡ Some a → Steps self.old.node (node_event.Arrive posted.job a) (given_of r.outcome) self.new.node) }
         ensures journal { IfOk result (λ r. (a : Arrival) → arrival_of posted.from posted.message ≡ Some a → (other : ℕ) → journal_of self.new.logs other
-            ≡ with_lines (folded_if (is_folded_by self.old.node.hands (node_event.Arrive posted.job a) other (list_of self.old.logs other)) (journal_of self.old.logs other)) (lines_made (self.old.count + 1) (node_event.Arrive posted.job a) r.outcome.judged (given_of r.outcome) other)) }
+            ≡ journal_after self.old.node (self.old.count + 1) (node_event.Arrive posted.job a) r.outcome.judged (given_of r.outcome) other (journal_of self.old.logs other)) }
         ensures receipt { IfOk result (λ r. (r.receipt.node ≡ self.old.number) × (r.receipt.job.0 ≡ posted.job.0) × (r.receipt.entry ≡ entry_for (self.old.count + 1) r.outcome.judged r.outcome.reply)) }
         ensures judged { IfOk result (λ r. (a : Arrival) → arrival_of posted.from posted.message ≡ Some a → IsArrivalJudged self.old.node posted.job a r.outcome.reply r.outcome.judged) }
         ensures entered { IfOk result (λ r. (a : Arrival) → arrival_of posted.from posted.message ≡ Some a → is_entered a r.outcome.reply r.outcome.judged ≡ true) }
@@ -159,7 +160,7 @@ impl<L: Ledger> Kept<L> {
     fn take_in(&mut self, job: JobNo, arrival: &Arrival) -> Result<Made<L>, Refusal>
         ensures node { IfOk result (λ r. Steps self.old.node (node_event.Arrive job arrival.now) (given_of r.outcome) self.new.node) }
         ensures journal { IfOk result (λ r. (other : ℕ) → journal_of self.new.logs other
-            ≡ with_lines (folded_if (is_folded_by self.old.node.hands (node_event.Arrive job arrival.now) other (list_of self.old.logs other)) (journal_of self.old.logs other)) (lines_made (self.old.count + 1) (node_event.Arrive job arrival.now) r.outcome.judged (given_of r.outcome) other)) }
+            ≡ journal_after self.old.node (self.old.count + 1) (node_event.Arrive job arrival.now) r.outcome.judged (given_of r.outcome) other (journal_of self.old.logs other)) }
         ensures receipt { IfOk result (λ r. (r.receipt.node ≡ self.old.number) × (r.receipt.job.0 ≡ job.0) × (r.receipt.entry ≡ entry_for (self.old.count + 1) r.outcome.judged r.outcome.reply)) }
         ensures judged { IfOk result (λ r. IsArrivalJudged self.old.node job arrival.now r.outcome.reply r.outcome.judged) }
         ensures entered { IfOk result (λ r. is_entered arrival.now r.outcome.reply r.outcome.judged ≡ true) }
@@ -202,8 +203,8 @@ impl<L: Ledger> Kept<L> {
         ensures later { IfOk result (λ r. (r.receipt.node ≡ receipt.now.node) × (receipt.now.entry.number < r.receipt.entry.number)) }
         ensures node { IfOk result (λ r. Steps self.old.node (node_event.Own event.now) (given_of r.outcome) self.new.node) }
         ensures journal { IfOk result (λ r. (job : ℕ) → journal_of self.new.logs job
-            ≡ with_lines (folded_if (is_folded_by self.old.node.hands (node_event.Own event.now) job (list_of self.old.logs job)) (journal_of self.old.logs job)) (lines_made (self.old.count + 1) (node_event.Own event.now) r.outcome.judged (given_of r.outcome) job)) }
-        ensures receipt { IfOk result (λ r. (r.receipt.node ≡ self.old.number) × (r.receipt.job.0 ≡ job_of_event event.now) × (r.receipt.entry ≡ entry_for (self.old.count + 1) r.outcome.judged r.outcome.reply)) }
+            ≡ journal_after self.old.node (self.old.count + 1) (node_event.Own event.now) r.outcome.judged (given_of r.outcome) job (journal_of self.old.logs job)) }
+        ensures receipt { IfOk result (λ r. (r.receipt.node ≡ self.old.number) × (r.receipt.job.0 ≡ job_at self.old.node.works.works (node_event.Own event.now)) × (r.receipt.entry ≡ entry_for (self.old.count + 1) r.outcome.judged r.outcome.reply)) }
         ensures judged { IfOk result (λ r. IsJudged self.old.node event.now r.outcome.reply r.outcome.judged) }
         ensures count { OnOk result (self.new.count ≡ self.old.count + 1) }
         ensures answered { IfOk result (λ r. is_call event.now ≡ true → wants_memory r.outcome.reply ≡ false) }
@@ -220,7 +221,7 @@ impl<L: Ledger> Kept<L> {
     }
 
     /// Folds the job's lines into its base: the new base is the replay of the old one and its lines, covers the number of the
-    /// last of them, and no line is left. All else stays. Takes a walk over the lines and over the job's copies, works and
+    /// last of them, and no line is left, whose memory is given back. All else stays. Takes a walk over the lines and over the job's copies, works and
     /// hands. The error is out of memory, and then nothing has changed.
     pub fn checkpoint(&mut self, job: JobNo) -> Result<(), Refusal>
         ensures journal { OnOk result ((other : ℕ) → journal_of self.new.logs other ≡ folded_if (job.0 == other) (journal_of self.old.logs other)) }
@@ -237,7 +238,7 @@ impl<L: Ledger> Kept<L> {
             seat: _,
         } = self;
         let base = base_of(node, logs, job)?;
-        logs.fold(job, base);
+        logs.fold_away(job, base);
         Ok(())
     }
 
@@ -337,28 +338,29 @@ fn has_entry(lines: &[Line], number: u64) -> bool
     false
 }
 
-/// Steps the node, and writes the entry of this number and what the step told the takers of hands; lists that might have no
-/// room are folded before. An error changes neither.
+/// Steps the node, and writes the entry of this number, under the job that the event is of or whose work a Take gives, and what the
+/// step told the takers of hands; lists that might have no room are folded before. An error changes neither.
 fn record(
     alloc: Global,
     node: &mut Node,
     logs: &mut Logs,
     number: u64,
+    job: JobNo,
     event: &Event,
 ) -> Result<Outcome, Refusal>
+    requires job { job.0 ≡ job_at node.old.works.works (node_event.Own event.now) }
     requires told { ∥ Tells node.old (journal_of logs.old) ∥₁ }
     requires few { (job : ℕ) → length (list_of logs.old job) ≤ most_lines }
     ensures node { IfOk result (λ o. Steps node.old (node_event.Own event.now) (given_of o) node.new) }
     ensures judged { IfOk result (λ o. IsJudged node.old event.now o.reply o.judged) }
     ensures small { IfOk result (λ o. IsSmall node.old event.now o.reply) }
     ensures logs { IfOk result (λ o. (job : ℕ) → journal_of logs.new job
-        ≡ with_lines (folded_if (is_folded_by node.old.hands (node_event.Own event.now) job (list_of logs.old job)) (journal_of logs.old job)) (lines_made number (node_event.Own event.now) o.judged (given_of o) job)) }
+        ≡ journal_after node.old number (node_event.Own event.now) o.judged (given_of o) job (journal_of logs.old job)) }
     ensures few { IfOk result (λ o. (job : ℕ) → length (list_of logs.new job) ≤ most_lines) }
     ensures memory { (r : Refusal) → IsErrOf result r → r ≡ NoMemory }
     ensures err { OnErr result (node.new ≡ node.old) }
     ensures unchanged { OnErr result ((job : ℕ) → journal_of logs.new job ≡ journal_of logs.old job) }
 {
-    let job = job_of(event);
     // all growth comes before the node's step
     let takers = node.takers(event)?;
     if takers.as_slice().len() >= MOST_LINES {
@@ -391,7 +393,7 @@ fn record_arrival(
     ensures silent { IfOk result (λ o. o.notes ≡ []) }
     ensures stale { IfOk result (λ o. o.reply ≡ reply.Refused Stale → node.new ≡ node.old) }
     ensures logs { IfOk result (λ o. (other : ℕ) → journal_of logs.new other
-        ≡ with_lines (folded_if (is_folded_by node.old.hands (node_event.Arrive job arrival.now) other (list_of logs.old other)) (journal_of logs.old other)) (lines_made number (node_event.Arrive job arrival.now) o.judged (given_of o) other)) }
+        ≡ journal_after node.old number (node_event.Arrive job arrival.now) o.judged (given_of o) other (journal_of logs.old other)) }
     ensures few { IfOk result (λ o. (other : ℕ) → length (list_of logs.new other) ≤ most_lines) }
     ensures memory { (r : Refusal) → IsErrOf result r → r ≡ NoMemory }
     ensures err { OnErr result (node.new ≡ node.old) }

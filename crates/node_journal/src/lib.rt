@@ -2,6 +2,7 @@
 //! replay of each job's lines on their base gives the job's store at the node, without contents, and the answers.
 #![tactic(auto)]
 
+mod beside;
 mod copies;
 mod entries;
 mod folding;
@@ -9,6 +10,7 @@ mod kept;
 mod logs;
 mod posts;
 
+pub use beside::{Keeper, nothing_beside};
 pub use entries::{Agreement, Entry, Line, Receipt};
 pub use folding::MOST_LINES;
 pub use kept::Kept;

@@ -5,11 +5,12 @@ ghost use Rattle.std.specs.List.{list_any};
 ghost use Rattle.private_store.specs.Jobs.{same_job};
 ghost use Rattle.plain_store.specs.Parts.{has_begun as has_begun_lem};
 ghost use Rattle.node_core.specs.Outcomes.{inputs_noted};
-ghost use Rattle.node_journal.specs.Journals.{notes_for, begins, fresh, folded_if, last_of, store_of, with_lines};
+ghost use Rattle.node_journal.specs.Journals.{notes_for, begins, fresh, folded_if, last_of, base_after, with_lines};
 ghost use Rattle.node_journal.specs.Logs.{journal_of, list_of, spare_of, AreStores, has_base};
 
 use crate::copies::copy_of_judged;
 use crate::entries::Line;
+use crate::folding::Base;
 use indexmap::IndexMap;
 use node_core::Note;
 use obj_id::JobNo;
@@ -20,8 +21,7 @@ use std::marker::Model;
 /// The journal of one job.
 #[derive(Drop)]
 struct Log {
-    // the store as it was after what was folded
-    base: PlainStore,
+    base: Base,
     // the number of the step that the last folded line is of, or 0
     covered: u64,
     // oldest first
@@ -43,7 +43,10 @@ impl Log {
         ensures { result.journal ≡ fresh job.0 }
     {
         Log {
-            base: PlainStore::new(alloc, job),
+            base: Base {
+                store: PlainStore::new(alloc, job),
+                taken: 0,
+            },
             covered: 0,
             lines: Vec::new(alloc),
         }
@@ -68,7 +71,7 @@ impl Log {
     }
 
     /// The lines go, and this is the base from now on. Takes no memory.
-    fn fold(&mut self, base: PlainStore)
+    fn fold(&mut self, base: Base)
         ensures journal { self.new.journal ≡ record { base = base; covered = last_of self.old.journal.covered self.old.journal.list; list = [] } }
         ensures spare { self.old.spare ≤ self.new.spare }
     {
@@ -77,11 +80,20 @@ impl Log {
         self.base = base;
     }
 
+    /// The same, and gives the memory of the lines back.
+    fn fold_away(&mut self, alloc: Global, base: Base)
+        ensures { self.new.journal ≡ record { base = base; covered = last_of self.old.journal.covered self.old.journal.list; list = [] } }
+    {
+        self.covered = last_number(self.covered, &self.lines);
+        self.lines = Vec::new(alloc);
+        self.base = base;
+    }
+
     /// Whether the job was ever admitted.
     fn has_begun(&self) -> bool
-        ensures { result ≡ (has_begun_lem self.now.journal.base.shape.life || list_any begins self.now.journal.list) }
+        ensures { result ≡ (has_begun_lem self.now.journal.base.store.shape.life || list_any begins self.now.journal.list) }
     {
-        self.base.has_begun() || any_begins(&self.lines)
+        self.base.store.has_begun() || any_begins(&self.lines)
     }
 
     fn covered(&self) -> u64
@@ -196,8 +208,8 @@ impl Logs {
     }
 
     /// Folds the job's lines into its base, which is then this one. Takes no memory.
-    pub fn fold(&mut self, job: JobNo, base: PlainStore)
-        requires { base ≡ store_of (journal_of self.old job.0) }
+    pub(crate) fn fold(&mut self, job: JobNo, base: Base)
+        requires { base ≡ base_after (journal_of self.old job.0) }
         ensures journal { (other : ℕ) → journal_of self.new other ≡ folded_if (job.0 == other) (journal_of self.old other) }
         ensures spare { (other : ℕ) → spare_of self.old other ≤ spare_of self.new other }
     {
@@ -207,8 +219,19 @@ impl Logs {
         log.fold(base);
     }
 
+    /// Folds the job's lines into its base, which is then this one, and gives the memory of the lines back. Takes none.
+    pub(crate) fn fold_away(&mut self, job: JobNo, base: Base)
+        requires { base ≡ base_after (journal_of self.old job.0) }
+        ensures { (other : ℕ) → journal_of self.new other ≡ folded_if (job.0 == other) (journal_of self.old other) }
+    {
+        let Some(log) = self.logs.get_mut(&job) else {
+            return;
+        };
+        log.fold_away(self.alloc, base);
+    }
+
     /// Folds the lines of these jobs into their bases, which are then these. Takes no memory.
-    pub fn fold_all(&mut self, bases: Vec<(JobNo, PlainStore)>)
+    pub(crate) fn fold_all(&mut self, bases: Vec<(JobNo, Base)>)
         requires { AreStores bases.items (journal_of self.old) }
         ensures journal { (other : ℕ) → journal_of self.new other ≡ folded_if (has_base other bases.items) (journal_of self.old other) }
         ensures spare { (other : ℕ) → spare_of self.old other ≤ spare_of self.new other }
@@ -220,7 +243,7 @@ impl Logs {
 
     /// Whether the job was ever admitted. Takes a walk over its lines.
     pub fn has_begun(&self, job: JobNo) -> bool
-        ensures { result ≡ (has_begun_lem (journal_of self.now job.0).base.shape.life || list_any begins (list_of self.now job.0)) }
+        ensures { result ≡ (has_begun_lem (journal_of self.now job.0).base.store.shape.life || list_any begins (list_of self.now job.0)) }
     {
         match self.logs.get(&job) {
             Some(log) => log.has_begun(),

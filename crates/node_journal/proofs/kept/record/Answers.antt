@@ -1,11 +1,11 @@
-use Rattle.std.proofs.Common.{◌≡◌, ◌==◌, ◌<◌, ◌≤◌, List, [], ◌∷◌, ◌++◌, length, map, refl, sym, ap, subst, ◌∙◌, arith}
+use Rattle.std.proofs.Common.{◌≡◌, ℕ, ◌==◌, ◌<◌, ◌≤◌, List, [], ◌∷◌, ◌++◌, length, map, refl, sym, ap, subst, ◌∙◌, arith}
 use Rattle.std.specs.Prelude.{if◌then◌else◌}
 use Rattle.obj_id.specs.declared.ids.JobNo.{JobNo}
 use Rattle.private_store.specs.declared.schedules.NodeEvent.TheVariants.{Own}
 use Rattle.node_core.specs.declared.outcome.Note.{Note}
 use Rattle.node_core.specs.Foreseen.{AreTakers}
 use Rattle.node_core.specs.Outcomes.{inputs_noted}
-use Rattle.node_core.specs.Steps.{job_of_event}
+use Rattle.node_core.specs.Steps.{job_at}
 use Rattle.node_journal.specs.declared.entries.Line.TheVariants as line
 use Rattle.node_journal.specs.Journals.{Journal, entry_for, notes_for, folded_if, has_no_room, is_folded_by, most_lines, with_lines}
 use Rattle.node_journal.specs.Logs.{journal_of, list_of, spare_of}
@@ -33,27 +33,27 @@ add_notes-requires c =
 pub returns-clause-logs : goal.returns-clause-logs
 returns-clause-logs c = λ job.
     let e = c.args.event.now in
-    let hands = c.args.node.now.hands in
     let outcome = c.in_ok-outcome.outcome in
     let takers = c.as_slice-3.ensures ∙ c.in_ok-takers.ensures.takers in
     let kept = c.in_ok-reserve.ensures.journals job in
-    let full = c.in_ok-bases.ensures.full job ∙ (λ i. has_no_room (c.job_of-job.ensures i) (takers i) job (length (kept i).list)) in
+    let own : ℕ = job_at c.args.node.now.works.works (Own e) in
+    let full = c.in_ok-bases.ensures.full job ∙ (λ i. has_no_room (c.requires.job i) (takers i) job (length (kept i).list)) in
     let first : Journal = journal_of c.fold_all.new.self job in
-    let first_is : first ≡ folded_if (is_folded_by hands (Own e) job (list_of c.args.logs.now job)) (journal_of c.args.logs.now job) =
+    let first_is : first ≡ folded_if (is_folded_by c.args.node.now (Own e) job (list_of c.args.logs.now job)) (journal_of c.args.logs.now job) =
     c.fold_all.ensures.journal job ∙ (λ i. folded_if (full i) (kept i)) in
-    added (job_of_event e == job) first (journal_of c.add.new.self job) (journal_of c.add_notes.new.self job)
+    added (own == job) first (journal_of c.add.new.self job) (journal_of c.add_notes.new.self job)
     (line.Entry (entry_for c.args.number outcome.judged outcome.reply)) (notes_for c.args.number (inputs_noted outcome.notes) job)
     (c.add.ensures.journal job
-    ∙ (λ i. if c.job_of-job.ensures i == job
+    ∙ (λ i. if c.requires.job i == job
     then with_lines first (line.Entry (c.entry_of.ensures i) ∷ [])
     else first))
     (c.add_notes.ensures job ∙ ap (λ ns. with_lines (journal_of c.add.new.self job) (notes_for c.args.number (inputs_noted ns) job)) c.as_slice-4.ensures)
-    ∙ ap (λ j. with_lines j ((if job_of_event e == job then line.Entry (entry_for c.args.number outcome.judged outcome.reply) ∷ [] else []) ++ notes_for c.args.number (inputs_noted outcome.notes) job)) first_is
+    ∙ ap (λ j. with_lines j ((if own == job then line.Entry (entry_for c.args.number outcome.judged outcome.reply) ∷ [] else []) ++ notes_for c.args.number (inputs_noted outcome.notes) job)) first_is
 
 pub returns-clause-few : goal.returns-clause-few
 returns-clause-few c = λ job.
     let e = c.args.event.now in
     let outcome = c.in_ok-outcome.outcome in
     let some = subst (λ (ts : List JobNo). length ts < most_lines) (c.as_slice.ensures ∙ c.in_ok-takers.ensures.takers) (omega arith) in
-    all_few c.args.node.now.hands e outcome.reply c.args.number job outcome.notes (journal_of c.args.logs.now job) (journal_of c.add_notes.new.self job)
+    all_few (job_at c.args.node.now.works.works (Own e)) c.args.node.now.hands e outcome.reply c.args.number job outcome.notes (journal_of c.args.logs.now job) (journal_of c.add_notes.new.self job)
     (line.Entry (entry_for c.args.number outcome.judged outcome.reply)) c.in_ok-outcome.ensures.takers some (returns-clause-logs c job)

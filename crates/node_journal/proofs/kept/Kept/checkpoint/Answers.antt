@@ -7,7 +7,7 @@ use Rattle.node_journal.proofs.kept.Kept.checkpoint.Goals as goal
 pub invariant_of-self-2 : goal.invariant_of-self-2
 invariant_of-self-2 g c =
     let old = c.args.self.now in
-    let is = c.fold.ensures.journal in
+    let is = c.fold_away.ensures in
     record {
       seated = old.seated;
       blank = old.blank;

@@ -1,5 +1,5 @@
-use Rattle.std.proofs.Common.{◌∙◌}
-use Rattle.node_journal.proofs.Telling.{told_entered, entered_number}
+use Rattle.std.proofs.Common.{refl, ◌∙◌}
+use Rattle.node_journal.proofs.Telling.{told_entered, entered_same}
 use Rattle.node_journal.proofs.kept.Kept.enter.Goals as goal
 
 pub invariant_of-self : goal.invariant_of-self
@@ -9,8 +9,8 @@ invariant_of-self g c =
     record {
       seated = old.seated;
       blank = old.blank;
-      named = entered_number _ old.node _ _ done.ok done.err ∙ old.named;
+      named = entered_same _ old.node _ _ (λ n. n.number) refl done.ok done.err ∙ old.named;
       numbered = old.numbered;
       few = old.few;
-      told = told_entered old.node _ _ done.views old.told;
+      told = told_entered old.node _ _ (entered_same _ old.node _ _ (λ n. n.works) refl done.ok done.err) done.views old.told;
     }

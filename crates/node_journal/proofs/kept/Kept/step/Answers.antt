@@ -1,6 +1,6 @@
 use Rattle.std.proofs.Common.{◌+◌, ◌==◌, ◌≤◌, length, refl, sym, ap, subst, ◌∙◌}
 use Rattle.private_store.specs.declared.schedules.NodeEvent.TheVariants.{Own}
-use Rattle.node_core.specs.Steps.{job_of_event}
+use Rattle.node_core.specs.Steps.{job_at}
 use Rattle.node_journal.specs.Journals.{Journal, AreNumbered, is_folded_by, most_lines}
 use Rattle.node_journal.specs.Logs.{list_of}
 use Rattle.node_journal.proofs.Telling.{all_told, told_alike, call_never_wants, call_small}
@@ -29,9 +29,9 @@ invariant_of-self-2 g c =
       seated = old.seated;
       blank = old.blank;
       named = done.node.number ∙ old.named;
-      numbered = λ job. all_numbered old.count job (job_of_event e == job) (is_folded_by old.node.hands (Own e) job (list_of old.logs job)) _ _ _ _ refl (done.logs job) (old.numbered job);
+      numbered = λ job. all_numbered old.count job (job_at old.node.works.works (Own e) == job) (is_folded_by old.node (Own e) job (list_of old.logs job)) _ _ _ _ refl (done.logs job) (old.numbered job);
       few = done.few;
-      told = all_told old.node _ e _ (old.count + 1) done.node _ done.judged _ _ (λ job. is_folded_by old.node.hands (Own e) job (list_of old.logs job)) done.logs old.told;
+      told = all_told old.node _ e _ (old.count + 1) done.node _ done.judged _ _ (λ job. is_folded_by old.node (Own e) job (list_of old.logs job)) done.logs old.told;
     }
 
 pub returns-clause-answered : goal.returns-clause-answered

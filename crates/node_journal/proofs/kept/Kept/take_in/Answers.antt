@@ -31,9 +31,9 @@ invariant_of-self-2 g c =
       seated = old.seated;
       blank = old.blank;
       named = done.node.number ∙ old.named;
-      numbered = λ job. all_numbered old.count job (to.0 == job) (is_folded_by old.node.hands (Arrive to a) job (list_of old.logs job)) _ _ _ _ refl (done.logs job) (old.numbered job);
+      numbered = λ job. all_numbered old.count job (to.0 == job) (is_folded_by old.node (Arrive to a) job (list_of old.logs job)) _ _ _ _ refl (done.logs job) (old.numbered job);
       few = done.few;
-      told = arrival_told old.node _ to a _ (old.count + 1) done.node _ done.judged done.stale (ap inputs_noted done.silent) _ _ (λ job. is_folded_by old.node.hands (Arrive to a) job (list_of old.logs job)) done.logs old.told;
+      told = arrival_told old.node _ to a _ (old.count + 1) done.node _ done.judged done.stale (ap inputs_noted done.silent) _ _ (λ job. is_folded_by old.node (Arrive to a) job (list_of old.logs job)) done.logs old.told;
     }
 
 pub returns-clause-entered : goal.returns-clause-entered

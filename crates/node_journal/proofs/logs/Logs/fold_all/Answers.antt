@@ -1,7 +1,7 @@
 use Rattle.std.proofs.Common.{◌≡◌, ◌∷◌, List, rules, subst, sym, ap, ◌∙◌, arith}
 use Rattle.std.specs.Vec.Iter.{into_iter_items}
 use Rattle.obj_id.specs.declared.ids.JobNo.{JobNo}
-use Rattle.private_store.specs.Replay.{Brief}
+use Rattle.node_journal.specs.declared.folding.Base.{Base}
 use Rattle.node_journal.specs.Journals.{folded_if}
 use Rattle.node_journal.specs.Logs.{journal_of, AreStores, has_base}
 use Rattle.node_journal.proofs.Bases.{stores_left, folds_left}
@@ -9,8 +9,8 @@ use Rattle.node_journal.proofs.logs.Logs.fold_all.Goals as goal
 
 pub loop-job-preserved : goal.loop-job-preserved
 loop-job-preserved c =
-    let e : JobNo × Brief = (c.in-Some.job, c.in-Some.base) in
-    let rest : List (JobNo × Brief) = into_iter_items c.next.new.self in
+    let e : JobNo × Base = (c.in-Some.job, c.in-Some.base) in
+    let rest : List (JobNo × Base) = into_iter_items c.next.new.self in
     let kept = c.loop-job.invariant in
     let next : into_iter_items c.loop-job.job-iterator ≡ e ∷ rest = search rules in
     record {

@@ -8,7 +8,7 @@ use Rattle.node_journal.proofs.Logging.{journal_in}
 use Rattle.node_journal.proofs.logs.Logs.has_begun.Goals as goal
 
 abbrev begun_by : Journal → Bool
-begun_by journal = has_begun journal.base.shape.life || list_any begins journal.list
+begun_by journal = has_begun journal.base.store.shape.life || list_any begins journal.list
 
 pub returns-in-Some : goal.returns-in-Some
 returns-in-Some c =
