@@ -1,3 +1,4 @@
+mod JobsKept
 mod TakenLine
 mod TakenWorks
 mod Logging

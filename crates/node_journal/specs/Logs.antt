@@ -1,5 +1,5 @@
 -- The journals of all jobs, by job, and the bases that are made for some of them.
-use Rattle.std.specs.Prelude.{◌≡◌, ℕ, ◌==◌, Bool, List, [], ◌∷◌}
+use Rattle.std.specs.Prelude.{◌≡◌, ℕ, ◌==◌, nat_lt, ◌||◌, Bool, List, [], ◌∷◌, length, map, filter}
 use Rattle.std.specs.List.{list_any}
 use Rattle.std.specs.Option.{option_map_or}
 use Rattle.std.specs.Map.{lookup}
@@ -25,6 +25,14 @@ list_of logs job = (journal_of logs job).list
 -- how many more lines of it take no memory
 abbrev pub spare_of : List (JobNo × JobLog) → ℕ → ℕ
 spare_of logs job = option_map_or (λ log. log.spare) (lookup (same_job (record { 0 = job })) logs) 0
+
+-- whether the journal ever had a line
+abbrev pub was_kept : Journal → Bool
+was_kept journal = nat_lt 0 journal.covered || nat_lt 0 (length journal.list)
+
+-- the jobs whose journals had one
+abbrev pub jobs_kept : List (JobNo × JobLog) → List JobNo
+jobs_kept logs = map (λ e. e.0) (filter (λ e. was_kept e.1.journal) logs)
 
 -- ---- bases
 

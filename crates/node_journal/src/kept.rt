@@ -1,6 +1,8 @@
 //! A node with its journal, under one name.
 ghost use Rattle.std.specs.Prelude.{◌≡◌, ◌≢◌, ◌↔◌, ℕ, ◌+◌, ◌==◌, ◌⊎◌, ◌<◌, ◌≤◌, [], true, false, length, Some, None, IfOk, IfErr, OnOk, OnErr, IsErrOf, IsOk, is_some};
 ghost use Rattle.std.specs.List.{list_any};
+ghost use Rattle.std.specs.List.Sorted.{IsNonDecreasingBy};
+ghost use Rattle.obj_id.specs.declared.ids.JobNo.{JobNo};
 ghost use Rattle.obj_id.specs.declared.commands.Reply.TheVariants as reply;
 ghost use Rattle.obj_id.specs.declared.refusals.Refusal.{Refusal};
 ghost use Rattle.obj_id.specs.declared.refusals.Refusal.TheVariants.{NoMemory, NotAdmitted, TooMany, Stale};
@@ -12,7 +14,7 @@ ghost use Rattle.node_core.specs.Steps.{job_at, Steps};
 ghost use Rattle.node_core.specs.Judged.{IsJudged, IsArrivalJudged, IsSmall};
 ghost use Rattle.node_core.specs.Outcomes.{given_of};
 ghost use Rattle.node_journal.specs.declared.entries.Agreement.TheVariants.{No};
-ghost use Rattle.node_journal.specs.Logs.{journal_of, list_of};
+ghost use Rattle.node_journal.specs.Logs.{journal_of, list_of, was_kept};
 ghost use Rattle.node_journal.specs.Posts.{IsAstray, is_entered};
 ghost use Rattle.private_store.specs.Cluster.{arrival_of};
 ghost use Rattle.obj_id.specs.declared.messages.Arrival.{Arrival};
@@ -23,9 +25,9 @@ use crate::folding::{MOST_LINES, base_of, bases_of};
 use crate::logs::Logs;
 use crate::posts::{Made, Posted, arrival};
 use node_core::{Node, Outcome};
-use obj_id::{Arrival, JobKey, JobNo, Place, Refusal};
+use obj_id::{Arrival, Items, JobKey, JobNo, Place, Refusal};
 use private_store::Event;
-use std::alloc::Global;
+use std::alloc::{AllocError, Global};
 use std::marker::PhantomData;
 use std::sync::ledger::{Ledger, Share};
 
@@ -300,6 +302,15 @@ impl<L: Ledger> Kept<L> {
         } else {
             Agreement::No
         }
+    }
+
+    /// The job numbers under which there ever was an entry or a note, rising: 0 among them, if there was one of no job. Takes a
+    /// walk over them, a sort, and memory for each.
+    pub fn jobs(&self) -> Result<Items<JobNo>, AllocError>
+        ensures kept { IfOk result (λ jobs. (job : ℕ) → list_any (λ own. own.0 == job) jobs ≡ was_kept (journal_of self.now.logs job)) }
+        ensures rising { IfOk result (λ jobs. IsNonDecreasingBy (λ (job : JobNo). job.0) jobs) }
+    {
+        self.logs.jobs()
     }
 
     /// The number of the step that the last folded line of a job number is of; 0 where nothing was folded.

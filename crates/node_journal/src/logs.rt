@@ -1,19 +1,21 @@
 //! The journals of all jobs: all growth comes before a step, and what the step adds then takes no memory. A contract sees the
 //! journal of every job number, and how many more lines of a job take no memory.
-ghost use Rattle.std.specs.Prelude.{◌≡◌, ℕ, ◌==◌, ◌+◌, ◌∷◌, ◌<◌, ◌≤◌, ◌||◌, [], true, length, map, if◌then◌else◌, OnOk};
+ghost use Rattle.std.specs.Prelude.{◌≡◌, ℕ, ◌==◌, ◌+◌, ◌∷◌, ◌<◌, ◌≤◌, ◌||◌, [], true, length, map, if◌then◌else◌, OnOk, IfOk};
 ghost use Rattle.std.specs.List.{list_any};
+ghost use Rattle.std.specs.List.Sorted.{IsPermutation, IsNonDecreasingBy};
+ghost use Rattle.obj_id.specs.declared.ids.JobNo.{JobNo};
 ghost use Rattle.private_store.specs.Jobs.{same_job};
 ghost use Rattle.plain_store.specs.Parts.{has_begun as has_begun_lem};
 ghost use Rattle.node_core.specs.Outcomes.{inputs_noted};
 ghost use Rattle.node_journal.specs.Journals.{notes_for, begins, fresh, folded_if, last_of, base_after, with_lines};
-ghost use Rattle.node_journal.specs.Logs.{journal_of, list_of, spare_of, AreStores, has_base};
+ghost use Rattle.node_journal.specs.Logs.{journal_of, list_of, spare_of, AreStores, has_base, was_kept as was_kept_lem};
 
 use crate::copies::copy_of_judged;
 use crate::entries::Line;
 use crate::folding::Base;
 use indexmap::IndexMap;
 use node_core::Note;
-use obj_id::JobNo;
+use obj_id::{Items, JobNo};
 use plain_store::PlainStore;
 use std::alloc::{AllocError, Global};
 use std::marker::Model;
@@ -94,6 +96,13 @@ impl Log {
         ensures { result ≡ (has_begun_lem self.now.journal.base.store.shape.life || list_any begins self.now.journal.list) }
     {
         self.base.store.has_begun() || any_begins(&self.lines)
+    }
+
+    /// Whether it ever had a line.
+    fn was_kept(&self) -> bool
+        ensures { result ≡ was_kept_lem self.now.journal }
+    {
+        self.covered > 0 || !self.lines.is_empty()
     }
 
     fn covered(&self) -> u64
@@ -251,6 +260,16 @@ impl Logs {
         }
     }
 
+    /// The jobs that ever had a line, by rising number. Takes a walk over all jobs, a sort, and memory for each.
+    pub fn jobs(&self) -> Result<Items<JobNo>, AllocError>
+        ensures kept { IfOk result (λ jobs. (job : ℕ) → list_any (λ own. own.0 == job) jobs ≡ was_kept_lem (journal_of self.now job)) }
+        ensures rising { IfOk result (λ jobs. IsNonDecreasingBy (λ (job : JobNo). job.0) jobs) }
+    {
+        let mut jobs = jobs_of(self.alloc, &self.logs)?;
+        sort_jobs(&mut jobs)?;
+        Ok(Items::from_vec(jobs))
+    }
+
     /// The number of the step that the job's last folded line is of, or 0.
     pub fn covered(&self, job: JobNo) -> u64
         ensures { result ≡ (journal_of self.now job.0).covered }
@@ -270,4 +289,26 @@ impl Logs {
             None => &[],
         }
     }
+}
+
+/// The jobs that ever had a line, in the order of their first steps.
+fn jobs_of(alloc: Global, logs: &IndexMap<JobNo, Log>) -> Result<Vec<JobNo>, AllocError>
+    ensures { IfOk result (λ jobs. (job : ℕ) → list_any (λ own. own.0 == job) jobs.items ≡ was_kept_lem (journal_of logs.now.entries job)) }
+{
+    let mut jobs = Vec::with_capacity(alloc, logs.len())?;
+    for (job, log) in logs {
+        if log.was_kept() {
+            jobs.push(*job)?;
+        }
+    }
+    Ok(jobs)
+}
+
+/// The jobs by rising number.
+fn sort_jobs(jobs: &mut Vec<JobNo>) -> Result<(), AllocError>
+    ensures permutation { IsPermutation jobs.old.items jobs.new.items }
+    ensures rising { OnOk result (IsNonDecreasingBy (λ (job : JobNo). job.0) jobs.new.items) }
+{
+    jobs.sort_by_key(|job| job.0)?;
+    Ok(())
 }

@@ -1,8 +1,10 @@
-//! Tests of what no contract of a stream or a lock can tell: what a run says of a reader or a writer that fails, and which entries
-//! the receipts of calls name.
+//! Tests of what no contract of a stream or a lock can tell: what a run says of a reader or a writer that fails, which entries
+//! the receipts of calls name, and where a node's journal puts them.
 #![tactic(auto)]
 
 #[cfg(test)]
 mod calls;
+#[cfg(test)]
+mod journal;
 #[cfg(test)]
 mod runs;

@@ -1,0 +1,92 @@
+//! A node's journal: under which job a Take's entry stands, what a fold leaves, and which jobs are listed.
+ghost use Rattle.std.specs.Prelude.{◌≡◌};
+
+use assertions::same;
+use bytes::Bytes;
+use node_journal::{Agreement, Kept, Receipt};
+use obj_id::{Command, DeviceAnswer, JobKey, JobNo, Kind, ObjectId, Quota, TaskNo};
+use private_store::Event;
+use std::alloc::Global;
+use std::marker::Brand;
+use std::process::Abort;
+use std::sync::ledger::{Blank, Ledger};
+use std::test::Fail;
+
+const JOB: JobNo = JobNo(1);
+
+const NO_JOB: JobNo = JobNo(0);
+
+const QUOTA: Quota = Quota {
+    window: 32,
+    device: 64,
+};
+
+/// The receipt of a step, which is made once more if memory ran out.
+fn stepped<L: Ledger>(kept: &mut Kept<L>, event: &Event) -> Result<Receipt<L>, Fail> {
+    let made = match kept.step(event) {
+        Ok(made) => made,
+        Err(_) => kept.step(event).ok().ok_or("no step")?,
+    };
+    Ok(made.into_parts().receipt)
+}
+
+fn called<L: Ledger>(kept: &mut Kept<L>, command: Command<Bytes>) -> Result<(), Fail> {
+    stepped(kept, &Event::Call(JOB, 1, command))?;
+    Ok(())
+}
+
+/// A first object fills the window, and a second one asks for its bytes to be written to the device.
+fn ask_for_a_work<L: Ledger>(kept: &mut Kept<L>) -> Result<(), Fail> {
+    let first = ObjectId::new(TaskNo([0; 20]), JOB, 1).ok().ok_or("no id")?;
+    let second = ObjectId::new(TaskNo([0; 20]), JOB, 2).ok().ok_or("no id")?;
+    stepped(kept, &Event::Admit(JOB, QUOTA, JobKey([0; 32])))?;
+    called(kept, Command::Create(first, Kind::Primary, 32))?;
+    called(kept, Command::Seal(first))?;
+    called(kept, Command::Create(second, Kind::Primary, 32))
+}
+
+/// Folds the job's list, once more if memory ran out.
+fn fold<L: Ledger>(kept: &mut Kept<L>) -> Result<(), Fail> {
+    if kept.checkpoint(JOB).is_err() {
+        kept.checkpoint(JOB).ok().ok_or("no fold")?;
+    }
+    Ok(())
+}
+
+/// Whether the journal lists the number 0 and the job, in this order.
+fn lists_both<L: Ledger>(kept: &Kept<L>) -> Result<bool, Fail> {
+    let jobs = match kept.jobs() {
+        Ok(jobs) => jobs,
+        Err(_) => kept.jobs()?,
+    };
+    Ok(jobs.as_slice() == [NO_JOB, JOB].as_slice())
+}
+
+fn try_journal<L: Ledger, R: Abort>(rt: &R, alloc: Global, blank: Blank) -> Result<(), Fail>
+    requires name { blank.name ≡ L.name }
+    requires parts { blank.parts ≡ L.parts }
+    requires one { blank.parts ≡ 1 }
+{
+    let (_book, seat) = blank.open::<L>();
+    let mut kept = Kept::new(alloc, 0, 1024, seat);
+    // nobody's work waits
+    let none = stepped(&mut kept, &Event::Take)?;
+    same!(rt; none.job(), NO_JOB);
+    ask_for_a_work(&mut kept)?;
+    let given = stepped(&mut kept, &Event::Take)?;
+    same!(rt; (given.job(), given.number()), (JOB, 6));
+    same!(rt; kept.agrees(&given), Agreement::Yes);
+    fold(&mut kept)?;
+    same!(rt; (kept.agrees(&given), kept.covered(JOB), kept.list(JOB).len()), (Agreement::Folded, 6, 0));
+    // the work is still taken after the fold: its answer is
+    let finished = stepped(&mut kept, &Event::Finish(JOB, 1, DeviceAnswer::Done))?;
+    same!(rt; (finished.input().is_some(), kept.list(JOB).len()), (true, 1));
+    same!(rt; lists_both(&kept)?, true);
+    Ok(())
+}
+
+#[test]
+fn a_take_stands_under_the_job_whose_work_it_gives(rt: HostRuntime) -> Result<(), Fail> {
+    let blank = Blank::new(1);
+    try_journal::<Brand, HostRuntime>(&rt, rt.alloc(), blank)
+}
