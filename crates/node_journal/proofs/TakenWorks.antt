@@ -24,6 +24,7 @@ use Rattle.private_store.specs.Tables.{at}
 use Rattle.private_store.specs.Shape.{Copy, WorkInFlight}
 use Rattle.private_store.specs.Contents.{View, judge}
 use Rattle.private_store.specs.NodeInputs.{JobInput, own_here}
+use Rattle.private_store.specs.Private.{view_step}
 use Rattle.private_store.proofs.KeptLists.{find-passes}
 use Rattle.private_store.proofs.Tests.{none_some, some_value, true_false}
 use Rattle.spill_work.specs.declared.queue.Asked.{Asked}
@@ -202,7 +203,7 @@ module _ (old : Hosted) (v : ℕ → View) (shows : ShowsAll old v) (number : �
 
   asked_untaken : (o : Option JobInput) → are_untaken (asked_now old.number v o) ≡ true
   asked_untaken None = refl
-  asked_untaken (Some x) = queued_untaken x.job _
+  asked_untaken (Some x) = queued_untaken x.job (view_step old.number (v x.job) x.input).works
 
   -- a step
   pub step_keeps : (e : Event) (given : Given) (new : Hosted) → StepsFrom old v (Own e) given new → (was : Option Judged) → was ≡ word e given.reply

@@ -4,8 +4,8 @@ use crate::lines::event_of;
 use assertions::same;
 use bytes::Bytes;
 use node_core::{Node, Outcome};
-use obj_id::{Command, Reply};
-use private_store::{Judged, WorkVerdict};
+use obj_id::{Command, JobNo, Reply};
+use private_store::{Event, Judged, WorkVerdict};
 use std::alloc::{AllocError, Global};
 use std::process::Abort;
 use std::test::Fail;
@@ -71,12 +71,24 @@ fn described(alloc: Global, most: usize, outcome: &Outcome) -> Result<String, Al
     }
 }
 
-/// Checks a row of an event's line and of what is due of it.
+/// The job whose work the reply gives: 0 if it gives none.
+fn job_given(reply: &Reply<Bytes>) -> JobNo {
+    match reply {
+        Reply::Work(work) => work.job,
+        _ => JobNo(0),
+    }
+}
+
+/// Checks a row of an event's line and of what is due of it; and of a Take, whose work it was to give.
 fn check_row(rt: &impl Abort, alloc: Global, node: &mut Node, row: &str) -> Result<(), Fail> {
     let (line, due) = row.split_once(" = ").ok_or("no row")?;
     let event = event_of(rt, alloc, line)?;
     let most = node.foresee(&event).most_messages;
+    let in_turn = node.job_in_turn();
     let outcome = taken(rt, node, &event)?;
+    if matches!(&event, Event::Take) {
+        same!(rt; job_given(&outcome.reply), in_turn);
+    }
     let said = described(alloc, most, &outcome)?;
     assert_eq!(rt; said.as_str(), due, "{row}");
     Ok(())
