@@ -15,7 +15,7 @@ ghost use Rattle.job_admission.specs.Admissions.{largest_memory, live_at, admit_
 ghost use Rattle.node_table.specs.Outcomes.{given_of as row_given_of};
 ghost use Rattle.node_table.specs.Shown.{only};
 ghost use Rattle.private_store.specs.declared.schedules.NodeEvent.TheVariants as node_event;
-ghost use Rattle.node_core.specs.Calls.{takes_no_memory, is_frugal};
+ghost use Rattle.node_core.specs.Calls.{is_of_row, takes_no_memory, is_frugal};
 ghost use Rattle.node_core.specs.Hosted.{Shows, row_at};
 ghost use Rattle.node_core.specs.Borrowed.{borrowed_check, IsBorrowed};
 ghost use Rattle.node_core.specs.Steps.{Steps};
@@ -250,6 +250,24 @@ impl Node {
         if let Command::Peek(id, offset, len) = command {
             return self.peek(job, session, id, *offset, *len);
         }
+        self.call_row(job, session, command)
+    }
+
+    /// The same of a command that a row carries out.
+    fn call_row(
+        &mut self,
+        job: JobNo,
+        session: u32,
+        command: &Command<Bytes>,
+    ) -> Result<node_table::Outcome, Refusal>
+        requires { is_of_row command.now ≡ true }
+        ensures ok { IfOk result (λ o. StepsOne self.old (event.Call job session command.now) (row_given_of o) self.new) }
+        ensures few { IfOk result (λ o. length o.messages ≤ most_by_command (row_at self.old job) command.now) }
+        ensures late { OnErr result (IsCallUnrefused self.old job session command.now) }
+        ensures memory { (r : Refusal) → IsErrOf result r → r ≡ NoMemory }
+        ensures frugal { takes_no_memory (row_at self.old job) command.now ≡ true → IsOk result }
+        ensures err { OnErr result (self.new ≡ self.old) }
+    {
         let Some(row) = self.rows.get_mut(&job) else {
             let reply = Reply::Refused(Refusal::NotAdmitted);
             return Ok(node_table::Outcome::only(self.alloc, reply));
