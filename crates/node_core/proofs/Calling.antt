@@ -1,11 +1,10 @@
 -- A command on the row of its job: what its answer says, and that another job's object is refused.
-use Rattle.std.proofs.Common.{◌≡◌, ℕ, ◌==◌, false, List, Ok, Err, refl, sym, ap, subst, ◌∙◌}
-use Rattle.std.specs.Prelude.{IfOk, IfErr, OnOk, OnErr}
+use Rattle.std.proofs.Common.{◌≡◌, ℕ, ◌==◌, false, List, Ok, Err, refl, ap, ◌∙◌}
+use Rattle.std.specs.Prelude.{IfOk, IfErr, OnOk, OnErr, IsOk}
 use Rattle.std.specs.declared.result.Result.{Result}
 use Rattle.obj_id.specs.declared.ids.ObjectId.{ObjectId}
 use Rattle.obj_id.specs.declared.commands.Command.{Command}
 use Rattle.obj_id.specs.declared.commands.Command.TheVariants as command
-use Rattle.obj_id.specs.declared.commands.Reply.{Reply}
 use Rattle.obj_id.specs.declared.commands.Reply.TheVariants as reply
 use Rattle.obj_id.specs.declared.refusals.Refusal.TheVariants.{NotGranted}
 use Rattle.private_store.specs.declared.inputs.Input.TheVariants as input
@@ -14,7 +13,7 @@ use Rattle.private_store.specs.Shape.{Change}
 use Rattle.private_store.specs.Contents.{Contents, brief}
 use Rattle.private_store.specs.Step.{commanded, owned}
 use Rattle.node_table.specs.Row.{Row, Beside, shape_of}
-use Rattle.node_table.specs.Shown.{IsShown, Given, only, TakesStep}
+use Rattle.node_table.specs.Shown.{IsShown, only, TakesStep}
 use Rattle.node_table.proofs.Stepping.{stays, change}
 use Rattle.node_table.proofs.ByChecks.{called, foreign}
 use Rattle.node_core.specs.Calls.{is_own}
@@ -45,15 +44,6 @@ module _ (node job : ℕ) (row : Row) (beside : Beside) (session : ℕ) (content
   not_granted (command.Withdraw id target) other = absurd cc
   not_granted (command.Peek id offset n) other = absurd cc
 
--- a command that was carried out, as the call that did it tells of it
-module _ (node : ℕ) (row : Row) (beside : Beside) (session : ℕ) (contents : Contents) where
-  pub told_so : (c d : Command (List ℕ)) (o : Given) (got told : Reply (List ℕ)) (is after : Row) → c ≡ d → o ≡ only got → got ≡ told → is ≡ after
-      → TakesStep node row beside contents (input.Call session d) (only told) after beside → TakesStep node row beside contents (input.Call session c) o is beside
-  told_so c d o got told is after same gave says at h =
-      subst (λ e. TakesStep node row beside contents (input.Call session e) o is beside) (sym same)
-      (subst (λ g. TakesStep node row beside contents (input.Call session d) g is beside) (sym (gave ∙ ap only says))
-      (subst (λ r. TakesStep node row beside contents (input.Call session d) (only told) r beside) (sym at) h))
-
 -- what follows from a result follows where there is one
 pub if_ok : {X : Type 0} {E : Type 0} {P Q : X → Type 0} (r : Result X E) → IfOk r P → ((x : X) → P x → Q x) → IfOk r Q
 if_ok (Ok x) h k = k x h
@@ -62,6 +52,15 @@ if_ok (Err e) h k = tt
 pub if_ok_on : {X : Type 0} {E : Type 0} {P R : X → Type 0} {Q : Type 0} (r : Result X E) → IfOk r P → OnOk r Q → ((x : X) → P x → Q → R x) → IfOk r R
 if_ok_on (Ok x) h q k = k x h q
 if_ok_on (Err e) h q k = tt
+
+pub always_ok : {X : Type 0} {E : Type 0} {P : Type 0} (r : Result X E) → P → OnOk r P
+always_ok (Ok x) p = p
+always_ok (Err e) p = tt
+
+-- there is no error of which nothing can be so
+pub no_err : {X : Type 0} {E : Type 0} {P : Type 0} (r : Result X E) → OnErr r P → (P → ⊥) → IsOk r
+no_err (Ok x) h k = refl
+no_err (Err e) h k = absurd (k h)
 
 pub always_err : {X : Type 0} {E : Type 0} {P : Type 0} (r : Result X E) → P → OnErr r P
 always_err (Ok x) p = tt

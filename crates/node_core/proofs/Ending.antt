@@ -37,7 +37,7 @@ use Rattle.job_admission.specs.Admissions.{Admissions, live_at, lives_of, finish
 use Rattle.node_table.specs.Granting.{row_bytes}
 use Rattle.node_table.specs.Notes.{beside_rest}
 use Rattle.node_table.specs.Row.{Row, Beside, given_by, received_bytes}
-use Rattle.node_table.specs.Shown.{seen, only, IsShown}
+use Rattle.node_table.specs.Shown.{seen, only, IsShown, Given as RowGiven}
 use Rattle.node_table.proofs.CopyTables.{sorted-copies}
 use Rattle.node_table.specs.Ending.{keys_backed}
 use Rattle.node_table.proofs.EndingKeys.{keys-backed}
@@ -46,9 +46,10 @@ use Rattle.node_table.proofs.Notes.{none_given, rest_of_job}
 use Rattle.node_table.proofs.Received.{kept_as_they_are}
 use Rattle.node_core.proofs.Granted.{own_gave}
 use Rattle.node_core.proofs.HandsEnd.{ended_shows, ended_inputs, ends_judged}
-use Rattle.node_core.specs.Hosted.{Hosted, AreHosted, IsRowView, IsBare, IsViewBy, Shows, ShowsAll, bare, bytes_here, beside_at}
+use Rattle.node_core.specs.Hosted.{Hosted, AreHosted, IsHosted, IsRowView, IsBare, IsViewBy, Shows, ShowsAll, bare, bytes_here, beside_at}
+use Rattle.node_core.specs.JobEnds.{IsOwnEnd, LetsJobGo}
 use Rattle.node_core.specs.OneJob.{IsStepOf}
-use Rattle.node_core.specs.Outcomes.{with_no_notes, end_noted}
+use Rattle.node_core.specs.Outcomes.{with_no_notes, with_ends, end_noted}
 use Rattle.node_core.specs.Steps.{Given, answered, queued, Steps}
 use Rattle.node_core.proofs.Views.{itself, view_is, node_of}
 
@@ -259,6 +260,16 @@ module _ (number : ℕ) (a b : Admissions) (line after_line : WorkLine) (hands :
               ∙ ap (λ ws. filter (λ work. not (is_of_line job work)) line.works ++ queued job.0 ws) (sym (no_works v shows));
         };
   }
+
+-- from what it gives and what it leaves
+pub job_ends : (old new : Hosted) (job : JobNo) (own : RowGiven) → IsHosted old.admissions old.hands old.rows → is_some (live_at old.admissions job) ≡ true → IsOwnEnd old job own → LetsJobGo old job new
+    → Steps old (Own (event.JobEnd job)) (with_ends own (hands_ended (is_given_by job.0) old.hands)) new
+job_ends old new job own hosted is_live gives leaves =
+    let at_end : new ≡ node_of old.number new.admissions new.works (hands_left (is_given_by job.0) old.hands) new.rows = λ i. node_of (leaves.number i) new.admissions new.works (leaves.hands i) new.rows in
+    subst (λ (n : Hosted). Steps old (Own (event.JobEnd job)) (with_ends own (hands_ended (is_given_by job.0) old.hands)) n) (sym at_end)
+    (subst (λ (given : RowGiven). Steps old (Own (event.JobEnd job)) (with_ends given (hands_ended (is_given_by job.0) old.hands)) (node_of old.number new.admissions new.works (hands_left (is_given_by job.0) old.hands) new.rows)) (sym gives.is)
+    (end_steps old.number old.admissions new.admissions old.works new.works old.hands hosted.table job old.rows new.rows hosted.jobs is_live leaves.admissions leaves.works leaves.rows leaves.lives
+    gives.row gives.found (keys_backed gives.row (ids_of gives.row.copies)) refl))
 
 -- a live job has a row
 pub has_row : (a : Admissions) (rows : List (JobNo × Row)) (job : JobNo) → AreHosted a rows → true ≡ is_some (live_at a job) → lookup (same_job job) rows ≡ None → true ≡ false

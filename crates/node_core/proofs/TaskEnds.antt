@@ -1,11 +1,10 @@
 -- The end of a task: its job's row takes the step, the hands of the task's objects end with all that hangs on them, and each
 -- taker is told.
-use Rattle.std.proofs.Common.{◌≡◌, ℕ, Bool, true, false, cond, ◌++◌, List, [], map, Option, Some, None, refl, sym, ap, subst, ◌∙◌, arith, eq-eqb}
+use Rattle.std.proofs.Common.{◌≡◌, ℕ, Bool, true, false, cond, ◌++◌, List, [], Option, Some, None, refl, sym, ap, subst, ◌∙◌, eq-eqb}
 use Rattle.std.specs.Prelude.{not, is_none, ◌||◌, ◌==◌}
 use Rattle.std.specs.List.{list_any, list_all}
 use Rattle.std.specs.Map.{lookup}
 use Rattle.std.specs.Option.{option_map_or}
-use Rattle.std.proofs.lemmas.Bool.{eqb-true}
 use Rattle.std.proofs.lemmas.List.{append-nil}
 use Rattle.obj_id.specs.declared.commands.Command.TheVariants as command
 use Rattle.obj_id.specs.declared.commands.Reply.TheVariants as reply
@@ -18,7 +17,6 @@ use Rattle.obj_id.specs.declared.works.DeviceKey.{DeviceKey}
 use Rattle.obj_id.specs.Ids.{same_task}
 use Rattle.private_store.specs.declared.inputs.Input.{Input}
 use Rattle.private_store.specs.declared.inputs.Input.TheVariants as input
-use Rattle.private_store.specs.declared.schedules.Event.{Event}
 use Rattle.private_store.specs.declared.schedules.Event.TheVariants as event
 use Rattle.private_store.specs.declared.schedules.NodeEvent.TheVariants.{Own}
 use Rattle.private_store.specs.Contents.{Contents, View, judge}
@@ -37,7 +35,6 @@ use Rattle.grants.proofs.Reach.{first_stands}
 use Rattle.job_admission.specs.Admissions.{Admissions}
 use Rattle.node_table.specs.Checks.{end_task_check}
 use Rattle.node_table.specs.EndingTasks.{beside_ended, beside_after}
-use Rattle.node_table.specs.Granting.{row_bytes}
 use Rattle.node_table.specs.Notes.{beside_rest}
 use Rattle.node_table.specs.Row.{Row, Beside, given_by, shape_of}
 use Rattle.node_table.specs.Shown.{seen, IsShown, Given as RowGiven, only, TakesStep}

@@ -45,6 +45,19 @@ is_of_row command.Usage = true
 is_of_row command.Leave = true
 is_of_row _ = false
 
+-- those of them that ask for no work
+abbrev pub is_plain : Command (List ℕ) → Bool
+is_plain (command.Create id kind n) = false
+is_plain (command.Get id) = false
+is_plain c = is_of_row c
+
+-- and those that send nothing and erase nothing, whatever the row
+abbrev pub is_answered : Command (List ℕ) → Bool
+is_answered (command.Write id offset bytes) = true
+is_answered (command.Read id offset n) = true
+is_answered command.Usage = true
+is_answered _ = false
+
 -- the job's row and works take the command's step, whatever hands stand and contents it shows
 abbrev pub Obeys : ℕ → ℕ → Row → WorkLine → ℕ → Command (List ℕ) → Given → Row → WorkLine → Type 0
 Obeys node job old line session c told new after =

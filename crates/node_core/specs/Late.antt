@@ -62,6 +62,11 @@ pub record IsUnrefused (row : Row) (job session : ℕ) (c : Command (List ℕ)) 
   pub passed : early_check row session c ≡ None
   pub grows : takes_no_memory (Some row) c ≡ false
 
+-- the same of a command on a row, whatever job it is of
+pub record IsLateOnRow (row : Row) (session : ℕ) (c : Command (List ℕ)) : Type 0 where
+  pub passed : early_check row session c ≡ None
+  pub grows : takes_no_memory (Some row) c ≡ false
+
 -- why a command of the job with this row is refused by the hands that stand
 abbrev pub hands_check : Hosted → Row → ℕ → Command (List ℕ) → Option Refusal
 hands_check node row job (command.Grant id target) = grant_refusal row job id target.0 (grant_check node.hands job id target.0)

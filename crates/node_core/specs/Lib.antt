@@ -4,6 +4,7 @@ pub mod Granting
 pub mod Steps
 pub mod Quotas
 pub mod OneJob
+pub mod JobEnds
 pub mod Outcomes
 pub mod Calls
 pub mod Borrowed

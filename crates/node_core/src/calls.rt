@@ -1,20 +1,21 @@
 //! The commands of a session, carried out on the row of its job.
-ghost use Rattle.std.specs.Prelude.{◌≡◌, ◌≤◌, length, Some, true, false, IfOk, OnOk, OnErr, IsErrOf, IsOk};
+ghost use Rattle.std.specs.Prelude.{◌≡◌, ℕ, ◌≤◌, length, Some, true, false, IfOk, OnOk, OnErr, IsErrOf, IsOk};
 ghost use Rattle.obj_id.specs.declared.ids.JobNo.{JobNo};
 ghost use Rattle.obj_id.specs.declared.refusals.Refusal.{Refusal};
 ghost use Rattle.obj_id.specs.declared.refusals.Refusal.TheVariants.{NoMemory};
 ghost use Rattle.spill_work.specs.Line.{same_job, IsSameFor};
 ghost use Rattle.node_table.specs.Asked.{HasAsked};
 ghost use Rattle.node_table.specs.Outcomes.{given_of};
-ghost use Rattle.node_core.specs.Calls.{is_of_row, is_own as is_own_lem, takes_no_memory, Obeys};
+ghost use Rattle.node_table.specs.Shown.{only};
+ghost use Rattle.node_core.specs.Calls.{is_of_row, is_plain, is_answered, is_own as is_own_lem, takes_no_memory, Obeys};
 ghost use Rattle.node_core.specs.Foreseen.{most_by_command};
-ghost use Rattle.node_core.specs.Late.{IsUnrefused};
+ghost use Rattle.node_core.specs.Late.{IsLateOnRow, IsUnrefused};
 
 use bytes::Bytes;
 use node_table::{JobRow, Outcome};
 use obj_id::{Command, JobNo, Refusal, Reply};
 use spill_work::Works;
-use std::alloc::Global;
+use std::alloc::{AllocError, Global};
 
 /// Carries out a command on the row of the session's job. `NotGranted` for another job's object. The error
 /// is out of memory, and then nothing has changed; Write, Release and Usage take none, and Leave takes some only where a
@@ -43,28 +44,63 @@ pub(crate) fn carry_out(
     if !is_own(job, command) {
         return Ok(Outcome::only(alloc, Reply::Refused(Refusal::NotGranted)));
     }
-    let reply = match command {
-        Command::Create(id, kind, len) => {
-            return row.create(alloc, node, works, id, *kind, *len);
+    match command {
+        Command::Create(id, kind, len) => row.create(alloc, node, works, id, *kind, *len),
+        Command::Get(id) => row.get(alloc, node, works, session, id),
+        _ => carry_out_plain(alloc, node, row, works, session, command),
+    }
+}
+
+/// The same of a command that asks for no work, and whose object, if it names one, is the job's own.
+fn carry_out_plain(
+    alloc: Global,
+    node: u32,
+    row: &mut JobRow,
+    works: &Works,
+    session: u32,
+    command: &Command<Bytes>,
+) -> Result<Outcome, Refusal>
+    requires { is_plain command.now ≡ true }
+    ensures ok { IfOk result (λ o. (job : ℕ) → is_own_lem job command.now ≡ true → Obeys node job row.old works.now session command.now (given_of o) row.new works.now) }
+    ensures few { IfOk result (λ o. length o.messages ≤ most_by_command (Some row.old) command.now) }
+    ensures memory { (r : Refusal) → IsErrOf result r → r ≡ NoMemory }
+    ensures late { OnErr result (IsLateOnRow row.old session command.now) }
+    ensures err { OnErr result (row.new ≡ row.old) }
+{
+    match command {
+        Command::Seal(id) => Ok(row.seal(alloc, node, session, id)?),
+        Command::Release(id) => Ok(row.release(alloc, session, id)),
+        Command::Unpin(id, task) => Ok(row.unpin(alloc, node, session, id, *task)?),
+        Command::Borrow(id, task) => row.borrow(alloc, session, id, *task),
+        Command::GiveUp(id, task) => Ok(row.give_up(alloc, node, session, id, *task)?),
+        Command::Delete(id) => Ok(row.delete(alloc, node, session, id)?),
+        Command::Leave => Ok(row.leave(alloc, session)?),
+        _ => {
+            let reply = answer(alloc, row, works, session, command)?;
+            Ok(Outcome::only(alloc, reply))
         }
-        Command::Seal(id) => return Ok(row.seal(alloc, node, session, id)?),
-        Command::Get(id) => return row.get(alloc, node, works, session, id),
-        Command::Release(id) => return Ok(row.release(alloc, session, id)),
-        Command::Unpin(id, task) => return Ok(row.unpin(alloc, node, session, id, *task)?),
-        Command::Borrow(id, task) => return row.borrow(alloc, session, id, *task),
-        Command::GiveUp(id, task) => return Ok(row.give_up(alloc, node, session, id, *task)?),
-        Command::Delete(id) => return Ok(row.delete(alloc, node, session, id)?),
-        Command::Leave => return Ok(row.leave(alloc, session)?),
-        Command::Write(id, offset, bytes) => row.write(session, id, *offset, bytes),
-        Command::Read(id, offset, len) => row.read(alloc, session, id, *offset, *len)?,
-        Command::Usage => row.tell_usage(works),
-        Command::EndTask(_)
-        | Command::Grant(..)
-        | Command::Withdraw(..)
-        | Command::Peek(..)
-        | Command::List => unreachable!(),
-    };
-    Ok(Outcome::only(alloc, reply))
+    }
+}
+
+/// The answer to a command that sends nothing and erases nothing. Read alone takes memory.
+fn answer(
+    alloc: Global,
+    row: &mut JobRow,
+    works: &Works,
+    session: u32,
+    command: &Command<Bytes>,
+) -> Result<Reply<Bytes>, AllocError>
+    requires { is_answered command.now ≡ true }
+    ensures ok { IfOk result (λ told. (node job : ℕ) → is_own_lem job command.now ≡ true → Obeys node job row.old works.now session command.now (only told) row.new works.now) }
+    ensures late { OnErr result (IsLateOnRow row.old session command.now) }
+    ensures err { OnErr result (row.new ≡ row.old) }
+{
+    match command {
+        Command::Write(id, offset, bytes) => Ok(row.write(session, id, *offset, bytes)),
+        Command::Read(id, offset, len) => row.read(alloc, session, id, *offset, *len),
+        Command::Usage => Ok(row.tell_usage(works)),
+        _ => unreachable!(),
+    }
 }
 
 /// Whether the object that the command names, if it must name an own one, is the job's.

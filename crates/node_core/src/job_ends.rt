@@ -1,18 +1,25 @@
 //! The end of a job, and what it is to those to whom the job granted objects.
-ghost use Rattle.std.specs.Prelude.{◌≡◌, ◌≤◌, None, length, map, IfOk, OnErr, IsErrOf};
+ghost use Rattle.std.specs.Prelude.{◌≡◌, ◌≤◌, None, true, length, map, is_some, IfOk, OnErr, IsErrOf};
 ghost use Rattle.obj_id.specs.declared.refusals.Refusal.{Refusal};
 ghost use Rattle.obj_id.specs.declared.refusals.Refusal.TheVariants.{NoMemory};
 ghost use Rattle.private_store.specs.declared.schedules.Event.TheVariants as event;
 ghost use Rattle.private_store.specs.declared.schedules.NodeEvent.TheVariants as node_event;
+ghost use Rattle.private_store.specs.Hands.{is_given_by};
+ghost use Rattle.grants.specs.Table.{ends_found};
+ghost use Rattle.job_admission.specs.Admissions.{live_at};
+ghost use Rattle.node_table.specs.Outcomes.{given_of as row_given_of};
 ghost use Rattle.node_core.specs.Foreseen.{AreTakers};
+ghost use Rattle.node_core.specs.JobEnds.{IsOwnEnd, LetsJobGo};
 ghost use Rattle.node_core.specs.Judged.{judged_as};
 ghost use Rattle.node_core.specs.Outcomes.{given_of};
 ghost use Rattle.node_core.specs.Steps.{Steps, end_check};
 
 use crate::Node;
 use crate::outcome::Outcome;
+use grants::EndingHands;
 use obj_id::{DirectoryMessage, JobNo, Message, Place, Refusal, Reply};
 use private_store::Judged;
+use std::alloc::AllocError;
 
 impl Node {
     /// The operator ends a job: nothing is left of it here, the directory is told, the device keys of its copies are to be
@@ -28,30 +35,45 @@ impl Node {
         ensures err { OnErr result (self.new ≡ self.old) }
     {
         if !self.admission.is_live(job) {
-            let reply = Reply::Refused(Refusal::NotAdmitted);
-            let outcome = node_table::Outcome::only(self.alloc, reply);
-            return Ok(Outcome::of_row(self.alloc, outcome, None));
+            return Ok(Outcome::refused(self.alloc, Refusal::NotAdmitted, None));
         }
+        let ends = self.hands.ends_with_job(job)?;
+        let notes = Vec::with_capacity(self.alloc, ends.hands().len())?;
+        let outcome = self.own_end(job)?;
+        self.let_job_go(job, &ends);
+        let judged = Some(Judged::End);
+        Ok(Outcome::with_ends(outcome, notes, ends.hands(), judged))
+    }
+
+    /// What the end of a live job gives to the job itself, before anything changes.
+    fn own_end(&self, job: JobNo) -> Result<node_table::Outcome, AllocError>
+        requires { is_some (live_at self.now.admissions job) ≡ true }
+        ensures { IfOk result (λ o. IsOwnEnd self.now job (row_given_of o)) }
+    {
         let Some(row) = self.rows.get(&job) else {
             unreachable!()
         };
         let erase = row.device_keys(self.alloc)?;
         let message = Message::ToDirectory(DirectoryMessage::EndJob(self.number));
         let messages = node_table::Outcome::one_message(self.alloc, Place::Directory, message)?;
-        let ends = self.hands.ends_with_job(job)?;
-        let notes = Vec::with_capacity(self.alloc, ends.hands().len())?;
-        let Ok(()) = self.admission.finish_job(job) else {
-            unreachable!()
-        };
-        self.hands.take_out(&ends);
-        self.works.drop_job(job);
-        self.rows.shift_remove(&job);
-        let outcome = node_table::Outcome {
+        Ok(node_table::Outcome {
             reply: Reply::Ok,
             messages,
             erase,
+        })
+    }
+
+    /// Nothing of a live job is left here, nor of the hands that end with it. Takes no memory.
+    fn let_job_go(&mut self, job: JobNo, ends: &EndingHands)
+        requires live { is_some (live_at self.old.admissions job) ≡ true }
+        requires found { ends.now ≡ ends_found (is_given_by job.0) self.old.hands }
+        ensures { LetsJobGo self.old job self.new }
+    {
+        let Ok(()) = self.admission.finish_job(job) else {
+            unreachable!()
         };
-        let judged = Some(Judged::End);
-        Ok(Outcome::with_ends(outcome, notes, ends.hands(), judged))
+        self.hands.take_out(ends);
+        self.works.drop_job(job);
+        self.rows.shift_remove(&job);
     }
 }

@@ -3,6 +3,7 @@
 
 ghost use Rattle.std.specs.Prelude.{◌≡◌, ◌↔◌, ℕ, ◌+◌, ◌≤◌, true, false, [], length, map, Some, None, IfOk, IfErr, OnOk, OnErr, IsErrOf, IsOk, is_ok, is_some};
 ghost use Rattle.obj_id.specs.declared.ids.JobNo.{JobNo};
+ghost use Rattle.obj_id.specs.declared.commands.Reply.TheVariants as reply;
 ghost use Rattle.obj_id.specs.declared.refusals.Refusal.{Refusal};
 ghost use Rattle.obj_id.specs.declared.refusals.Refusal.TheVariants.{NoMemory, NotAdmitted};
 ghost use Rattle.private_store.specs.declared.schedules.Event.TheVariants as event;
@@ -12,8 +13,9 @@ ghost use Rattle.private_store.specs.Commands.{usage_of};
 ghost use Rattle.private_store.specs.Private.{view_of, no_store};
 ghost use Rattle.job_admission.specs.Admissions.{largest_memory, live_at, admit_check, sessions_entered, enter_check, entered};
 ghost use Rattle.node_table.specs.Outcomes.{given_of as row_given_of};
+ghost use Rattle.node_table.specs.Shown.{only};
 ghost use Rattle.private_store.specs.declared.schedules.NodeEvent.TheVariants as node_event;
-ghost use Rattle.node_core.specs.Calls.{takes_no_memory, is_frugal};
+ghost use Rattle.node_core.specs.Calls.{is_of_row, takes_no_memory, is_frugal};
 ghost use Rattle.node_core.specs.Hosted.{Shows, row_at};
 ghost use Rattle.node_core.specs.Borrowed.{borrowed_check, IsBorrowed};
 ghost use Rattle.node_core.specs.Steps.{Steps};
@@ -248,6 +250,24 @@ impl Node {
         if let Command::Peek(id, offset, len) = command {
             return self.peek(job, session, id, *offset, *len);
         }
+        self.call_row(job, session, command)
+    }
+
+    /// The same of a command that a row carries out.
+    fn call_row(
+        &mut self,
+        job: JobNo,
+        session: u32,
+        command: &Command<Bytes>,
+    ) -> Result<node_table::Outcome, Refusal>
+        requires { is_of_row command.now ≡ true }
+        ensures ok { IfOk result (λ o. StepsOne self.old (event.Call job session command.now) (row_given_of o) self.new) }
+        ensures few { IfOk result (λ o. length o.messages ≤ most_by_command (row_at self.old job) command.now) }
+        ensures late { OnErr result (IsCallUnrefused self.old job session command.now) }
+        ensures memory { (r : Refusal) → IsErrOf result r → r ≡ NoMemory }
+        ensures frugal { takes_no_memory (row_at self.old job) command.now ≡ true → IsOk result }
+        ensures err { OnErr result (self.new ≡ self.old) }
+    {
         let Some(row) = self.rows.get_mut(&job) else {
             let reply = Reply::Refused(Refusal::NotAdmitted);
             return Ok(node_table::Outcome::only(self.alloc, reply));
@@ -263,7 +283,7 @@ impl Node {
         )
     }
 
-    /// The operator admits a job. All growth comes before the first change.
+    /// The operator admits a job.
     fn admit(
         &mut self,
         job: JobNo,
@@ -279,6 +299,17 @@ impl Node {
         if let Some(refusal) = self.admission.admit_check(job, quota) {
             return Ok(node_table::Outcome::only(self.alloc, Reply::Refused(refusal)));
         }
+        self.add_row(job, quota, key)?;
+        Ok(node_table::Outcome::only(self.alloc, Reply::Ok))
+    }
+
+    /// The job is live from now on, with an empty row. All growth comes before the first change.
+    fn add_row(&mut self, job: JobNo, quota: Quota, key: JobKey) -> Result<(), Refusal>
+        requires { admit_check self.old.admissions job quota ≡ None }
+        ensures ok { OnOk result (StepsOne self.old (event.Admit job quota key) (only reply.Ok) self.new) }
+        ensures memory { (r : Refusal) → IsErrOf result r → r ≡ NoMemory }
+        ensures err { OnErr result (self.new ≡ self.old) }
+    {
         let Ok(row) = JobRow::new(self.alloc, job, quota) else {
             return Err(Refusal::NoMemory);
         };
@@ -287,7 +318,7 @@ impl Node {
             return Err(Refusal::NoMemory);
         };
         match self.rows.insert(job, row) {
-            Ok(_) => Ok(node_table::Outcome::only(self.alloc, Reply::Ok)),
+            Ok(_) => Ok(()),
             Err(_) => Err(Refusal::NoMemory),
         }
     }

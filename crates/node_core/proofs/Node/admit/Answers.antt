@@ -1,41 +1,8 @@
-use Rattle.std.proofs.Common.{◌≡◌, List, [], ◌∷◌, ◌++◌, Some, cond, sym, ap, subst, ◌∙◌}
-use Rattle.std.specs.Map.{lookup}
-use Rattle.indexmap.proofs.CallerLemmas.{insert_entry-new}
-use Rattle.obj_id.specs.declared.ids.JobNo.{JobNo}
-use Rattle.private_store.specs.Jobs.{same_job}
+use Rattle.std.proofs.Common.{sym, subst}
 use Rattle.private_store.specs.declared.schedules.Event.TheVariants as event
-use Rattle.node_table.specs.Row.{Row, new_row}
-use Rattle.node_core.specs.Hosted.{Hosted}
 use Rattle.node_core.specs.OneJob.{StepsOne}
-use Rattle.node_core.proofs.Admitting.{absent, admitted_hosted, admit_steps}
 use Rattle.node_core.proofs.Node.admit.Goals as goal
 
-pub invariant_of-self-in-Ok-insert : goal.invariant_of-self-in-Ok-insert
-invariant_of-self-in-Ok-insert c =
-    let rows = c.self.inside.rows.entries in
-    let new = c.insert.new.self.entries in
-    let same : c.reserve.new.self.entries ≡ rows = c.reserve.ensures.entries in
-    let passed = sym c.admit_check.ensures ∙ c.in_default.is in
-    let none = absent c.self.inside.number c.self.inside.admission c.admit.new.self c.self.inside.works c.self.inside.hands c.args.job c.args.quota c.args.key rows new c.self.invariant.jobs passed c.in-Ok-admit.ensures.ok in
-    record {
-      jobs = admitted_hosted c.self.inside.number c.self.inside.admission c.admit.new.self c.self.inside.works c.self.inside.hands c.args.job c.args.quota c.args.key rows new c.self.invariant.jobs passed c.in-Ok-admit.ensures.ok
-          (c.in-Ok-insert.ensures.entries ∙ insert_entry-new same_job c.reserve.new.self c.args.job c.in-Ok.row (ap (lookup (same_job c.args.job)) same ∙ none)
-          ∙ ap (λ (es : List (JobNo × Row)). es ++ (c.args.job, c.in-Ok.row) ∷ []) same ∙ ap (λ (r : Row). rows ++ (c.args.job, r) ∷ []) c.in-Ok.ensures.ok);
-      table = c.self.invariant.table;
-    }
-
-pub returns-in-Ok-insert-clause-ok : goal.returns-in-Ok-insert-clause-ok
-returns-in-Ok-insert-clause-ok c =
-    let rows = c.self.inside.rows.entries in
-    let new = c.insert.new.self.entries in
-    let same : c.reserve.new.self.entries ≡ rows = c.reserve.ensures.entries in
-    let passed = sym c.admit_check.ensures ∙ c.in_default.is in
-    let e = event.Admit c.args.job c.args.quota c.args.key in
-    let after : Hosted = record { number = c.self.inside.number; admissions = c.admit.new.self; works = c.self.inside.works; hands = c.self.inside.hands; rows = new } in
-    subst (λ given. StepsOne c.args.self.now e given after) (sym c.only-in-Ok-insert.ensures)
-    (subst (λ old. StepsOne old e _ after) c.self.view_is
-    (admit_steps c.self.inside.number c.self.inside.admission c.admit.new.self c.self.inside.works c.self.inside.hands c.args.job c.args.quota c.args.key rows new c.self.invariant.jobs passed c.in-Ok-admit.ensures.ok
-    (λ q. c.in-Ok-insert.ensures.updates.0 q
-    ∙ ap (λ (r : Row). cond (same_job c.args.job q) (Some r) (lookup (same_job q) c.reserve.new.self.entries)) c.in-Ok.ensures.ok
-    ∙ ap (λ (es : List (JobNo × Row)). cond (same_job c.args.job q) (Some (new_row c.args.job.0 c.args.quota)) (lookup (same_job q) es)) same)
-    c.in-Ok-admit.ensures.lives))
+pub returns-clause-ok : goal.returns-clause-ok
+returns-clause-ok c =
+    subst (λ given. StepsOne c.args.self.now (event.Admit c.args.job c.args.quota c.args.key) given c.add_row.new.self) (sym c.only-2.ensures) c.in_ok-add_row.ensures.ok

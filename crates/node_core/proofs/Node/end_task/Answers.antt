@@ -1,6 +1,6 @@
 use Rattle.std.proofs.Common.{◌≡◌, ◌≤◌, ℕ, List, None, is_some, length, map, sym, ap, subst, ◌∙◌}
 use Rattle.std.specs.Prelude.{◌*◌}
-use Rattle.std.specs.Map.{keys_of as map_keys, lookup, set_value}
+use Rattle.std.specs.Map.{keys_of as map_keys, set_value}
 use Rattle.std.specs.Option.{option_map_or, option_copied_mut}
 use Rattle.std.proofs.lemmas.Map.{keys-set_value}
 use Rattle.std.proofs.lemmas.Map.Steps.{set_value_same}
@@ -17,7 +17,6 @@ use Rattle.grants.proofs.Left.{left_are_hands}
 use Rattle.node_table.specs.Checks.{end_task_check}
 use Rattle.node_table.specs.EndingTasks.{beside_after}
 use Rattle.node_table.specs.Erased.{keys_of}
-use Rattle.node_table.specs.Row.{Row}
 use Rattle.node_table.specs.Shown.{only, TakesStep}
 use Rattle.node_core.specs.declared.outcome.Note.{Note}
 use Rattle.node_core.specs.Foreseen.{most_by_command, takers_told, AreTakers}

@@ -10,13 +10,13 @@ use Rattle.node_core.specs.Hosted.{row_at, bytes_here}
 use Rattle.node_core.specs.OneJob.{StepsOne}
 use Rattle.node_core.proofs.Calling.{if_ok_on, both_err}
 use Rattle.node_core.proofs.Views.{node_of, call_steps, refused_steps}
-use Rattle.node_core.proofs.Node.call.Goals as goal
+use Rattle.node_core.proofs.Node.call_row.Goals as goal
 
-pub returns-in_default-get_mut-clause-ok : goal.returns-in_default-get_mut-clause-ok
-returns-in_default-get_mut-clause-ok c =
+pub returns-in_default-clause-ok : goal.returns-in_default-clause-ok
+returns-in_default-clause-ok c =
     let rows = c.get_mut.follows.lender-at-none.entries in
     let same = ap (λ r. r.entries) c.get_mut.follows.holds-at-none in
-    let none = ap (lookup (same_job c.args.job)) same ∙ sym c.get_mut.ensures.value ∙ ap option_copied_mut c.in_default-get_mut.is in
+    let none = ap (lookup (same_job c.args.job)) same ∙ sym c.get_mut.ensures.value ∙ ap option_copied_mut c.in_default.is in
     let all = node_of c.self.inside.number c.self.inside.admission c.self.inside.works c.self.inside.hands in
     subst (λ given. StepsOne c.args.self.now (event.Call c.args.job c.args.session c.args.command.now) given (all rows)) (sym c.only.ensures)
     (subst (λ old. StepsOne old (event.Call c.args.job c.args.session c.args.command.now) _ (all rows)) (ap all same ∙ c.self.view_is)
