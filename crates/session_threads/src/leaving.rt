@@ -17,9 +17,14 @@ impl<L: Ledger> SharedNode<L> {
     {
         let (_, receipt) = self.call(rt, job, session, Command::Leave);
         if receipt.is_none() {
-            self.upkeep.sessions.mark(rt, job, session);
+            self.leave_later(rt, job, session);
         }
         receipt
+    }
+
+    /// Marks a session: it is left by a later step.
+    pub(crate) fn leave_later<R: Wait>(&self, rt: &R, job: JobNo, session: u32) {
+        self.upkeep.sessions.mark(rt, job, session);
     }
 
     /// Leaves the sessions that are marked, in order, until one finds no memory.

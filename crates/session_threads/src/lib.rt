@@ -5,6 +5,7 @@
 mod cluster;
 mod device_calls;
 mod frames;
+mod gathered;
 mod leaving;
 mod listening;
 mod open_sessions;

@@ -1,8 +1,9 @@
 //! The ways out of a node: what a step sends is handed over once the node's lock is left.
 use crate::SharedNode;
+use crate::gathered::Gathered;
 use crate::stepping::Stepped;
 use fetch_link::{LinkReceiver, LinkSender, Sent, open};
-use node_journal::{Mail, Posted, Receipt};
+use node_journal::{Mail, Posted};
 use obj_id::{Message, PeerMessage, Place};
 use owner_directory::Directory;
 use std::alloc::{AllocError, Global};
@@ -115,19 +116,34 @@ impl<L: Ledger> SharedNode<L> {
         match self.ways.hand_over(rt, posted) {
             Handed::Over => true,
             Handed::Lost => false,
-            Handed::Answered(located) => self.arrive(rt, located).is_some(),
+            Handed::Answered(located) => self.arrive_located(rt, located),
         }
     }
 
-    /// A message of a link arrives, and what its step sends is handed over: the receipt, if it isn't lost.
-    fn receive_one<R: Wait>(&self, rt: &R, posted: Posted<L>) -> Option<Receipt<L>> {
-        let Some(stepped) = self.arrive(rt, posted) else {
-            self.upkeep.tallies.lost(rt, 1);
+    /// A message of a link arrives, and what its step sends is handed over, or it is lost.
+    fn receive_one<R: Wait>(&self, rt: &R, posted: Posted<L>, gathered: &mut Gathered<L>) {
+        match self.arrive_gathering(rt, posted, gathered) {
+            None => self.upkeep.tallies.lost(rt, 1),
+            Some(mail) => {
+                self.post(rt, mail);
+            }
+        }
+    }
+
+    /// A message of a link arrives, and its receipt is gathered: what its step sends. None if it is lost, as it is without room for
+    /// its receipt.
+    fn arrive_gathering<R: Wait>(
+        &self,
+        rt: &R,
+        posted: Posted<L>,
+        gathered: &mut Gathered<L>,
+    ) -> Option<Mail<L>> {
+        if gathered.make_room(rt, self).is_err() {
             return None;
-        };
-        let Stepped { receipt, mail, .. } = stepped;
-        self.post(rt, mail);
-        Some(receipt)
+        }
+        let Stepped { receipt, mail, .. } = self.arrive(rt, posted)?;
+        gathered.add(receipt);
+        Some(mail)
     }
 }
 
@@ -145,19 +161,14 @@ pub(crate) fn receive<L: Ledger + Send + Sync + 'static, R: Threads + Wait + Cop
 /// Hands the messages of a link to its node, until it is closed.
 fn receive_all<L: Ledger, R: Wait>(rt: &R, node: &SharedNode<L>, way: WayIn<L>) {
     let WayIn { node: _, mut link } = way;
-    let mut last = None;
+    let mut gathered = Gathered::new(node.upkeep.alloc);
     for _ in rt.forever() {
         let Some(posted) = link.receive_next(rt) else {
             break;
         };
-        let receipt = node.receive_one(rt, posted);
-        if receipt.is_some() {
-            last = receipt;
-        }
+        node.receive_one(rt, posted, &mut gathered);
     }
-    if let Some(receipt) = &last {
-        node.check(rt, receipt);
-    }
+    gathered.look_for_all(rt, node);
 }
 
 /// Whether the message asks another node for chunks.

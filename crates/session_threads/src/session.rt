@@ -2,8 +2,8 @@
 
 use crate::SharedNode;
 use crate::frames::framed;
+use crate::gathered::Gathered;
 use bytes::Bytes;
-use node_journal::Receipt;
 use obj_id::{Command, JobKey, JobNo, Refusal, Reply};
 use private_store::Awaited;
 use session_engine::Gate;
@@ -11,12 +11,12 @@ use std::sync::Wait;
 use std::sync::ledger::Ledger;
 use std::time::Clock;
 
-/// A session at a node, with the receipt of its last step.
+/// A session at a node, with the receipts of its steps that weren't looked for yet.
 #[derive(Drop)]
 pub struct Session<'a, L: Ledger, R: Wait + Clock> {
     rt: &'a R,
     node: &'a SharedNode<L>,
-    last: Option<Receipt<L>>,
+    gathered: Gathered<L>,
 }
 
 impl<'a, L: Ledger, R: Wait + Clock> Session<'a, L, R> {
@@ -25,15 +25,13 @@ impl<'a, L: Ledger, R: Wait + Clock> Session<'a, L, R> {
         Session {
             rt,
             node,
-            last: None,
+            gathered: Gathered::new(node.upkeep.alloc),
         }
     }
 
-    /// Looks for the entry of the last receipt in the node's journal, and counts it if it isn't there.
+    /// Looks for the entries of the receipts that are left, and counts those that aren't there: at the end of the session.
     pub(crate) fn check(&self) {
-        if let Some(receipt) = &self.last {
-            self.node.check(self.rt, receipt);
-        }
+        self.gathered.look_for_all(self.rt, self.node);
     }
 }
 
@@ -43,32 +41,42 @@ impl<'a, L: Ledger, R: Wait + Clock> Gate for Session<'a, L, R> {
     ghost use Rattle.std.specs.Prelude.{option_map};
     ghost use Rattle.session_threads.specs.Witnesses.{IsWitnessed};
 
-    ghost gives = { λ before asked told after. IsWitnessed asked told (option_map (λ r. record { job = r.job; entry = r.entry }) before.last)
-        (option_map (λ r. record { job = r.job; entry = r.entry }) after.last) };
+    ghost gives = { λ before asked told after. IsWitnessed asked told (option_map (λ r. record { job = r.job; entry = r.entry }) before.gathered.last)
+        (option_map (λ r. record { job = r.job; entry = r.entry }) after.gathered.last) };
 
     fn enter(&mut self, job: JobNo, key: JobKey) -> Result<u32, Refusal> {
         self.node.enter(self.rt, job, &key)
     }
 
     fn call(&mut self, job: JobNo, session: u32, command: Command<Bytes>) -> Reply<Bytes> {
+        if self.gathered.make_room(self.rt, self.node).is_err() {
+            return framed(Reply::Refused(Refusal::NoMemory));
+        }
         let (reply, receipt) = self.node.call(self.rt, job, session, command);
         if let Some(receipt) = receipt {
-            self.last = Some(receipt);
+            self.gathered.add(receipt);
         }
         framed(reply)
     }
 
     fn call_wait(&mut self, job: JobNo, session: u32, awaited: Awaited) -> Reply<Bytes> {
+        if self.gathered.make_room(self.rt, self.node).is_err() {
+            return framed(Reply::Refused(Refusal::NoMemory));
+        }
         let (reply, receipt) = self.node.call_wait(self.rt, job, session, awaited);
         if let Some(receipt) = receipt {
-            self.last = Some(receipt);
+            self.gathered.add(receipt);
         }
         framed(reply)
     }
 
     fn leave(&mut self, job: JobNo, session: u32) {
+        if self.gathered.make_room(self.rt, self.node).is_err() {
+            self.node.leave_later(self.rt, job, session);
+            return;
+        }
         if let Some(receipt) = self.node.leave(self.rt, job, session) {
-            self.last = Some(receipt);
+            self.gathered.add(receipt);
         }
     }
 }

@@ -9,15 +9,20 @@ ghost use Rattle.node_journal.specs.Replies.{kept_reply};
 ghost use Rattle.session_engine.specs.Calls.{IsEntryRefusal};
 ghost use Rattle.session_threads.specs.Witnesses.{IsCalled, tried};
 
+use crate::gathered::{Gathered, look_for};
 use crate::posting::Ways;
-use crate::stepping::{Stepped, step_arrival, step_call, step_call_after, step_event, step_take};
+use crate::stepping::{
+    Stepped, step_arrival, step_call, step_call_after, step_end, step_event, step_located,
+    step_take,
+};
 use crate::upkeep::Upkeep;
 use crate::waiting::{Moved, Waiting};
 use bytes::Bytes;
-use node_journal::{Agreement, Kept, Posted, Receipt};
+use node_journal::{Kept, Posted, Receipt};
 use obj_id::{Command, JobKey, JobNo, Quota, Refusal, Reply};
 use private_store::{Awaited, Event};
 use std::alloc::Global;
+use std::slice;
 use std::sync::ledger::{Ledger, Share};
 use std::sync::{Arc, Mutex, Wait};
 use std::time::Clock;
@@ -103,7 +108,7 @@ impl<L: Ledger> SharedNode<L> {
 
     /// The same as `call`, tried again while the answer is Pending and the node isn't shut, each time that something may have
     /// moved for the job, or chunks that were asked for don't come for two seconds. Each try is an entry; the answer and the
-    /// receipt are those of the last.
+    /// receipt are those of the last, and the entries of the others are looked for at once.
     pub fn call_wait<R: Wait + Clock>(
         &self,
         rt: &R,
@@ -147,6 +152,7 @@ impl<L: Ledger> SharedNode<L> {
                 let is_pending = matches!(&reply, Reply::Refused(Refusal::Pending));
                 let is_over = !is_pending || self.upkeep.waiting.is_shut();
                 if !is_over {
+                    self.check(rt, &receipt);
                     self.upkeep.waiting.await_next(rt, job, seen, is_pulling);
                 }
                 (reply, Some(receipt), is_over)
@@ -199,11 +205,18 @@ impl<L: Ledger> SharedNode<L> {
         self.operate(rt, &Event::Requota(job, quota))
     }
 
-    /// The operator ends a job, with the receipt of the entry. There is none exactly if the reply is `NoMemory`.
+    /// The operator ends a job, with the receipt of the entry. There is none exactly if the reply is `NoMemory`. If the end isn't
+    /// refused, the job's journal is folded at once, unless there is no memory for that.
     pub fn end_job<R: Wait>(&self, rt: &R, job: JobNo) -> (Reply<Bytes>, Option<Receipt<L>>)
         ensures { MatchOption result.1 (result.0 ≡ reply.Refused NoMemory) (λ r. (r.job ≡ job) × (r.entry.reply ≡ kept_reply result.0)) }
     {
-        self.operate(rt, &Event::JobEnd(job))
+        let mut kept = self.kept.lock(rt);
+        let stepped = step_end(rt, &mut *kept, &self.upkeep, job);
+        drop(kept);
+        match stepped {
+            Ok(stepped) => self.hand_out(rt, stepped),
+            Err(refusal) => (Reply::Refused(refusal), None),
+        }
     }
 
     /// An event of the operator's or of a worker, with the receipt of its entry.
@@ -223,8 +236,41 @@ impl<L: Ledger> SharedNode<L> {
         }
     }
 
+    /// An event of a worker, whose receipt is gathered.
+    pub(crate) fn operate_gathering<R: Wait>(
+        &self,
+        rt: &R,
+        event: &Event,
+        gathered: &mut Gathered<L>,
+    ) -> Reply<Bytes> {
+        if gathered.make_room(rt, self).is_err() {
+            return Reply::Refused(Refusal::NoMemory);
+        }
+        let (reply, receipt) = self.operate(rt, event);
+        if let Some(receipt) = receipt {
+            gathered.add(receipt);
+        }
+        reply
+    }
+
+    /// A worker takes a work, if one waits that nobody has taken. The receipt is gathered.
+    pub(crate) fn take_gathering<R: Wait>(
+        &self,
+        rt: &R,
+        gathered: &mut Gathered<L>,
+    ) -> Reply<Bytes> {
+        if gathered.make_room(rt, self).is_err() {
+            return Reply::Refused(Refusal::NoMemory);
+        }
+        let (reply, receipt) = self.take(rt);
+        if let Some(receipt) = receipt {
+            gathered.add(receipt);
+        }
+        reply
+    }
+
     /// A worker takes a work, if one waits that nobody has taken.
-    pub(crate) fn take<R: Wait>(&self, rt: &R) -> (Reply<Bytes>, Option<Receipt<L>>) {
+    fn take<R: Wait>(&self, rt: &R) -> (Reply<Bytes>, Option<Receipt<L>>) {
         let mut kept = self.kept.lock(rt);
         let stepped = step_take(rt, &mut *kept, &self.upkeep);
         drop(kept);
@@ -248,6 +294,11 @@ impl<L: Ledger> SharedNode<L> {
         step_arrival(rt, &mut *self.kept.lock(rt), &self.upkeep, posted)
     }
 
+    /// What the directory answered to a message of the node arrives: whether it isn't lost.
+    pub(crate) fn arrive_located<R: Wait>(&self, rt: &R, located: Posted<L>) -> bool {
+        step_located(rt, &mut *self.kept.lock(rt), &self.upkeep, located)
+    }
+
     /// Hands over what a step has sent, and gives its answer and its receipt.
     fn hand_out<R: Wait>(&self, rt: &R, stepped: Stepped<L>) -> (Reply<Bytes>, Option<Receipt<L>>)
         ensures { (result.0 ≡ stepped.reply) × (result.1 ≡ Some stepped.receipt) }
@@ -264,10 +315,8 @@ impl<L: Ledger> SharedNode<L> {
     /// Looks for the entry of a receipt that was given by this node, and counts it if the journal says that it isn't there. One
     /// that was folded isn't counted.
     pub fn check<R: Wait>(&self, rt: &R, receipt: &Receipt<L>) {
-        let agreement = self.kept.lock(rt).agrees(receipt);
-        if agreement == Agreement::No {
-            self.upkeep.tallies.disagreeing(rt);
-        }
+        let receipts = slice::from_ref(receipt);
+        look_for(rt, &*self.kept.lock(rt), &self.upkeep.tallies, receipts);
     }
 
     /// How many entries the journal has.

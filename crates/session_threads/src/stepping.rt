@@ -1,17 +1,21 @@
 //! The steps of a node that is locked, with what follows at once.
-ghost use Rattle.std.specs.Prelude.{◌≡◌, ◌⊎◌, ◌<◌, true, false, IfOk, IfErr};
+ghost use Rattle.std.specs.Prelude.{◌≡◌, ◌⊎◌, ℕ, ◌==◌, ◌<◌, true, false, IfOk, IfErr};
 ghost use Rattle.obj_id.specs.declared.refusals.Refusal.TheVariants.{NoMemory, Stale};
 ghost use Rattle.private_store.specs.Answers.{wants_memory, is_small_reply};
 ghost use Rattle.node_core.specs.Steps.{job_of_event};
+ghost use Rattle.node_journal.specs.Journals.{folded_if};
+ghost use Rattle.node_journal.specs.Logs.{journal_of};
 ghost use Rattle.node_journal.specs.Replies.{kept_reply};
 ghost use Rattle.session_threads.specs.Witnesses.{IsCalled};
 
+use crate::gathered::look_for;
 use crate::upkeep::Upkeep;
 use crate::waiting::stirred_by;
 use bytes::Bytes;
-use node_journal::{Agreement, Kept, Made, Mail, Parts, Posted, Receipt};
+use node_journal::{Kept, Made, Mail, Parts, Posted, Receipt};
 use obj_id::{Command, JobNo, Refusal, Reply};
 use private_store::Event;
+use std::slice;
 use std::sync::Wait;
 use std::sync::ledger::Ledger;
 
@@ -82,6 +86,34 @@ pub(crate) fn step_event<L: Ledger, R: Wait>(
     }
 }
 
+/// The end of a job. If it isn't refused, the job's journal is folded at once. The error is out of memory.
+pub(crate) fn step_end<L: Ledger, R: Wait>(
+    rt: &R,
+    kept: &mut Kept<L>,
+    upkeep: &Upkeep,
+    job: JobNo,
+) -> Result<Stepped<L>, Refusal>
+    ensures stepped { IfOk result (λ s. (s.receipt.job ≡ job) × (s.receipt.entry.reply ≡ kept_reply s.reply)) }
+    ensures memory { IfErr result (λ r. r ≡ NoMemory) }
+{
+    let stepped = step_event(rt, kept, upkeep, &Event::JobEnd(job))?;
+    // before the fold, after which the journal says no more of it
+    look_for(rt, kept, &upkeep.tallies, slice::from_ref(&stepped.receipt));
+    fold_ended(kept, job, &stepped.reply);
+    Ok(stepped)
+}
+
+/// Folds the journal of a job whose end was answered so, unless it was refused. If there is no memory for the fold nothing changes,
+/// and a later one makes up for it.
+fn fold_ended<L: Ledger>(kept: &mut Kept<L>, job: JobNo, reply: &Reply<Bytes>)
+    ensures same { (kept.new.node ≡ kept.old.node) × (kept.new.count ≡ kept.old.count) × (kept.new.number ≡ kept.old.number) }
+    ensures journals { (other : ℕ) → (journal_of kept.new.logs other ≡ folded_if (job.0 == other) (journal_of kept.old.logs other)) ⊎ (journal_of kept.new.logs other ≡ journal_of kept.old.logs other) }
+{
+    if !matches!(reply, Reply::Refused(_)) {
+        let _ = kept.checkpoint(job);
+    }
+}
+
 /// A Take, if a work waits that nobody has taken. The error is out of memory.
 pub(crate) fn step_take<L: Ledger, R: Wait>(
     rt: &R,
@@ -108,9 +140,7 @@ pub(crate) fn step_mark<L: Ledger, R: Wait>(
         Ok(stepped) => {
             upkeep.sessions.unmark(rt);
             let Stepped { receipt, mail, .. } = stepped;
-            if kept.agrees(&receipt) == Agreement::No {
-                upkeep.tallies.disagreeing(rt);
-            }
+            look_for(rt, kept, &upkeep.tallies, slice::from_ref(&receipt));
             Some(mail)
         }
     }
@@ -127,6 +157,22 @@ pub(crate) fn step_arrival<L: Ledger, R: Wait>(
     match kept.arrive(posted) {
         Ok(made) => Some(settled(rt, kept, upkeep, made)),
         Err(_) => None,
+    }
+}
+
+/// What the directory answered arrives, and its entry is looked for: whether it isn't lost.
+pub(crate) fn step_located<L: Ledger, R: Wait>(
+    rt: &R,
+    kept: &mut Kept<L>,
+    upkeep: &Upkeep,
+    located: Posted<L>,
+) -> bool {
+    match step_arrival(rt, kept, upkeep, located) {
+        None => false,
+        Some(stepped) => {
+            look_for(rt, kept, &upkeep.tallies, slice::from_ref(&stepped.receipt));
+            true
+        }
     }
 }
 

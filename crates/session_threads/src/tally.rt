@@ -44,10 +44,12 @@ impl Tallies {
         tally.receipts = tally.receipts.saturating_add(1);
     }
 
-    /// A journal doesn't have the entry of a receipt.
-    pub(crate) fn disagreeing<R: Wait>(&self, rt: &R) {
-        let mut tally = self.tally.lock(rt);
-        tally.disagreeing = tally.disagreeing.saturating_add(1);
+    /// A journal doesn't have the entries of so many receipts.
+    pub(crate) fn disagreeing<R: Wait>(&self, rt: &R, missing: u64) {
+        if missing > 0 {
+            let mut tally = self.tally.lock(rt);
+            tally.disagreeing = tally.disagreeing.saturating_add(missing);
+        }
     }
 
     /// So many messages were lost.

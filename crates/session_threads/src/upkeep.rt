@@ -20,6 +20,8 @@ use std::sync::{Arc, Wait};
 // Each has a lock of its own, under which no other is taken.
 #[derive(Drop)]
 pub(crate) struct Upkeep {
+    // of what its actors gather
+    pub alloc: Global,
     pub tallies: Tallies,
     pub sessions: OpenSessions,
     pub keys: WaitingKeys,
@@ -32,6 +34,7 @@ impl Upkeep {
     /// Of a node that has made no step.
     pub(crate) fn new(alloc: Global, waiting: Arc<Waiting>) -> Upkeep {
         Upkeep {
+            alloc,
             tallies: Tallies::new(),
             sessions: OpenSessions::new(alloc),
             keys: WaitingKeys::new(alloc),

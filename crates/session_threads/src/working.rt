@@ -1,11 +1,10 @@
 //! Workers, which carry out the device works of a node.
 use crate::SharedNode;
 use crate::device_calls::{Finishing, call_device};
+use crate::gathered::Gathered;
 use crate::work_place::Place;
 use crate::worker_bell::WorkerBell;
-use node_journal::Receipt;
 use obj_id::{Refusal, Reply};
-use private_store::Event;
 use spill_device::SpillDevice;
 use std::sync::ledger::Ledger;
 use std::sync::{Arc, Wait};
@@ -66,21 +65,16 @@ fn work_all<L: Ledger, R: Wait + Clock, D: SpillDevice + Drop>(
     device: D,
 ) {
     let mut device = device;
-    let mut last = None;
+    let mut gathered = Gathered::new(node.upkeep.alloc);
     for _ in rt.forever() {
         if !node.upkeep.bell.await_round(rt) {
             break;
         }
-        let (done, receipt) = node.round(rt, &mut device);
-        if receipt.is_some() {
-            last = receipt;
-        }
+        let done = node.round(rt, &mut device, &mut gathered);
         go_on(rt, &node.upkeep.bell, done);
     }
     node.upkeep.erase_keys(rt, &mut device);
-    if let Some(receipt) = &last {
-        node.check(rt, receipt);
-    }
+    gathered.look_for_all(rt, node);
 }
 
 /// Asks for another round after one that came to something: more may wait. One that found no memory rests first.
@@ -98,22 +92,25 @@ impl<L: Ledger> SharedNode<L> {
     /// called for it, and its answer handed in. An answer that found no memory when it was handed in is the work of the next round,
     /// without a second call.
     pub fn work_once<R: Wait, D: SpillDevice>(&self, rt: &R, device: &mut D) -> WorkDone {
-        let (done, _) = self.round(rt, device);
+        let mut gathered = Gathered::new(self.upkeep.alloc);
+        let done = self.round(rt, device, &mut gathered);
+        gathered.look_for_all(rt, self);
         done
     }
 
-    /// The same, with the receipt of its last step.
+    /// The same; the receipts of its steps are gathered.
     fn round<R: Wait, D: SpillDevice>(
         &self,
         rt: &R,
         device: &mut D,
-    ) -> (WorkDone, Option<Receipt<L>>) {
+        gathered: &mut Gathered<L>,
+    ) -> WorkDone {
         self.leave_marked(rt);
         self.upkeep.erase_keys(rt, device);
         match self.upkeep.place.take(rt) {
-            Place::Taken => (WorkDone::Nothing, None),
-            Place::Holds(finishing) => self.hand_in(rt, device, finishing),
-            Place::Free => self.take_one(rt, device),
+            Place::Taken => WorkDone::Nothing,
+            Place::Holds(finishing) => self.hand_in(rt, device, finishing, gathered),
+            Place::Free => self.take_one(rt, device, gathered),
         }
     }
 
@@ -122,14 +119,14 @@ impl<L: Ledger> SharedNode<L> {
         &self,
         rt: &R,
         device: &mut D,
-    ) -> (WorkDone, Option<Receipt<L>>) {
-        let (reply, receipt) = self.take(rt);
-        match reply {
+        gathered: &mut Gathered<L>,
+    ) -> WorkDone {
+        match self.take_gathering(rt, gathered) {
             Reply::Work(work) => {
                 let finishing = call_device(device, &work);
-                self.hand_in(rt, device, finishing)
+                self.hand_in(rt, device, finishing, gathered)
             }
-            other => (self.upkeep.end_take(rt, &other), receipt),
+            other => self.upkeep.end_take(rt, &other),
         }
     }
 
@@ -139,14 +136,15 @@ impl<L: Ledger> SharedNode<L> {
         rt: &R,
         device: &mut D,
         finishing: Finishing,
-    ) -> (WorkDone, Option<Receipt<L>>) {
-        let (reply, receipt) = self.operate(rt, &finishing.event);
+        gathered: &mut Gathered<L>,
+    ) -> WorkDone {
+        let reply = self.operate_gathering(rt, &finishing.event, gathered);
         let done = match reply {
             Reply::Refused(Refusal::NoMemory) => WorkDone::NoMemory,
             Reply::Refused(_) => WorkDone::Stale,
             _ => WorkDone::Done,
         };
         self.upkeep.end_round(rt, device, finishing, done);
-        (done, receipt)
+        done
     }
 }
