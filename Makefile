@@ -58,14 +58,15 @@ try-built:
 pipeline: build
 	examples/pipeline.py
 
-# A built program and a plain model of it, on schedules drawn by lot (see bench/model --help).
+# A built program and a plain model of it, on schedules drawn by lot and forged journals (see bench/model --help).
 model: build
 	bench/model
 
-# Measures a built program, and one that serves (see bench/growth --help, bench/serve --help).
+# Measures a built program, one that serves, and a journaled node (see bench/growth --help, bench/serve --help, bench/journal --help).
 bench: build
 	bench/growth
 	bench/serve
+	bench/journal
 
 # Draws the example's picture from the journal that the plain model keeps of it.
 picture:

@@ -6,17 +6,20 @@ when the journal was written decide where contents would.
 
 from __future__ import annotations
 
-from typing import Callable, Dict, List, NamedTuple, Tuple
+from typing import Callable, Dict, Iterator, List, NamedTuple, Tuple
 
+from .answers import in_version, read_answer
 from .fetching import choose_source, give_up, serve, take_chunk
 from .ids import NotAStep, ObjectId, read_id, read_long, read_number
-from .journal import HEAD, without_contents
+from .journal import without_contents
 from .messages import Chunk, Entry as Location, Located, NotHere, Pull
 from .schedule import COMMANDS
 from .store import Hand, PrivateStore
 from .words import CHUNK, LONGEST_CALL, LONGEST_OBJECT, Refusal, Refused, digest_of, is_quota, refuse_if
 
 MOST_NODES = 8
+# a journal's first line, and the version that it says
+HEADS = {f"journal {version}": version for version in (1, 2, 3)}
 
 
 class NotAnEntry(Exception):
@@ -29,6 +32,7 @@ class NotAnEntry(Exception):
 class Entry(NamedTuple):
     """A line after the first: the job and node that it is of, its input as a call of a store, and the answer that it has."""
 
+    version: int
     line: int
     node: int
     job: int
@@ -41,7 +45,8 @@ class Entry(NamedTuple):
 class Lines:
     """Reads lines, each of which has to have the next number of its job at its node."""
 
-    def __init__(self) -> None:
+    def __init__(self, version: int) -> None:
+        self.version = version
         self.counts: Dict[Tuple[int, int], int] = {}
 
     def read(self, line: int, text: str) -> Entry:
@@ -53,15 +58,17 @@ class Lines:
         if node >= MOST_NODES or job == 0 or number != self.counts.get((node, job), 0) + 1:
             raise NotAStep
         self.counts[node, job] = number
-        return Entry(line, node, job, number, *read_input(job, fields[3], fields[4:]), answer)
+        word, values = read_input(self.version, job, fields[3], fields[4:])
+        read_answer(answer, job, self.version, word == "command")
+        return Entry(self.version, line, node, job, number, word, values, answer)
 
 
 def read_journal(text: str) -> List[Entry]:
     """The entries of a journal, or `NotAnEntry` of its first line that isn't one."""
     *lines, rest = text.split("\n")
-    if lines[:1] != [HEAD]:
+    if not lines or lines[0] not in HEADS:
         raise NotAnEntry(1)
-    reader, entries = Lines(), []
+    reader, entries = Lines(HEADS[lines[0]]), []
     for line, said in enumerate(lines[1:], 2):
         try:
             entries.append(reader.read(line, said))
@@ -78,13 +85,16 @@ def read_marked(mark: str, text: str) -> int:
     return read_number(text[len(mark) :])
 
 
-def read_input(job: int, word: str, fields: List[str]) -> Tuple[str, Tuple]:
+def read_input(version: int, job: int, word: str, fields: List[str]) -> Tuple[str, Tuple]:
     if word.startswith("s"):
-        return "command", (read_marked("s", word), *read_command(job, fields))
+        return "command", (read_marked("s", word), *read_command(version, job, fields))
     if word == "located":
         return word, (*read_fields(job, (read_id, read_long), fields[:2]), tuple(map(read_location, fields[2:])))
-    if word not in INPUTS:
+    if word not in INPUTS or (word == "quota" and version < 3):
         raise NotAStep
+    if word in HANDS and version == 1:
+        one, *numbers = read_fields(job, INPUTS[word][:-2], fields)
+        return word, (one, *numbers, one.job, 1)
     return word, read_fields(job, INPUTS[word], fields)
 
 
@@ -94,12 +104,16 @@ def read_fields(job: int, readers: Tuple[Callable, ...], fields: List[str]) -> T
     return tuple(read(text, job) if read is read_id else read(text) for read, text in zip(readers, fields))
 
 
-def read_command(job: int, fields: List[str]) -> Tuple[str, Tuple]:
+def read_command(version: int, job: int, fields: List[str]) -> Tuple[str, Tuple]:
     word, texts = fields[0] if fields else "", fields[1:]
     if word not in COMMANDS:
         raise NotAStep
     readers = (read_id, read_number, read_zeros) if word == "write" else COMMANDS[word]
-    return word, read_fields(job, readers, texts)
+    values = read_fields(job, readers, texts)
+    if version == 1 and word == "grant" and values[0].job != job:
+        # in version 1 it is refused as any other command on a foreign object
+        return "get", values[:1]
+    return word, values
 
 
 def read_zeros(text: str) -> bytes:
@@ -154,13 +168,13 @@ class Replay:
         self.has_begun = False
 
     def take(self, entry: Entry) -> str:
-        """The right answer to the entry, as a journal has it."""
+        """The right answer to the entry, as a journal of its version has it."""
         try:
             answer = self.step(entry.word, entry.values)
         except Refused as refused:
             answer = str(refused)
         self.store.sent, self.store.asked, self.store.erased = [], [], []
-        return without_contents(answer)
+        return in_version(without_contents(answer), entry.version)
 
     def step(self, word: str, values: Tuple) -> str:
         if word == "command":
@@ -175,6 +189,28 @@ class Replay:
             refuse_if(not self.store.is_live, Refusal.Stale)
             LIVE[word](self.store, *values)
         return "ok"
+
+
+def differences(entries: List[Entry]) -> Iterator[Tuple[Entry, str]]:
+    """The entries that have another answer than the right one, each with that."""
+    stores: Dict[Tuple[int, int], Replay] = {}
+    for entry in entries:
+        due = stores.setdefault((entry.node, entry.job), Replay(PrivateStore(entry.job, entry.node))).take(entry)
+        said = [read_answer(answer, entry.job, entry.version, True) for answer in (entry.answer, due)]
+        if said[0] != said[1]:
+            yield entry, due
+
+
+def replayed(text: str) -> Tuple[str, str, int]:
+    """What a replay of a text prints, the fault that it tells, and its status."""
+    try:
+        entries = read_journal(text)
+    except NotAnEntry as fault:
+        return "", f"store: {fault}\n", 1
+    for entry, due in differences(entries):
+        place = f"entry {entry.number} of j{entry.job} at n{entry.node}"
+        return f"{place}: had {entry.answer}, should be {due}\n", "", 1
+    return f"replayed {len(entries)}\n", "", 0
 
 
 def begin(store: PrivateStore, window: int, device_quota: int) -> None:

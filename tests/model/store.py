@@ -202,9 +202,10 @@ class PrivateStore:
         self.received[one] = Seen(content, [*older, hand])
 
     def withdrawn(self, one: ObjectId, hand: Hand) -> None:
-        """A hand to the job has ended; what the job gave by it ends too."""
+        """A hand to the job has ended; what the job gave by it ends too. A hand stands twice in a forged journal alone, and ends then
+        both times at once."""
         seen = self.received[one]
-        seen.hands.remove(hand)
+        seen.hands[:] = [other for other in seen.hands if other != hand]
         if not seen.hands:
             del self.received[one]
         self.given = [given for given in self.given if (given.one, given.hangs_on) != (one, hand.giver)]
