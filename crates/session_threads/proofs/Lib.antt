@@ -1,2 +1,3 @@
 mod Crossing
 mod SmallLists
+mod Unders

@@ -9,7 +9,10 @@ use Rattle.obj_id.specs.declared.refusals.Refusal.TheVariants.{NoMemory}
 use Rattle.private_store.specs.declared.frames.Awaited.{Awaited}
 use Rattle.private_store.specs.declared.frames.Awaited.TheVariants as awaited
 use Rattle.private_store.specs.declared.inputs.Judged.TheVariants as judged
+use Rattle.private_store.specs.declared.schedules.Event.{Event}
+use Rattle.private_store.specs.declared.schedules.Event.TheVariants as event
 use Rattle.private_store.specs.Contents.{brief}
+use Rattle.node_core.specs.Steps.{job_of_event}
 use Rattle.node_journal.specs.declared.entries.Entry.{Entry}
 use Rattle.node_journal.specs.Replies.{kept_reply}
 use Rattle.session_engine.specs.Calls.{Asked, to_call, to_wait, to_leave, Answered, replied, left}
@@ -18,6 +21,11 @@ use Rattle.session_engine.specs.Calls.{Asked, to_call, to_wait, to_leave, Answer
 pub record Witness : Type 0 where
   pub job : JobNo
   pub entry : Entry
+
+-- whether the entry of an event may stand under the job of this number: a Take's stands under the job whose work it gives
+abbrev pub IsUnder : ℕ → Event → Type 0
+IsUnder job event.Take = ⊤
+IsUnder job e = job ≡ job_of_event e
 
 -- the entry is of this job, session and command, and has this answer
 pub record IsCalled (job : JobNo) (session : ℕ) (c : Command (List ℕ)) (told : Reply (List ℕ)) (witness : Witness) : Type 0 where

@@ -6,6 +6,7 @@ use crate::SharedNode;
 use crate::posting::{WayIn, Ways, receive};
 use crate::tally::Tally;
 use crate::waiting::Waiting;
+use node_journal::nothing_beside;
 use owner_directory::Directory;
 use std::alloc::{AllocError, Global};
 use std::sync::ledger::{Ledger, Share};
@@ -119,6 +120,16 @@ impl<L: Ledger> Cluster<L> {
         for thread in mem::replace(&mut self.receiving, Vec::new(self.alloc)) {
             thread.join(rt);
         }
+    }
+
+    /// Shows of any share of the name that it has no part, if the nodes are as many as the name has parts: so nothing beside them can
+    /// be stepped under it. Locks all nodes at once, in their order, and leaves all as it is.
+    pub fn nothing_beside<R: Wait>(&self, rt: &R, other: &mut Share<L>)
+        requires { vec_len self.now.nodes ≡ L.parts }
+        ensures none { other.old.parts ≡ 0 }
+        ensures same { (other.new.parts ≡ other.old.parts) × (other.new.amount ≡ other.old.amount) }
+    {
+        nothing_beside(rt, &self.nodes, other);
     }
 
     /// How many nodes there are.

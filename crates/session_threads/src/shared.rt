@@ -4,10 +4,9 @@ ghost use Rattle.obj_id.specs.declared.commands.Reply.TheVariants as reply;
 ghost use Rattle.obj_id.specs.declared.refusals.Refusal.TheVariants.{NoMemory, Stale};
 ghost use Rattle.private_store.specs.Answers.{wants_memory, is_small_reply};
 ghost use Rattle.job_admission.specs.Admissions.{largest_memory};
-ghost use Rattle.node_core.specs.Steps.{job_of_event};
 ghost use Rattle.node_journal.specs.Replies.{kept_reply};
 ghost use Rattle.session_engine.specs.Calls.{IsEntryRefusal};
-ghost use Rattle.session_threads.specs.Witnesses.{IsCalled, tried};
+ghost use Rattle.session_threads.specs.Witnesses.{IsCalled, IsUnder, tried};
 
 use crate::gathered::{Gathered, look_for};
 use crate::posting::Ways;
@@ -18,7 +17,7 @@ use crate::stepping::{
 use crate::upkeep::Upkeep;
 use crate::waiting::{Moved, Waiting};
 use bytes::Bytes;
-use node_journal::{Kept, Posted, Receipt};
+use node_journal::{Keeper, Kept, Posted, Receipt};
 use obj_id::{Command, JobKey, JobNo, Quota, Refusal, Reply};
 use private_store::{Awaited, Event};
 use std::alloc::Global;
@@ -36,6 +35,12 @@ pub struct SharedNode<L: Ledger> {
     pub(crate) kept: Mutex<Kept<L>>,
     pub(crate) ways: Ways<L>,
     pub(crate) upkeep: Upkeep,
+}
+
+impl<L: Ledger> Keeper<L> for SharedNode<L> {
+    fn kept(&self) -> &Mutex<Kept<L>> {
+        &self.kept
+    }
 }
 
 impl<L: Ledger> SharedNode<L> {
@@ -225,7 +230,7 @@ impl<L: Ledger> SharedNode<L> {
         rt: &R,
         event: &Event,
     ) -> (Reply<Bytes>, Option<Receipt<L>>)
-        ensures { MatchOption result.1 (result.0 ≡ reply.Refused NoMemory) (λ r. (r.job.0 ≡ job_of_event event.now) × (r.entry.reply ≡ kept_reply result.0)) }
+        ensures { MatchOption result.1 (result.0 ≡ reply.Refused NoMemory) (λ r. (IsUnder r.job.0 event.now) × (r.entry.reply ≡ kept_reply result.0)) }
     {
         let mut kept = self.kept.lock(rt);
         let stepped = step_event(rt, &mut *kept, &self.upkeep, event);

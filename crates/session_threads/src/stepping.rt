@@ -2,11 +2,10 @@
 ghost use Rattle.std.specs.Prelude.{◌≡◌, ◌⊎◌, ℕ, ◌==◌, ◌<◌, true, false, IfOk, IfErr};
 ghost use Rattle.obj_id.specs.declared.refusals.Refusal.TheVariants.{NoMemory, Stale};
 ghost use Rattle.private_store.specs.Answers.{wants_memory, is_small_reply};
-ghost use Rattle.node_core.specs.Steps.{job_of_event};
 ghost use Rattle.node_journal.specs.Journals.{folded_if};
 ghost use Rattle.node_journal.specs.Logs.{journal_of};
 ghost use Rattle.node_journal.specs.Replies.{kept_reply};
-ghost use Rattle.session_threads.specs.Witnesses.{IsCalled};
+ghost use Rattle.session_threads.specs.Witnesses.{IsCalled, IsUnder};
 
 use crate::gathered::look_for;
 use crate::upkeep::Upkeep;
@@ -77,7 +76,7 @@ pub(crate) fn step_event<L: Ledger, R: Wait>(
     upkeep: &Upkeep,
     event: &Event,
 ) -> Result<Stepped<L>, Refusal>
-    ensures stepped { IfOk result (λ s. (s.receipt.job.0 ≡ job_of_event event.now) × (s.receipt.entry.reply ≡ kept_reply s.reply)) }
+    ensures stepped { IfOk result (λ s. (IsUnder s.receipt.job.0 event.now) × (s.receipt.entry.reply ≡ kept_reply s.reply)) }
     ensures memory { IfErr result (λ r. r ≡ NoMemory) }
 {
     match kept.step(event) {
