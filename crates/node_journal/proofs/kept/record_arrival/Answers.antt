@@ -26,7 +26,7 @@ returns-clause-logs c = λ job.
     let full = c.in_ok-bases.ensures.full job ∙ ap (λ (j : Journal). has_no_room c.args.job.0 [] job (length j.list)) kept in
     let first : Journal = journal_of c.fold_all.new.self job in
     let second : Journal = journal_of c.add.new.self job in
-    let first_is : first ≡ folded_if (is_folded_by c.args.node.now.hands (Arrive c.args.job c.args.arrival.now) job (list_of c.args.logs.now job)) (journal_of c.args.logs.now job) =
+    let first_is : first ≡ folded_if (is_folded_by c.args.node.now (Arrive c.args.job c.args.arrival.now) job (list_of c.args.logs.now job)) (journal_of c.args.logs.now job) =
     c.fold_all.ensures.journal job ∙ (λ i. folded_if (full i) (kept i)) in
     added own first second second entry notes
     (c.add.ensures.journal job ∙ (λ i. if own then with_lines first (line.Entry (c.entry_of.ensures i) ∷ []) else first))
