@@ -1,3 +1,2 @@
 mod Crossing
 mod SmallLists
-mod Unders
