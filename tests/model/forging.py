@@ -19,7 +19,8 @@ MOST_FORGERIES = 4
 BREAKING = 0.12
 # how often all answers are made right, so that the whole of a forged journal is replayed; and how often one of them is wrong again
 MENDED, WRONG_AGAIN = 0.7, 0.3
-QUOTAS = [0, 1, 15, 16, 17, 48, 64, LARGEST_WINDOW, LARGEST_WINDOW + 16, LARGEST_DEVICE_QUOTA, LARGEST_DEVICE_QUOTA + 1, (1 << 64) - 1, 1 << 64]
+LIMITS = [LARGEST_WINDOW, LARGEST_WINDOW + 16, LARGEST_DEVICE_QUOTA, LARGEST_DEVICE_QUOTA + 1, (1 << 64) - 1, 1 << 64]
+QUOTAS = [0, 1, 15, 16, 17, 48, 64, *LIMITS]
 LENGTHS = [0, 1, 20, 16 << 20, (16 << 20) + 1]
 JUDGED = {"answer": ("ok", "damage", "fail"), "chunk": ("ignored", "part", "whole", "damaged"), "pull": ("match", "other")}
 # what stands for a character, among it what no line has

@@ -5,13 +5,15 @@ use assertions::{holds, same};
 use bytes::Bytes;
 use node_journal::Receipt;
 use obj_id::{Command, JobKey, JobNo, Kind, ObjectId, Quota, Refusal, Reply, TaskNo};
-use session_threads::{Cluster, SharedNode};
+use session_engine::Gate;
+use session_threads::{Cluster, Session, SharedNode};
 use std::alloc::{AllocError, Global};
 use std::marker::Brand;
 use std::process::Abort;
 use std::sync::Wait;
 use std::sync::ledger::{Blank, Ledger};
 use std::test::Fail;
+use std::time::Clock;
 
 const JOB: JobNo = JobNo(1);
 
@@ -56,7 +58,7 @@ fn call_all<L: Ledger, R: Wait + Abort>(
     alloc: Global,
     node: &SharedNode<L>,
     id: ObjectId,
-) -> Result<Option<Receipt<L>>, Fail> {
+) -> Result<Option<Receipt<L>>, AllocError> {
     let mut last = None;
     let mut told = String::new(alloc);
     for turn in 0..4u64 {
@@ -94,26 +96,126 @@ fn call_later<L: Ledger, R: Wait + Abort>(rt: &R, cluster: &Cluster<L>, earlier:
     }
 }
 
-fn try_cluster<L: Ledger, R: Wait + Abort>(rt: &R, alloc: Global, blank: Blank) -> Result<(), Fail>
+/// Admits the job, and once more if memory ran out.
+fn admit<L: Ledger, R: Wait>(rt: &R, node: &SharedNode<L>) {
+    let (reply, _) = node.admit(rt, JOB, QUOTA, JobKey([0; 32]));
+    if matches!(&reply, Reply::Refused(Refusal::NoMemory)) {
+        node.admit(rt, JOB, QUOTA, JobKey([0; 32]));
+    }
+}
+
+/// Ends the job, and once more if memory ran out.
+fn end<L: Ledger, R: Wait>(rt: &R, node: &SharedNode<L>) {
+    let (reply, _) = node.end_job(rt, JOB);
+    if matches!(&reply, Reply::Refused(Refusal::NoMemory)) {
+        node.end_job(rt, JOB);
+    }
+}
+
+fn try_cluster<L: Ledger, R: Wait + Abort>(
+    rt: &R,
+    alloc: Global,
+    blank: Blank,
+) -> Result<(), AllocError>
     requires name { blank.name ≡ L.name }
     requires parts { blank.parts ≡ L.parts }
     requires two { blank.parts ≡ 2 }
 {
-    let id = ObjectId::new(TaskNo([0; 20]), JOB, 1).ok().ok_or("no id")?;
+    let id = ObjectId::new(TaskNo([0; 20]), JOB, 1).expect(rt, "an id");
     let (_book, seats) = blank.open::<L>();
     let cluster = Cluster::start(alloc, 2, 1024, seats)?;
-    let node = cluster.node(0).ok_or("no node")?;
-    node.admit(rt, JOB, QUOTA, JobKey([0; 32]));
+    let node = cluster.node(0).expect(rt, "a node");
+    admit(rt, node);
     let last = call_all(rt, alloc, node, id)?;
-    call_later(rt, &cluster, &last.ok_or("no receipt")?);
-    node.end_job(rt, JOB);
+    call_later(rt, &cluster, &last.expect(rt, "a receipt"));
+    end(rt, node);
     let report = cluster.report(rt);
     same!(rt; (report.entries, report.disagreeing, report.lost), (7, 0, 0));
     Ok(())
 }
 
+fn try_calls<R: Wait + Abort>(rt: &R, alloc: Global) -> Result<(), AllocError> {
+    let blank = Blank::new(2);
+    try_cluster::<Brand, R>(rt, alloc, blank)
+}
+
+/// Tried once more if memory ran out before the nodes were there.
 #[test]
 fn a_call_comes_after_the_receipt_that_it_shows(rt: HostRuntime) -> Result<(), Fail> {
-    let blank = Blank::new(2);
-    try_cluster::<Brand, HostRuntime>(&rt, rt.alloc(), blank)
+    match try_calls(&rt, rt.alloc()) {
+        Ok(()) => Ok(()),
+        Err(_) => Ok(try_calls(&rt, rt.alloc())?),
+    }
+}
+
+/// A Release or a Get of the session, called once more if memory ran out.
+fn called_again<L: Ledger, R: Wait>(
+    rt: &R,
+    node: &SharedNode<L>,
+    id: ObjectId,
+    is_get: bool,
+) -> Reply<Bytes> {
+    let (reply, _) = node.call(rt, JOB, 1, get_or_release(id, is_get));
+    if matches!(&reply, Reply::Refused(Refusal::NoMemory)) {
+        return node.call(rt, JOB, 1, get_or_release(id, is_get)).0;
+    }
+    reply
+}
+
+fn get_or_release(id: ObjectId, is_get: bool) -> Command<Bytes> {
+    if is_get {
+        Command::Get(id)
+    } else {
+        Command::Release(id)
+    }
+}
+
+/// The session that holds the object ends: the hold is gone at the next step. Then it is held again.
+fn leave_and_hold<L: Ledger, R: Wait + Clock + Abort>(rt: &R, node: &SharedNode<L>, id: ObjectId) {
+    Session::new(rt, node).leave(JOB, 1);
+    let reply = called_again(rt, node, id, false);
+    holds!(rt; matches!(&reply, Reply::Refused(Refusal::NotHeld)));
+    let reply = called_again(rt, node, id, true);
+    holds!(rt; matches!(&reply, Reply::Got(20)));
+}
+
+/// Each Leave is made once: at once, or before the next step if memory ran out, as it may if the journal's list has to grow.
+fn try_leaving<L: Ledger, R: Wait + Clock + Abort>(
+    rt: &R,
+    alloc: Global,
+    blank: Blank,
+) -> Result<(), AllocError>
+    requires name { blank.name ≡ L.name }
+    requires parts { blank.parts ≡ L.parts }
+    requires one { blank.parts ≡ 1 }
+{
+    let id = ObjectId::new(TaskNo([0; 20]), JOB, 1).expect(rt, "an id");
+    let (_book, seats) = blank.open::<L>();
+    let cluster = Cluster::start(alloc, 1, 1024, seats)?;
+    let node = cluster.node(0).expect(rt, "a node");
+    admit(rt, node);
+    call_all(rt, alloc, node, id)?;
+    for _ in 0..4u32 {
+        leave_and_hold(rt, node, id);
+    }
+    end(rt, node);
+    let report = cluster.report(rt);
+    same!(rt; (report.entries, report.disagreeing), (18, 0));
+    // what Seal tells the directory, if memory runs out there
+    holds!(rt; report.lost <= 1);
+    Ok(())
+}
+
+fn try_session<R: Wait + Clock + Abort>(rt: &R, alloc: Global) -> Result<(), AllocError> {
+    let blank = Blank::new(1);
+    try_leaving::<Brand, R>(rt, alloc, blank)
+}
+
+/// Tried once more if memory ran out before the node was there.
+#[test]
+fn a_session_is_left_though_memory_runs_out(rt: HostRuntime) -> Result<(), Fail> {
+    match try_session(&rt, rt.alloc()) {
+        Ok(()) => Ok(()),
+        Err(_) => Ok(try_session(&rt, rt.alloc())?),
+    }
 }

@@ -26,10 +26,11 @@ fn run_once(alloc: Global, read: u64, write: u64) -> io::Result<Result<(), Fault
     Ok(run_text(alloc, SHAPE, &mut reader, &mut writer, &mut journal))
 }
 
-/// The same, made once more if memory ran out.
+/// The same, made once more if memory ran out: that of what is written to too, which is told as a failed write.
 fn run(alloc: Global, read: u64, write: u64) -> io::Result<Result<(), Fault>> {
     match run_once(alloc, read, write) {
         Ok(Err(Fault::NoMemory)) => run_once(alloc, read, write),
+        Ok(Err(Fault::Output)) if write == 0 => run_once(alloc, read, write),
         Err(error) if error.kind() == ErrorKind::OutOfMemory => run_once(alloc, read, write),
         ended => ended,
     }
