@@ -62,6 +62,52 @@ fn lists_both<L: Ledger>(kept: &Kept<L>) -> Result<bool, Fail> {
     Ok(jobs.as_slice() == [NO_JOB, JOB].as_slice())
 }
 
+/// The job that a Take's entry stands under.
+fn job_of_a_take<L: Ledger>(kept: &mut Kept<L>) -> Result<JobNo, Fail> {
+    let receipt = stepped(kept, &Event::Take)?;
+    Ok(receipt.job())
+}
+
+/// What the journal says of a receipt; and the number that the fold of its job's list covers, and how many lines are left of it.
+fn said_of<L: Ledger>(kept: &Kept<L>, receipt: &Receipt<L>) -> (Agreement, u64, usize) {
+    (
+        kept.agrees(receipt),
+        kept.covered(JOB),
+        kept.list(JOB).len(),
+    )
+}
+
+/// A work that a Take gave is there before a fold, and folded after it.
+fn check_fold<L: Ledger, R: Abort>(
+    rt: &R,
+    kept: &mut Kept<L>,
+    given: &Receipt<L>,
+) -> Result<(), Fail> {
+    same!(rt; (given.job(), given.number()), (JOB, 6));
+    same!(rt; said_of(kept, given), (Agreement::Yes, 0, 5));
+    fold(kept)?;
+    same!(rt; said_of(kept, given), (Agreement::Folded, 6, 0));
+    Ok(())
+}
+
+/// The work is still taken after the fold: the device's answer is one to it.
+fn check_answer<L: Ledger, R: Abort>(rt: &R, kept: &mut Kept<L>) -> Result<(), Fail> {
+    let finished = stepped(kept, &Event::Finish(JOB, 1, DeviceAnswer::Done))?;
+    same!(rt; (finished.input().is_some(), kept.list(JOB).len()), (true, 1));
+    Ok(())
+}
+
+fn check_journal<L: Ledger, R: Abort>(rt: &R, kept: &mut Kept<L>) -> Result<(), Fail> {
+    // nobody's work waits
+    same!(rt; job_of_a_take(kept)?, NO_JOB);
+    ask_for_a_work(kept)?;
+    let given = stepped(kept, &Event::Take)?;
+    check_fold(rt, kept, &given)?;
+    check_answer(rt, kept)?;
+    same!(rt; lists_both(kept)?, true);
+    Ok(())
+}
+
 fn try_journal<L: Ledger, R: Abort>(rt: &R, alloc: Global, blank: Blank) -> Result<(), Fail>
     requires name { blank.name ≡ L.name }
     requires parts { blank.parts ≡ L.parts }
@@ -69,20 +115,7 @@ fn try_journal<L: Ledger, R: Abort>(rt: &R, alloc: Global, blank: Blank) -> Resu
 {
     let (_book, seat) = blank.open::<L>();
     let mut kept = Kept::new(alloc, 0, 1024, seat);
-    // nobody's work waits
-    let none = stepped(&mut kept, &Event::Take)?;
-    same!(rt; none.job(), NO_JOB);
-    ask_for_a_work(&mut kept)?;
-    let given = stepped(&mut kept, &Event::Take)?;
-    same!(rt; (given.job(), given.number()), (JOB, 6));
-    same!(rt; kept.agrees(&given), Agreement::Yes);
-    fold(&mut kept)?;
-    same!(rt; (kept.agrees(&given), kept.covered(JOB), kept.list(JOB).len()), (Agreement::Folded, 6, 0));
-    // the work is still taken after the fold: its answer is
-    let finished = stepped(&mut kept, &Event::Finish(JOB, 1, DeviceAnswer::Done))?;
-    same!(rt; (finished.input().is_some(), kept.list(JOB).len()), (true, 1));
-    same!(rt; lists_both(&kept)?, true);
-    Ok(())
+    check_journal(rt, &mut kept)
 }
 
 #[test]
