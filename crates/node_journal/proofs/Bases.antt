@@ -15,7 +15,7 @@ use Rattle.spill_work.specs.Line.{taken_by}
 use Rattle.node_core.specs.Hosted.{Hosted, Shows}
 use Rattle.node_journal.specs.declared.entries.Line.{Line}
 use Rattle.node_journal.specs.Journals.{Journal, Tells, begins, folded_if, last_of, step_of, store_of, taken_of, base_after}
-use Rattle.node_journal.specs.Logs.{Bases, AreStores, has_base}
+use Rattle.node_journal.specs.Logs.{Bases, AreBases, has_base}
 use Rattle.node_journal.specs.declared.folding.Base.{Base}
 use Rattle.node_journal.proofs.Lives.{replay_begins}
 
@@ -56,17 +56,17 @@ folded_twice true true j = refl
 folded_twice true false j = refl
 folded_twice false b j = refl
 
-stores_kept : (es : Bases) (before after : ℕ → Journal) → ((job : ℕ) → base_after (after job) ≡ base_after (before job)) → AreStores es before → AreStores es after
+stores_kept : (es : Bases) (before after : ℕ → Journal) → ((job : ℕ) → base_after (after job) ≡ base_after (before job)) → AreBases es before → AreBases es after
 stores_kept [] before after same h = tt
 stores_kept (e ∷ es) before after same h = (h.0 ∙ sym (same e.0.0), stores_kept es before after same h.1)
 
-pub stores_left : (e : JobNo × Base) (es : Bases) (before after : ℕ → Journal) → ((job : ℕ) → after job ≡ folded_if (e.0.0 == job) (before job)) → AreStores (e ∷ es) before → AreStores es after
+pub stores_left : (e : JobNo × Base) (es : Bases) (before after : ℕ → Journal) → ((job : ℕ) → after job ≡ folded_if (e.0.0 == job) (before job)) → AreBases (e ∷ es) before → AreBases es after
 stores_left e es before after is h = stores_kept es before after (λ job. ap base_after (is job) ∙ base_folded (e.0.0 == job) (before job)) h.1
 
 pub folds_left : (e : JobNo × Base) (es : Bases) (before after : ℕ → Journal) → ((job : ℕ) → after job ≡ folded_if (e.0.0 == job) (before job))
     → (job : ℕ) → folded_if (has_base job es) (after job) ≡ folded_if (has_base job (e ∷ es)) (before job)
 folds_left e es before after is job = ap (folded_if (has_base job es)) (is job) ∙ folded_twice (e.0.0 == job) (has_base job es) (before job)
 
-pub stores_push : (es : Bases) (e : JobNo × Base) (journals : ℕ → Journal) → AreStores es journals → e.1 ≡ base_after (journals e.0.0) → AreStores (es ++ e ∷ []) journals
+pub stores_push : (es : Bases) (e : JobNo × Base) (journals : ℕ → Journal) → AreBases es journals → e.1 ≡ base_after (journals e.0.0) → AreBases (es ++ e ∷ []) journals
 stores_push [] e journals h is = (is, tt)
 stores_push (x ∷ es) e journals h is = (h.0, stores_push es e journals h.1 is)

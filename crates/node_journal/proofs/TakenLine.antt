@@ -5,8 +5,10 @@ use Rattle.std.specs.List.{find, list_all, list_any}
 use Rattle.std.proofs.lemmas.Bool.Decides.{nat_tests}
 use Rattle.std.proofs.lemmas.List.{length-append}
 use Rattle.std.proofs.lemmas.List.Elements.{filter-append}
+use Rattle.std.proofs.lemmas.List.Folds.{list_all-append}
 use Rattle.obj_id.specs.declared.ids.JobNo.{JobNo}
 use Rattle.private_store.specs.Shape.{WorkInFlight}
+use Rattle.private_store.proofs.KeptLists.{all-filter}
 use Rattle.private_store.proofs.Tests.{both, both_left, both_right, none_some, some_value, true_false}
 use Rattle.spill_work.specs.declared.queue.Asked.{Asked}
 use Rattle.spill_work.specs.declared.queue.Queued.{Queued}
@@ -66,11 +68,6 @@ zero_more a b h = omega (arith, h)
 pub count_more : (job : JobNo) (xs ys : List Queued) → are_untaken ys ≡ true → count job (xs ++ ys) ≡ count job xs
 count_more job xs ys h = count-append job xs ys ∙ zero_more (count job xs) (count job ys) (count_untaken job ys h)
 
-untaken-append : (xs ys : List Queued) → are_untaken xs ≡ true → are_untaken ys ≡ true → are_untaken (xs ++ ys) ≡ true
-untaken-append [] ys h k = k
-untaken-append (a ∷ xs) ys h k =
-    both (not a.taken) (are_untaken (xs ++ ys)) (both_left (not a.taken) (are_untaken xs) h) (untaken-append xs ys (both_right (not a.taken) (are_untaken xs) h) k)
-
 untaken_first : (ws : List Queued) → are_untaken ws ≡ true → taken_come_first ws ≡ true
 untaken_first [] h = refl
 untaken_first (w ∷ ws) h =
@@ -83,21 +80,13 @@ first_more (a ∷ xs) ys h k = by a.taken (first_more xs ys) h
     by : (b : Bool) → (taken_come_first xs ≡ true → are_untaken ys ≡ true → taken_come_first (xs ++ ys) ≡ true) → cond b (taken_come_first xs) (are_untaken xs) ≡ true
         → cond b (taken_come_first (xs ++ ys)) (are_untaken (xs ++ ys)) ≡ true
     by true later h = later h k
-    by false later h = untaken-append xs ys h k
+    by false later h = list_all-append (λ (work : Queued). not work.taken) xs ys ∙ both (are_untaken xs) (are_untaken ys) h k
 
 pub queued_untaken : (job : ℕ) (ws : List WorkInFlight) → are_untaken (queued job ws) ≡ true
 queued_untaken job [] = refl
 queued_untaken job (w ∷ ws) = queued_untaken job ws
 
 -- ---- works that leave the line
-
-untaken_left : (p : Queued → Bool) (ws : List Queued) → are_untaken ws ≡ true → are_untaken (filter p ws) ≡ true
-untaken_left p [] h = refl
-untaken_left p (w ∷ ws) h = by (p w) (untaken_left p ws (both_right (not w.taken) (are_untaken ws) h))
-  where
-    by : (b : Bool) → are_untaken (filter p ws) ≡ true → are_untaken (cond b (w ∷ filter p ws) (filter p ws)) ≡ true
-    by true later = both (not w.taken) (are_untaken (filter p ws)) (both_left (not w.taken) (are_untaken ws) h) later
-    by false later = later
 
 pub first_left : (p : Queued → Bool) (ws : List Queued) → taken_come_first ws ≡ true → taken_come_first (filter p ws) ≡ true
 first_left p [] h = refl
@@ -106,9 +95,9 @@ first_left p (w ∷ ws) h = by (p w) w.taken refl h (first_left p ws)
     by : (kept t : Bool) → w.taken ≡ t → cond t (taken_come_first ws) (are_untaken ws) ≡ true → (taken_come_first ws ≡ true → taken_come_first (filter p ws) ≡ true)
         → taken_come_first (cond kept (w ∷ filter p ws) (filter p ws)) ≡ true
     by true true is h later = ap (λ b. cond b (taken_come_first (filter p ws)) (are_untaken (filter p ws))) is ∙ later h
-    by true false is h later = ap (λ b. cond b (taken_come_first (filter p ws)) (are_untaken (filter p ws))) is ∙ untaken_left p ws h
+    by true false is h later = ap (λ b. cond b (taken_come_first (filter p ws)) (are_untaken (filter p ws))) is ∙ all-filter (λ (work : Queued). not work.taken) p ws h
     by false true is h later = later h
-    by false false is h later = untaken_first (filter p ws) (untaken_left p ws h)
+    by false false is h later = untaken_first (filter p ws) (all-filter (λ (work : Queued). not work.taken) p ws h)
 
 -- works of this job alone leave it
 pub others_left : (p : Queued → Bool) (other : JobNo) (ws : List Queued) → ((w : Queued) → is_of other w ≡ true → p w ≡ true) → count other (filter p ws) ≡ count other ws

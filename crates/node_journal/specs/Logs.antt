@@ -40,9 +40,9 @@ abbrev pub Bases : Type 0
 Bases = List (JobNo × Base)
 
 -- each is the base that its job's lines are folded into
-abbrev pub AreStores : Bases → (ℕ → Journal) → Type 0
-AreStores [] journals = Unit {0}
-AreStores (e ∷ es) journals = (e.1 ≡ base_after (journals e.0.0)) × AreStores es journals
+abbrev pub AreBases : Bases → (ℕ → Journal) → Type 0
+AreBases [] journals = Unit {0}
+AreBases (e ∷ es) journals = (e.1 ≡ base_after (journals e.0.0)) × AreBases es journals
 
 abbrev pub has_base : ℕ → Bases → Bool
 has_base job bases = list_any (λ e. e.0.0 == job) bases

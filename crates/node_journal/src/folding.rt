@@ -1,7 +1,7 @@
 //! Which lists a step folds, and the bases that they are folded into.
 ghost use Rattle.std.specs.Prelude.{◌≡◌, ℕ, ◌+◌, ◌<◌, ◌≤◌, ◌==◌, ◌&&◌, ◌||◌, length, IfOk, OnOk};
 ghost use Rattle.node_journal.specs.Journals.{Tells, most_lines, has_no_room as has_no_room_lem, lines_due as lines_due_lem, base_after};
-ghost use Rattle.node_journal.specs.Logs.{journal_of, list_of, AreStores, has_base as has_base_lem};
+ghost use Rattle.node_journal.specs.Logs.{journal_of, list_of, AreBases, has_base as has_base_lem};
 
 use crate::logs::Logs;
 use node_core::Node;
@@ -44,7 +44,7 @@ pub(crate) fn bases_of(
     requires told { ∥ Tells node.now (journal_of logs.now) ∥₁ }
     requires few { (job : ℕ) → length (list_of logs.now job) ≤ most_lines }
     requires some { length takers.now < most_lines }
-    ensures stores { IfOk result (λ bases. AreStores bases.items (journal_of logs.now)) }
+    ensures stores { IfOk result (λ bases. AreBases bases.items (journal_of logs.now)) }
     ensures full { IfOk result (λ bases. (job : ℕ) → has_base_lem job bases.items ≡ has_no_room_lem own.0 takers.now job (length (list_of logs.now job))) }
 {
     let mut bases = Vec::new(alloc);
@@ -67,8 +67,8 @@ fn add_base(
     requires told { ∥ Tells node.now (journal_of logs.now) ∥₁ }
     requires few { (job : ℕ) → length (list_of logs.now job) ≤ most_lines }
     requires some { length takers.now < most_lines }
-    requires stores { AreStores bases.old.items (journal_of logs.now) }
-    ensures stores { OnOk result (AreStores bases.new.items (journal_of logs.now)) }
+    requires stores { AreBases bases.old.items (journal_of logs.now) }
+    ensures stores { OnOk result (AreBases bases.new.items (journal_of logs.now)) }
     ensures full { OnOk result ((other : ℕ) → has_base_lem other bases.new.items ≡ (has_base_lem other bases.old.items || (job.0 == other && has_no_room_lem own.0 takers.now other (length (list_of logs.now other))))) }
 {
     if has_base(bases, job) || !has_no_room(own, takers, job, logs.list(job).len()) {

@@ -1,6 +1,6 @@
 //! A node with its journal, under one name.
 ghost use Rattle.std.specs.Prelude.{◌≡◌, ◌≢◌, ◌↔◌, ℕ, ◌+◌, ◌==◌, ◌⊎◌, ◌<◌, ◌≤◌, [], true, false, length, Some, None, IfOk, IfErr, OnOk, OnErr, IsErrOf, IsOk, is_some};
-ghost use Rattle.std.specs.List.{list_any};
+ghost use Rattle.std.specs.List.{list_any, IsDistinct};
 ghost use Rattle.std.specs.List.Sorted.{IsNonDecreasingBy};
 ghost use Rattle.obj_id.specs.declared.ids.JobNo.{JobNo};
 ghost use Rattle.obj_id.specs.declared.commands.Reply.TheVariants as reply;
@@ -17,6 +17,7 @@ ghost use Rattle.node_journal.specs.declared.entries.Agreement.TheVariants.{No};
 ghost use Rattle.node_journal.specs.Logs.{journal_of, list_of, was_kept};
 ghost use Rattle.node_journal.specs.Posts.{IsAstray, is_entered};
 ghost use Rattle.private_store.specs.Cluster.{arrival_of};
+ghost use Rattle.private_store.specs.Jobs.{same_job};
 ghost use Rattle.obj_id.specs.declared.messages.Arrival.{Arrival};
 ghost use Rattle.node_journal.specs.Journals.{entry_for, is_entry, rise_above, Tells, AreNumbered, agreement, folded_if, journal_after, most_lines, is_call};
 
@@ -223,8 +224,8 @@ impl<L: Ledger> Kept<L> {
     }
 
     /// Folds the job's lines into its base: the new base is the replay of the old one and its lines, covers the number of the
-    /// last of them, and no line is left, whose memory is given back. All else stays. Takes a walk over the lines and over the job's copies, works and
-    /// hands. The error is out of memory, and then nothing has changed.
+    /// last of them, and no line is left. The memory of the lines is given back, and all else stays. Takes a walk over the lines
+    /// and over the job's copies, works and hands. The error is out of memory, and then nothing has changed.
     pub fn checkpoint(&mut self, job: JobNo) -> Result<(), Refusal>
         ensures journal { OnOk result ((other : ℕ) → journal_of self.new.logs other ≡ folded_if (job.0 == other) (journal_of self.old.logs other)) }
         ensures same { (self.new.node ≡ self.old.node) × (self.new.count ≡ self.old.count) × (self.new.number ≡ self.old.number) }
@@ -304,10 +305,11 @@ impl<L: Ledger> Kept<L> {
         }
     }
 
-    /// The job numbers under which there ever was an entry or a note, rising: 0 among them, if there was one of no job. Takes a
-    /// walk over them, a sort, and memory for each.
+    /// The job numbers under which there ever was an entry or a note, each once and rising: 0 among them, if there was one of no
+    /// job. Takes a walk over them, a sort, and memory for each. The error is out of memory.
     pub fn jobs(&self) -> Result<Items<JobNo>, AllocError>
         ensures kept { IfOk result (λ jobs. (job : ℕ) → list_any (λ own. own.0 == job) jobs ≡ was_kept (journal_of self.now.logs job)) }
+        ensures once { IfOk result (λ jobs. IsDistinct same_job jobs) }
         ensures rising { IfOk result (λ jobs. IsNonDecreasingBy (λ (job : JobNo). job.0) jobs) }
     {
         self.logs.jobs()

@@ -1,14 +1,14 @@
 //! The journals of all jobs: all growth comes before a step, and what the step adds then takes no memory. A contract sees the
 //! journal of every job number, and how many more lines of a job take no memory.
 ghost use Rattle.std.specs.Prelude.{◌≡◌, ℕ, ◌==◌, ◌+◌, ◌∷◌, ◌<◌, ◌≤◌, ◌||◌, [], true, length, map, if◌then◌else◌, OnOk, IfOk};
-ghost use Rattle.std.specs.List.{list_any};
+ghost use Rattle.std.specs.List.{list_any, IsDistinct};
 ghost use Rattle.std.specs.List.Sorted.{IsPermutation, IsNonDecreasingBy};
 ghost use Rattle.obj_id.specs.declared.ids.JobNo.{JobNo};
 ghost use Rattle.private_store.specs.Jobs.{same_job};
 ghost use Rattle.plain_store.specs.Parts.{has_begun as has_begun_lem};
 ghost use Rattle.node_core.specs.Outcomes.{inputs_noted};
 ghost use Rattle.node_journal.specs.Journals.{notes_for, begins, fresh, folded_if, last_of, base_after, with_lines};
-ghost use Rattle.node_journal.specs.Logs.{journal_of, list_of, spare_of, AreStores, has_base, was_kept as was_kept_lem};
+ghost use Rattle.node_journal.specs.Logs.{journal_of, list_of, spare_of, AreBases, has_base, was_kept as was_kept_lem};
 
 use crate::copies::copy_of_judged;
 use crate::entries::Line;
@@ -241,7 +241,7 @@ impl Logs {
 
     /// Folds the lines of these jobs into their bases, which are then these. Takes no memory.
     pub(crate) fn fold_all(&mut self, bases: Vec<(JobNo, Base)>)
-        requires { AreStores bases.items (journal_of self.old) }
+        requires { AreBases bases.items (journal_of self.old) }
         ensures journal { (other : ℕ) → journal_of self.new other ≡ folded_if (has_base other bases.items) (journal_of self.old other) }
         ensures spare { (other : ℕ) → spare_of self.old other ≤ spare_of self.new other }
     {
@@ -260,9 +260,10 @@ impl Logs {
         }
     }
 
-    /// The jobs that ever had a line, by rising number. Takes a walk over all jobs, a sort, and memory for each.
+    /// The jobs that ever had a line, each once and by rising number. Takes a walk over all jobs, a sort, and memory for each.
     pub fn jobs(&self) -> Result<Items<JobNo>, AllocError>
         ensures kept { IfOk result (λ jobs. (job : ℕ) → list_any (λ own. own.0 == job) jobs ≡ was_kept_lem (journal_of self.now job)) }
+        ensures once { IfOk result (λ jobs. IsDistinct same_job jobs) }
         ensures rising { IfOk result (λ jobs. IsNonDecreasingBy (λ (job : JobNo). job.0) jobs) }
     {
         let mut jobs = jobs_of(self.alloc, &self.logs)?;
@@ -293,7 +294,8 @@ impl Logs {
 
 /// The jobs that ever had a line, in the order of their first steps.
 fn jobs_of(alloc: Global, logs: &IndexMap<JobNo, Log>) -> Result<Vec<JobNo>, AllocError>
-    ensures { IfOk result (λ jobs. (job : ℕ) → list_any (λ own. own.0 == job) jobs.items ≡ was_kept_lem (journal_of logs.now.entries job)) }
+    ensures kept { IfOk result (λ jobs. (job : ℕ) → list_any (λ own. own.0 == job) jobs.items ≡ was_kept_lem (journal_of logs.now.entries job)) }
+    ensures once { IfOk result (λ jobs. IsDistinct same_job jobs.items) }
 {
     let mut jobs = Vec::with_capacity(alloc, logs.len())?;
     for (job, log) in logs {
