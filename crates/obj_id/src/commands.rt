@@ -39,7 +39,7 @@ pub enum CopyState {
 
 /// A command of a session. `P` stands for written bytes: the bytes themselves, or their number.
 /// Offsets, lengths and counts are in bytes.
-#[derive(Debug, Drop)]
+#[derive(Debug, PartialEq, Eq, Drop)]
 pub enum Command<P> {
     /// A copy of this kind and length, to be written.
     Create(ObjectId, Kind, u32),
@@ -106,7 +106,7 @@ pub struct Usage {
 }
 
 /// What is answered. `P` stands for bytes: the bytes themselves, or their number.
-#[derive(Debug, Drop)]
+#[derive(Debug, PartialEq, Eq, Drop)]
 pub enum Reply<P> {
     Ok,
     /// Where a new copy lies in the window: its offset, and how many bytes it takes there.

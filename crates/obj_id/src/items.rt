@@ -1,5 +1,6 @@
 //! Lists that replies and messages carry.
 ghost use Rattle.std.specs.Prelude.{◌≡◌, [], ◌∷◌, ◌++◌, OnOk, OnErr};
+ghost use Rattle.std.specs.Cmp.Lexicographic.{pointwise, lists_equiv, lists_per};
 
 use std::alloc::{AllocError, Global};
 use std::marker::Model;
@@ -59,4 +60,18 @@ impl<T> Items<T> {
     {
         &self.items
     }
+}
+
+impl<T: PartialEq> PartialEq for Items<T> {
+    ghost eq = { λ x y. pointwise T.eq x y };
+
+    ghost laws = { lists_per T.laws };
+
+    fn eq(&self, other: &Items<T>) -> bool {
+        self.as_slice() == other.as_slice()
+    }
+}
+
+impl<T: Eq> Eq for Items<T> {
+    ghost laws = { lists_equiv T.Eq.laws };
 }

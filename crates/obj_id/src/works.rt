@@ -40,7 +40,7 @@ pub enum WorkKind {
 
 /// A device work as it is handed out: the length is the object's, in bytes, and the payload a
 /// write's bytes. A read's key is that of the write that backed the copy.
-#[derive(Debug, Drop)]
+#[derive(Debug, PartialEq, Eq, Drop)]
 pub struct Work<P> {
     pub job: JobNo,
     pub number: u64,
