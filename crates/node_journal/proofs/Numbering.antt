@@ -9,7 +9,7 @@ use Rattle.node_journal.specs.declared.entries.Entry.{Entry}
 use Rattle.node_journal.specs.declared.entries.Line.{Line}
 use Rattle.node_journal.specs.declared.entries.Line.TheVariants as line
 use Rattle.node_journal.specs.declared.entries.Agreement.TheVariants as agree
-use Rattle.node_journal.specs.Journals.{Journal, fresh, notes_for, agreement, is_entry, step_of, last_of, follows, rise_above, AreNumbered, folded_if, with_lines}
+use Rattle.node_journal.specs.Journals.{Journal, fresh, notes_for, agreement, is_entry, is_this, same_entry, step_of, last_of, follows, rise_above, AreNumbered, folded_if, with_lines}
 
 abbrev all_within : ℕ → List Line → Bool
 all_within most ls = list_all (λ (l : Line). nat_le (step_of l) most) ls
@@ -123,33 +123,33 @@ entry_within : (count n : ℕ) (l : Line) → is_entry n l ≡ true → nat_le (
 entry_within count n (line.Entry entry) is le = grind (arith, nat_tests, is, le)
 entry_within count n (line.Note m x) is le = true_false is
 
-any_within : (count n : ℕ) (ls : List Line) → list_any (is_entry n) ls ≡ true → all_within count ls ≡ true → nat_le n count ≡ true
-any_within count n [] is le = true_false is
-any_within count n (l ∷ ls) is le =
-    by (any_within count n ls) (or_cases (is_entry n l) (list_any (is_entry n) ls) is)
+any_within : (count : ℕ) (entry : Entry) (ls : List Line) → list_any (is_this entry) ls ≡ true → all_within count ls ≡ true → nat_le entry.number count ≡ true
+any_within count entry [] is le = true_false is
+any_within count entry (l ∷ ls) is le =
+    by (any_within count entry ls) (or_cases (is_this entry l) (list_any (is_this entry) ls) is)
   where
-    by : (list_any (is_entry n) ls ≡ true → all_within count ls ≡ true → nat_le n count ≡ true) → (is_entry n l ≡ true) ⊎ (list_any (is_entry n) ls ≡ true) → nat_le n count ≡ true
-    by rest (inl here) = entry_within count n l here (both_left (nat_le (step_of l) count) (all_within count ls) le)
+    by : (list_any (is_this entry) ls ≡ true → all_within count ls ≡ true → nat_le entry.number count ≡ true) → (is_this entry l ≡ true) ⊎ (list_any (is_this entry) ls ≡ true) → nat_le entry.number count ≡ true
+    by rest (inl here) = entry_within count entry.number l (both_left (is_entry entry.number l) (same_entry entry l) here) (both_left (nat_le (step_of l) count) (all_within count ls) le)
     by rest (inr there) = rest there (both_right (nat_le (step_of l) count) (all_within count ls) le)
 
 -- it is of this node
-pub agreed_here : (here : Bool) (n : ℕ) (j : Journal) → agreement here n j ≢ agree.No → here ≡ true
-agreed_here true n j not = refl
-agreed_here false n j not = absurd (not refl)
+pub agreed_here : (here : Bool) (entry : Entry) (j : Journal) → agreement here entry j ≢ agree.No → here ≡ true
+agreed_here true entry j not = refl
+agreed_here false entry j not = absurd (not refl)
 
 -- and of a step that was made
-pub agreed_within : (count n : ℕ) (here : Bool) (j : Journal) → AreNumbered count j → agreement here n j ≢ agree.No → nat_le n count ≡ true
-agreed_within count n false j h not = absurd (not refl)
-agreed_within count n true j h not = by (nat_le n j.covered) refl (list_any (is_entry n) j.list) refl
+pub agreed_within : (count : ℕ) (entry : Entry) (here : Bool) (j : Journal) → AreNumbered count j → agreement here entry j ≢ agree.No → nat_le entry.number count ≡ true
+agreed_within count entry false j h not = absurd (not refl)
+agreed_within count entry true j h not = by (nat_le entry.number j.covered) refl (list_any (is_this entry) j.list) refl
   where
-    below : nat_le n j.covered ≡ true → nat_le n count ≡ true
-    below le = grind (arith, nat_tests, le, h.covered)
+    below : (n : ℕ) → nat_le n j.covered ≡ true → nat_le n count ≡ true
+    below n le = grind (arith, nat_tests, le, h.covered)
 
-    by : (b : Bool) → nat_le n j.covered ≡ b → (c : Bool) → list_any (is_entry n) j.list ≡ c → nat_le n count ≡ true
-    by true le c e = below le
-    by false le true e = any_within count n j.list e h.most
+    by : (b : Bool) → nat_le entry.number j.covered ≡ b → (c : Bool) → list_any (is_this entry) j.list ≡ c → nat_le entry.number count ≡ true
+    by true le c e = below entry.number le
+    by false le true e = any_within count entry j.list e h.most
     by false le false e =
-        absurd (not (ap (λ b. cond b agree.Folded (cond (list_any (is_entry n) j.list) agree.Yes agree.No)) le ∙ ap (λ b. cond b agree.Yes agree.No) e))
+        absurd (not (ap (λ b. cond b agree.Folded (cond (list_any (is_this entry) j.list) agree.Yes agree.No)) le ∙ ap (λ b. cond b agree.Yes agree.No) e))
 
 pub same_here : (a b : ℕ) → (a == b) ≡ true → a ≡ b
 same_here a b h = grind (arith, nat_tests, h)

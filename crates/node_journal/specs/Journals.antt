@@ -26,6 +26,7 @@ use Rattle.node_journal.specs.declared.entries.Agreement.{Agreement}
 use Rattle.node_journal.specs.declared.entries.Agreement.TheVariants as agree
 use Rattle.node_journal.specs.declared.entries.Line.{Line}
 use Rattle.node_journal.specs.declared.entries.Line.TheVariants as line
+use Rattle.node_journal.specs.contracts.entries.EntryPartialEq.TheImpl.{ghosts as equal}
 use Rattle.node_journal.specs.Replies.{unlisted, kept_reply}
 
 -- ---- a job's journal
@@ -215,12 +216,21 @@ abbrev pub is_entry : ℕ → Line → Bool
 is_entry number (line.Entry entry) = entry.number == number
 is_entry number (line.Note n x) = false
 
--- what the journal of its job says of a receipt of this number, if it is of this node
-abbrev pub agreement : Bool → ℕ → Journal → Agreement
-agreement here number journal =
+-- whether it is an entry that compares as equal to this one
+abbrev pub same_entry : Entry → Line → Bool
+same_entry entry (line.Entry own) = equal.eq entry own
+same_entry entry (line.Note n x) = false
+
+-- whether it is this entry
+abbrev pub is_this : Entry → Line → Bool
+is_this entry l = is_entry entry.number l && same_entry entry l
+
+-- what the journal of its job says of a receipt of this entry, if it is of this node
+abbrev pub agreement : Bool → Entry → Journal → Agreement
+agreement here entry journal =
     if not here then agree.No else
-    (if nat_le number journal.covered then agree.Folded else
-    (if list_any (is_entry number) journal.list then agree.Yes else agree.No))
+    (if nat_le entry.number journal.covered then agree.Folded else
+    (if list_any (is_this entry) journal.list then agree.Yes else agree.No))
 
 -- ---- events
 

@@ -3,7 +3,7 @@ ghost use Rattle.std.specs.Prelude.{◌≡◌};
 ghost use Rattle.obj_id.specs.declared.commands.Reply.TheVariants as reply;
 ghost use Rattle.private_store.specs.declared.schedules.NodeEvent.TheVariants as node_event;
 ghost use Rattle.node_core.specs.Steps.{job_at};
-ghost use Rattle.node_journal.specs.Journals.{begins, entry_for, is_entry, step_of};
+ghost use Rattle.node_journal.specs.Journals.{begins, entry_for, is_entry, same_entry, step_of};
 ghost use Rattle.node_journal.specs.Replies.{kept_reply};
 
 use crate::copies::copy_of;
@@ -16,7 +16,7 @@ use std::marker::PhantomData;
 use std::sync::ledger::Ledger;
 
 /// An entry of a job's journal.
-#[derive(Debug, Drop)]
+#[derive(Debug, PartialEq, Eq, Drop)]
 pub struct Entry {
     /// From 1, over all jobs of the node.
     pub number: u64,
@@ -57,6 +57,16 @@ impl Line {
         }
     }
 
+    /// Whether it is an entry with all that this one has.
+    pub(crate) fn is_same(&self, entry: &Entry) -> bool
+        ensures { result ≡ same_entry entry.now self.now }
+    {
+        match self {
+            Line::Entry(own) => entry == own,
+            Line::Note(_, _) => false,
+        }
+    }
+
     /// Whether it is of the job's admission.
     pub(crate) fn begins(&self) -> bool
         ensures { result ≡ begins self.now }
@@ -74,9 +84,9 @@ impl Line {
 /// What a journal answers to a receipt.
 #[derive(Clone, Copy, Debug, PartialEq, Eq, Drop)]
 pub enum Agreement {
-    /// Its entry is there.
+    /// Its entry is there, with its number, input and answer.
     Yes,
-    /// It is of another node, or no entry that isn't folded has its number.
+    /// It is of another node, or its number isn't covered and its entry isn't there.
     No,
     /// Its number is covered: it was folded, if it ever was there.
     Folded,

@@ -19,9 +19,9 @@ ghost use Rattle.node_journal.specs.Posts.{IsAstray, is_entered};
 ghost use Rattle.private_store.specs.Cluster.{arrival_of};
 ghost use Rattle.private_store.specs.Jobs.{same_job};
 ghost use Rattle.obj_id.specs.declared.messages.Arrival.{Arrival};
-ghost use Rattle.node_journal.specs.Journals.{entry_for, is_entry, rise_above, Tells, AreNumbered, agreement, folded_if, journal_after, most_lines, is_call};
+ghost use Rattle.node_journal.specs.Journals.{entry_for, is_this, rise_above, Tells, AreNumbered, agreement, folded_if, journal_after, most_lines, is_call};
 
-use crate::entries::{Agreement, Line, Receipt, entry_of, job_of};
+use crate::entries::{Agreement, Entry, Line, Receipt, entry_of, job_of};
 use crate::folding::{MOST_LINES, base_of, bases_of};
 use crate::logs::Logs;
 use crate::posts::{Made, Posted, arrival};
@@ -202,7 +202,7 @@ impl<L: Ledger> Kept<L> {
     ///
     /// `Stale` if the journal says No of the receipt, and `NoMemory` as `step`: then nothing has changed.
     pub fn step_after(&mut self, receipt: &Receipt<L>, event: &Event) -> Result<Made<L>, Refusal>
-        ensures stale { IsErrOf result Stale ↔ (agreement (receipt.now.node == self.old.number) receipt.now.entry.number (journal_of self.old.logs receipt.now.job.0) ≡ No) }
+        ensures stale { IsErrOf result Stale ↔ (agreement (receipt.now.node == self.old.number) receipt.now.entry (journal_of self.old.logs receipt.now.job.0) ≡ No) }
         ensures later { IfOk result (λ r. (r.receipt.node ≡ receipt.now.node) × (receipt.now.entry.number < r.receipt.entry.number)) }
         ensures node { IfOk result (λ r. Steps self.old.node (node_event.Own event.now) (given_of r.outcome) self.new.node) }
         ensures journal { IfOk result (λ r. (job : ℕ) → journal_of self.new.logs job
@@ -287,10 +287,10 @@ impl<L: Ledger> Kept<L> {
         self.node.has_work()
     }
 
-    /// What the journal says of a receipt: `No` to another node's; `Folded` where its number is covered; and else whether the
-    /// entry of its job and number is there, which is looked for by bisection.
+    /// What the journal says of a receipt: `No` to another node's; `Folded` if its number is covered; and otherwise whether its entry
+    /// is there under its job, with its number, input and answer. The number is looked for by bisection.
     pub fn agrees(&self, receipt: &Receipt<L>) -> Agreement
-        ensures { result ≡ agreement (receipt.now.node == self.now.number) receipt.now.entry.number (journal_of self.now.logs receipt.now.job.0) }
+        ensures { result ≡ agreement (receipt.now.node == self.now.number) receipt.now.entry (journal_of self.now.logs receipt.now.job.0) }
     {
         if receipt.node() != self.number {
             return Agreement::No;
@@ -298,7 +298,7 @@ impl<L: Ledger> Kept<L> {
         if receipt.number() <= self.covered(receipt.job()) {
             return Agreement::Folded;
         }
-        if has_entry(self.list(receipt.job()), receipt.number()) {
+        if has_entry(self.list(receipt.job()), &receipt.entry) {
             Agreement::Yes
         } else {
             Agreement::No
@@ -330,20 +330,20 @@ impl<L: Ledger> Kept<L> {
     }
 }
 
-/// Whether one of these lines, whose numbers rise, is the entry of this number.
-fn has_entry(lines: &[Line], number: u64) -> bool
+/// Whether one of these lines, whose numbers rise, is this entry.
+fn has_entry(lines: &[Line], entry: &Entry) -> bool
     requires rise { (low : ℕ) × (rise_above low lines.now ≡ true) }
     requires few { length lines.now ≤ most_lines }
-    ensures { result ≡ list_any (is_entry number) lines.now }
+    ensures { result ≡ list_any (is_this entry.now) lines.now }
 {
     let mut rest = lines;
     while !rest.is_empty() {
         let middle = rest.len() / 2;
         let line = &rest[middle];
-        if line.number() < number {
+        if line.number() < entry.number {
             rest = &rest[middle + 1..];
-        } else if line.is_entry(number) {
-            return true;
+        } else if line.is_entry(entry.number) {
+            return line.is_same(entry);
         } else {
             rest = &rest[..middle];
         }

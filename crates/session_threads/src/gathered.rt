@@ -93,7 +93,7 @@ pub(crate) fn look_for<L: Ledger, R: Wait>(
 
 /// Of how many of the receipts the journal says that the entry isn't there. One that was folded isn't counted.
 fn count_missing<L: Ledger>(kept: &Kept<L>, receipts: &[Receipt<L>]) -> u64
-    ensures { result ≡ length (filter (λ r. is_no (agreement (r.node == kept.now.number) r.entry.number (journal_of kept.now.logs r.job.0))) receipts.now) }
+    ensures { result ≡ length (filter (λ r. is_no (agreement (r.node == kept.now.number) r.entry (journal_of kept.now.logs r.job.0))) receipts.now) }
 {
     receipts
         .iter()
@@ -103,7 +103,7 @@ fn count_missing<L: Ledger>(kept: &Kept<L>, receipts: &[Receipt<L>]) -> u64
 
 /// Whether the journal says that the receipt's entry isn't there.
 fn is_missing<L: Ledger>(kept: &Kept<L>, receipt: &Receipt<L>) -> bool
-    ensures { result ≡ is_no (agreement (receipt.now.node == kept.now.number) receipt.now.entry.number (journal_of kept.now.logs receipt.now.job.0)) }
+    ensures { result ≡ is_no (agreement (receipt.now.node == kept.now.number) receipt.now.entry (journal_of kept.now.logs receipt.now.job.0)) }
 {
     matches!(kept.agrees(receipt), Agreement::No)
 }

@@ -17,12 +17,12 @@ returns-clause-later g c =
     elim c.match-matches.branch [
       | in-No w ↦ true_false (sym c.if-matches.false ∙ w.matches-is)
       | in_default w ↦
-          let agreed : agreement here shown.entry.number journal ≢ No = λ e. w.in_default.not-No (c.agrees.ensures ∙ e) in
+          let agreed : agreement here shown.entry journal ≢ No = λ e. w.in_default.not-No (c.agrees.ensures ∙ e) in
           IfOk-weaker c.step.result _ _
           (λ r told. (
-            told.0 ∙ sym (same_here shown.node old.number (agreed_here here shown.entry.number journal agreed)),
+            told.0 ∙ sym (same_here shown.node old.number (agreed_here here shown.entry journal agreed)),
             less_than_next shown.entry.number old.count _ _
-                (agreed_within old.count shown.entry.number here journal (old.numbered shown.job.0) agreed)
+                (agreed_within old.count shown.entry here journal (old.numbered shown.job.0) agreed)
                 told.2 refl,
           ))
           c.step.ensures.receipt
