@@ -31,6 +31,7 @@ pub struct Window {
     quota: u64,
     // By rising offset.
     extents: Vec<Extent>,
+    // As far as bytes were ever placed; what lies past its end up to the quota is reserved and was never written.
     memory: Vec<u8>,
     // What the extents leave free.
     holes: Holes,
@@ -44,12 +45,12 @@ impl Model for Window {
 
     ghost Value = { Region };
 
-    ghost use Rattle.job_region.specs.Layout.{placed_in, IsLaid};
-    ghost use Rattle.std.specs.Prelude.{vec_len};
+    ghost use Rattle.job_region.specs.Layout.{placed_in, filled, IsLaid};
+    ghost use Rattle.std.specs.Prelude.{vec_len, vec_capacity};
 
-    ghost view = { λ w. record { quota = w.quota; placed = placed_in w.memory.items w.extents.items } };
+    ghost view = { λ w. record { quota = w.quota; placed = placed_in (filled w.quota w.memory.items) w.extents.items } };
 
-    ghost invariant = { λ w. IsLaid w.quota w.memory.items w.extents.items w.holes (vec_len w.rooms) };
+    ghost invariant = { λ w. IsLaid w.quota w.memory.items (vec_capacity w.memory) w.extents.items w.holes (vec_len w.rooms) };
 }
 
 impl Window {
@@ -63,7 +64,7 @@ impl Window {
         if !is_window(quota) {
             return Err(Refusal::BadSize);
         }
-        let memory = zeros(alloc, quota)?;
+        let memory = Vec::with_capacity(alloc, quota as usize)?;
         let mut holes = Holes::new();
         holes.put(
             Room::new(alloc)?,
@@ -351,13 +352,6 @@ fn is_window(quota: u64) -> bool
     quota >= UNIT && quota <= WIDEST_WINDOW && quota % UNIT == 0
 }
 
-/// So many zeros.
-fn zeros(alloc: Global, len: u64) -> Result<Vec<u8>, AllocError>
-    ensures { IfOk result (λ v. v.items ≡ replicate len 0) }
-{
-    Ok(vec![in alloc; 0; len as usize]?)
-}
-
 /// How many extents begin before an offset.
 fn place_of(extents: &[Extent], offset: u64) -> usize
     requires { IsNonDecreasingBy (λ (e : Extent). e.offset) extents.now }
@@ -434,38 +428,56 @@ fn slice_at(memory: &Vec<u8>, from: usize, len: usize) -> &[u8]
     &memory[from..from + len]
 }
 
-/// Writes zeros.
+/// Writes zeros from an offset on, where the memory has bytes or ends. What passes its end lengthens it, and takes no memory.
 fn clear_bytes(memory: &mut Vec<u8>, offset: u64, len: u64)
-    requires { offset + len ≤ length memory.old.items }
-    ensures { memory.new.items ≡ overwritten memory.old.items offset (replicate len 0) }
+    requires begins { offset ≤ length memory.old.items }
+    requires reserved { offset + len ≤ vec_capacity memory.old }
+    requires small { offset + len < 2 ^ 29 }
+    ensures items { memory.new.items ≡ overwritten memory.old.items offset (replicate len 0) }
+    ensures capacity { vec_capacity memory.old ≤ vec_capacity memory.new }
 {
     let start = offset as usize;
-    memory[start..start + len as usize].fill(0);
+    let end = start + len as usize;
+    let written = end.min(memory.len());
+    fill_zeros(memory, start, written);
+    if written < end {
+        memory.resize(end, 0).unwrap();
+    }
+}
+
+/// Writes zeros over the bytes from an offset to another.
+fn fill_zeros(memory: &mut Vec<u8>, start: usize, end: usize)
+    requires { (start ≤ end) × (end ≤ length memory.old.items) }
+    ensures items { memory.new.items ≡ overwritten memory.old.items start (replicate (end - start) 0) }
+    ensures capacity { vec_capacity memory.new ≡ vec_capacity memory.old }
+{
+    memory[start..end].fill(0);
 }
 
 /// Writes bytes into the part of the memory that begins at `from`, at an offset in it.
 fn copy_in(memory: &mut Vec<u8>, from: usize, off: usize, bytes: &[u8])
     requires { from + off + length bytes.now ≤ length memory.old.items }
-    ensures { memory.new.items ≡ overwritten memory.old.items (from + off) bytes.now }
+    ensures items { memory.new.items ≡ overwritten memory.old.items (from + off) bytes.now }
+    ensures capacity { vec_capacity memory.new ≡ vec_capacity memory.old }
 {
     let start = from + off;
     memory[start..start + bytes.len()].copy_from_slice(bytes);
 }
 
-/// Cuts the memory, or fills it up with zeros. Cutting takes no memory.
+/// Cuts the memory, or reserves what it lacks. Cutting takes no memory.
 fn resize_bytes(memory: &mut Vec<u8>, len: u64) -> Result<(), AllocError>
-    requires { length memory.old.items < 2 ^ 29 }
-    ensures ok { OnOk result (memory.new.items ≡ take len memory.old.items ++ replicate (len - length memory.old.items) 0) }
+    ensures ok { OnOk result (memory.new.items ≡ take len memory.old.items) }
+    ensures reserved { OnOk result (vec_capacity memory.old < len → len ≤ vec_capacity memory.new) }
+    ensures capacity { vec_capacity memory.old ≤ vec_capacity memory.new }
     ensures err { OnErr result (memory.new.items ≡ memory.old.items) }
-    ensures grows { OnErr result (length memory.old.items < len) }
+    ensures grows { OnErr result (vec_capacity memory.old < len) }
 {
     let len = len as usize;
     if len <= memory.len() {
         memory.truncate(len);
         return Ok(());
     }
-    memory.resize(len, 0)?;
-    Ok(())
+    memory.reserve_exact(len - memory.len())
 }
 
 /// Where so many bytes go once these extents are gone, if they go to `found` before. Only what the extents

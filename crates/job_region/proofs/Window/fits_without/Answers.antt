@@ -4,7 +4,7 @@ use Rattle.obj_id.specs.declared.works.Extent.{Extent}
 use Rattle.private_store.specs.Extents as extents
 use Rattle.hole_tree.specs.declared.Hole.{Hole}
 use Rattle.hole_tree.specs.Holes.{first_fitting}
-use Rattle.job_region.specs.Layout.{gap, kept}
+use Rattle.job_region.specs.Layout.{filled, gap, kept}
 use Rattle.job_region.specs.Region.{Region, extents_of, without}
 use Rattle.job_region.proofs.Found.{none_for, place_is}
 use Rattle.job_region.proofs.Free.{hole_is_gap}
@@ -22,7 +22,7 @@ least_without-requires-clause-found c =
     let need = c.rounded.result in
     let some : 0 < need = omega (arith, c.rounded.ensures, c.if-len-eq0.false) in
     c.search-found.ensures.offset
-    ∙ place_is w.memory.items w.quota c.args.len need w.extents.items w.holes c.rounded.ensures c.self.invariant.whole c.self.invariant.laid some c.self.invariant.free c.args.self.now c.self.view_is
+    ∙ place_is (filled w.quota w.memory.items) w.quota c.args.len need w.extents.items w.holes c.rounded.ensures c.self.invariant.whole c.self.invariant.laid some c.self.invariant.free c.args.self.now c.self.view_is
     ∙ ap (λ (hs : List Hole). option_map (λ (h : Hole). h.offset) (first_fitting need hs)) c.self.invariant.free
     ∙ hole_is_gap w.quota need some 0 w.extents.items
     ∙ ap (gap w.quota need 0) (sym c.deref.ensures.value)
@@ -34,5 +34,5 @@ returns c =
     let gone = c.args.gone.now in
     c.least_without.ensures
     ∙ ap (λ (es : List Extent). gap w.quota need 0 (kept gone es)) c.deref.ensures.value
-    ∙ sym (first_is_gap w.memory.items gone w.quota c.args.len need w.extents.items c.rounded.ensures c.self.invariant.whole c.self.invariant.laid)
+    ∙ sym (first_is_gap (filled w.quota w.memory.items) gone w.quota c.args.len need w.extents.items c.rounded.ensures c.self.invariant.whole c.self.invariant.laid)
     ∙ ap (λ (r : Region). extents.first (extents_of (without gone r.placed)) r.quota c.args.len) c.self.view_is
