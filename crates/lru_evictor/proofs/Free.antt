@@ -17,16 +17,14 @@ use Rattle.lru_evictor.specs.Facts.{Looked, gone_of, fits_without}
 abbrev pub goes : List Extent → ℕ → Bool
 goes gone offset = list_any (λ g. nat_eq g.offset offset) gone
 
--- which extents go doesn't depend on their order
+-- only where extents begin that go decides what is left
+pub without-same : (gone other : List Extent) → ((offset : ℕ) → goes gone offset ≡ goes other offset) → (placed : List (ℕ × List ℕ)) → without gone placed ≡ without other placed
+without-same gone other h [] = refl
+without-same gone other h (p ∷ ps) = λ i. cond (not (h p.0 i)) (p ∷ without-same gone other h ps i) (without-same gone other h ps i)
+
+-- and so not their order
 pub without-permuted : (gone sorted : List Extent) (placed : List (ℕ × List ℕ)) → IsPermutation gone sorted → without sorted placed ≡ without gone placed
-without-permuted gone sorted placed moved = λ i. filter_by (λ p. sym (list_any-IsPermutation (λ (g : Extent). nat_eq g.offset p.0) gone sorted moved)) i
-  where
-    filter_by : ((p : ℕ × List ℕ) → goes sorted p.0 ≡ goes gone p.0) → without sorted placed ≡ without gone placed
-    filter_by h = over placed
-      where
-        over : (ps : List (ℕ × List ℕ)) → without sorted ps ≡ without gone ps
-        over [] = refl
-        over (p ∷ ps) = λ i. cond (not (h p i)) (p ∷ over ps i) (over ps i)
+without-permuted gone sorted placed moved = without-same sorted gone (λ offset. sym (list_any-IsPermutation (λ (g : Extent). nat_eq g.offset offset) gone sorted moved)) placed
 
 -- what passes a test of what is left
 pub all-left : (test : Extent → Bool) (gone : List Extent) (placed : List (ℕ × List ℕ)) → list_all test (extents_of (without gone placed)) ≡ list_all (λ e. goes gone e.offset || test e) (extents_of placed)

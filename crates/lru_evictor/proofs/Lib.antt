@@ -6,3 +6,4 @@ pub mod Needed
 pub mod Described
 pub mod Planned
 pub mod Rooms
+pub mod Firsts

@@ -25,9 +25,13 @@ passes_at facts choice id = option_map_or (passes choice) (facts id) false
 abbrev pub chosen : Looked → Choice → List ObjectId → List ObjectId
 chosen facts choice order = filter (passes_at facts choice) order
 
+-- where the copy of an id lies
+abbrev pub extent_at : Looked → ObjectId → Option Extent
+extent_at facts id = option_and_then (λ copy. copy.extent) (facts id)
+
 -- the extents that go with copies
 abbrev pub gone_of : Looked → List ObjectId → List Extent
-gone_of facts out = filter_map (λ id. option_and_then (λ copy. copy.extent) (facts id)) out
+gone_of facts out = filter_map (extent_at facts) out
 
 -- whether n bytes would fit if these copies were not there
 abbrev pub fits_without : Region → Looked → ℕ → List ObjectId → Bool

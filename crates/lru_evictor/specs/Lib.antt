@@ -1,3 +1,4 @@
 pub mod Orders
 pub mod Facts
 pub mod Plans
+pub mod Leavings

@@ -4,7 +4,9 @@ ghost use Rattle.std.specs.Option.{option_map};
 ghost use Rattle.std.specs.List.Sorted.{IsPermutation, IsNonDecreasingBy};
 ghost use Rattle.obj_id.specs.declared.works.Extent.{Extent};
 ghost use Rattle.private_store.specs.Room.{shortest as shortest_beginning};
-ghost use Rattle.lru_evictor.specs.Facts.{chosen, passes_at, gone_of, fits_without as is_room_without, device_bytes, AreNeeded};
+ghost use Rattle.lru_evictor.specs.declared.search.Leaving.{Leaving};
+ghost use Rattle.lru_evictor.specs.Facts.{chosen, passes_at, extent_at, gone_of, fits_without as is_room_without, device_bytes, AreNeeded};
+ghost use Rattle.lru_evictor.specs.Leavings.{leaving_of as all_leaving, firsts, fits_first as is_room_first};
 
 use crate::facts::{Choice, CopyLookup, DeviceRoom, is_chosen};
 use crate::use_order::Order;
@@ -39,6 +41,13 @@ pub(crate) fn gather<C: CopyLookup>(
     Ok(())
 }
 
+/// Where the copy of the id lies, if there is one and it is resident.
+fn extent_of<C: CopyLookup>(copies: &C, id: &ObjectId) -> Option<Extent>
+    ensures { result ≡ extent_at (C.facts copies.now) id.now }
+{
+    copies.facts(id)?.extent
+}
+
 /// The extents of resident copies, in the order of the ids.
 fn extents_of<C: CopyLookup>(
     alloc: Global,
@@ -49,10 +58,8 @@ fn extents_of<C: CopyLookup>(
 {
     let mut extents = Vec::new(alloc);
     for id in ids {
-        if let Some(facts) = copies.facts(id) {
-            if let Some(extent) = facts.extent {
-                extents.push(extent)?;
-            }
+        if let Some(extent) = extent_of(copies, id) {
+            extents.push(extent)?;
         }
     }
     Ok(extents)
@@ -81,43 +88,107 @@ fn sort_extents(extents: &mut Vec<Extent>) -> Result<(), AllocError>
     Ok(())
 }
 
-/// Whether so many bytes would fit if the first `count` of these copies were not there.
+/// Whether so many bytes would fit if these copies were not there.
 fn fits_without<C: CopyLookup>(
     alloc: Global,
     window: &Window,
     copies: &C,
-    ids: &Vec<ObjectId>,
-    count: usize,
+    ids: &[ObjectId],
     len: u32,
 ) -> Result<bool, AllocError>
-    requires { count ≤ length ids.now.items }
-    ensures { IfOk result (λ b. b ≡ is_room_without window.now (C.facts copies.now) len (take count ids.now.items)) }
+    ensures { IfOk result (λ b. b ≡ is_room_without window.now (C.facts copies.now) len ids.now) }
 {
-    let gone = extents_by_offset(alloc, copies, &ids[..count])?;
+    let gone = extents_by_offset(alloc, copies, ids)?;
     Ok(window.fits_without(&gone, len).is_some())
 }
 
-/// How many of these copies have to go for so many bytes to fit, where the first `few` are too few and
-/// the first `enough` are enough. Takes a test for each time that the distance is halved.
-fn bisect<C: CopyLookup>(
+/// The extent of a copy that may go, and the copy's place in the order in which they go.
+#[derive(Clone, Copy, Debug)]
+struct Leaving {
+    extent: Extent,
+    place: usize,
+}
+
+/// The extents of resident copies in the order of the ids, each with its copy's place in that.
+fn leaving_of<C: CopyLookup>(
+    alloc: Global,
+    copies: &C,
+    ids: &[ObjectId],
+) -> Result<Vec<Leaving>, AllocError>
+    ensures { IfOk result (λ v. v.items ≡ all_leaving (C.facts copies.now) 0 ids.now) }
+{
+    let mut leaving = Vec::new(alloc);
+    let mut place = 0;
+    for id in ids {
+        if let Some(extent) = extent_of(copies, id) {
+            leaving.push(Leaving { extent, place })?;
+        }
+        place += 1;
+    }
+    Ok(leaving)
+}
+
+/// The extents by rising offset.
+fn sort_leaving(leaving: &mut Vec<Leaving>) -> Result<(), AllocError>
+    ensures permutation { IsPermutation leaving.old.items leaving.new.items }
+    ensures rising { OnOk result (IsNonDecreasingBy (λ (l : Leaving). l.extent.offset) leaving.new.items) }
+{
+    leaving.sort_by_key(|l| l.extent.offset)?;
+    Ok(())
+}
+
+/// The extents of the first `count` copies, in the order in which all are given.
+fn first_extents(
+    alloc: Global,
+    leaving: &[Leaving],
+    count: usize,
+) -> Result<Vec<Extent>, AllocError>
+    ensures { IfOk result (λ v. v.items ≡ firsts count leaving.now) }
+{
+    let mut extents = Vec::new(alloc);
+    for l in leaving {
+        if l.place < count {
+            extents.push(l.extent)?;
+        }
+    }
+    Ok(extents)
+}
+
+/// Whether so many bytes would fit if the first `count` copies were not there. Takes no look-up and no sort.
+fn fits_first(
     alloc: Global,
     window: &Window,
-    copies: &C,
-    ids: &Vec<ObjectId>,
+    leaving: &[Leaving],
+    count: usize,
+    len: u32,
+) -> Result<bool, AllocError>
+    requires { IsNonDecreasingBy (λ (l : Leaving). l.extent.offset) leaving.now }
+    ensures { IfOk result (λ b. b ≡ is_room_first window.now len leaving.now count) }
+{
+    let gone = first_extents(alloc, leaving, count)?;
+    Ok(window.fits_without(&gone, len).is_some())
+}
+
+/// How many copies have to go for so many bytes to fit, where the first `few` are too few and the first
+/// `enough` are enough. Takes a test for each time that the distance is halved.
+fn bisect(
+    alloc: Global,
+    window: &Window,
+    leaving: &[Leaving],
     few: usize,
     enough: usize,
     len: u32,
 ) -> Result<usize, AllocError>
+    requires by_offset { IsNonDecreasingBy (λ (l : Leaving). l.extent.offset) leaving.now }
     requires rising { few ≤ enough }
-    requires within { enough ≤ length ids.now.items }
-    requires few { is_room_without window.now (C.facts copies.now) len (take few ids.now.items) ≡ false }
-    requires enough { is_room_without window.now (C.facts copies.now) len (take enough ids.now.items) ≡ true }
-    ensures { IfOk result (AreNeeded window.now (C.facts copies.now) len ids.now.items) }
+    requires few { is_room_first window.now len leaving.now few ≡ false }
+    requires enough { is_room_first window.now len leaving.now enough ≡ true }
+    ensures { IfOk result (λ k. (k ≤ enough) × (is_room_first window.now len leaving.now k ≡ true) × (is_room_first window.now len leaving.now (k - 1) ≡ false)) }
 {
     let (mut few, mut enough) = (few, enough);
     while enough - few > 1 {
         let middle = few + (enough - few) / 2;
-        if fits_without(alloc, window, copies, ids, middle, len)? {
+        if fits_first(alloc, window, leaving, middle, len)? {
             enough = middle;
         } else {
             few = middle;
@@ -127,7 +198,7 @@ fn bisect<C: CopyLookup>(
 }
 
 /// How many of these copies have to go for so many bytes to fit, where the first `few` are too few, or
-/// `None` where all of them are.
+/// `None` where all of them are. Takes one look-up for each and one sort, however many tests it takes.
 fn needed<C: CopyLookup>(
     alloc: Global,
     window: &Window,
@@ -141,9 +212,11 @@ fn needed<C: CopyLookup>(
     ensures found { IfOk result (λ r. IfSome r (AreNeeded window.now (C.facts copies.now) len ids.now.items)) }
     ensures none { IfOk result (λ r. IfNone r (is_room_without window.now (C.facts copies.now) len ids.now.items ≡ false)) }
 {
+    let mut leaving = leaving_of(alloc, copies, ids)?;
+    sort_leaving(&mut leaving)?;
     let all = ids.len();
-    if fits_without(alloc, window, copies, ids, all, len)? {
-        let count = bisect(alloc, window, copies, ids, few, all, len)?;
+    if fits_first(alloc, window, &leaving, all, len)? {
+        let count = bisect(alloc, window, &leaving, few, all, len)?;
         Ok(Some(count))
     } else {
         Ok(None)
@@ -154,8 +227,8 @@ fn needed<C: CopyLookup>(
 /// many bytes to fit, where those in `ids` go in any case; `None` where all of them are too few. The
 /// walk goes as far as it must, and what it chose stands behind the others in `ids`.
 ///
-/// Takes tests at one chosen copy, two, four and so on, and then a bisection: as many tests as twice the
-/// logarithm of how many go, each with a look-up and a sort of the copies that go.
+/// Looks at one chosen copy, two, four and so on, each time with one look-up of each and one sort, and where these
+/// are enough finds how many are by bisection, which takes neither.
 pub(crate) fn shortest<C: CopyLookup>(
     alloc: Global,
     order: Order<'_>,
@@ -171,7 +244,7 @@ pub(crate) fn shortest<C: CopyLookup>(
     ensures all { IfOk result (λ r. IfNone r (ids.new.items ≡ ids.old.items ++ chosen (C.facts copies.now) choice order.entry)) }
 {
     let always = ids.len();
-    if fits_without(alloc, window, copies, ids, always, len)? {
+    if fits_without(alloc, window, copies, ids, len)? {
         return Ok(Some(always));
     }
     let mut few = always;

@@ -7,7 +7,9 @@ use Rattle.lru_evictor.proofs.search.shortest.Goals as goal
 pub returns-then-branch-clause-found : goal.returns-then-branch-clause-found
 returns-then-branch-clause-found g c =
     let all : c.len-always.result ≡ length c.args.ids.now.items = omega (arith, c.len-always.ensures) in
-    let enough = ap (λ k. fits_without c.args.window.now (g.C.CopyLookup.facts c.args.copies.now) c.args.len (take k c.args.ids.now.items)) (sym all) ∙ sym c.in_ok-fits_without.ensures ∙ c.if-branch.true in
+    let fits = fits_without c.args.window.now (g.C.CopyLookup.facts c.args.copies.now) c.args.len in
+    let whole = take_all (length c.args.ids.now.items) c.args.ids.now.items (omega arith) in
+    let enough = ap fits (whole ∙ sym c.deref.ensures.value) ∙ sym c.in_ok-fits_without.ensures ∙ c.if-branch.true in
     ap (λ k. Some (drop (length c.args.ids.now.items) (take k c.args.ids.now.items))) all
     ∙ found_at_once c.args.window.now (g.C.CopyLookup.facts c.args.copies.now) c.args.len c.args.ids.now.items (chosen (g.C.CopyLookup.facts c.args.copies.now) c.args.choice c.args.order) enough
 
@@ -15,7 +17,7 @@ pub loop-id-init : goal.loop-id-init
 loop-id-init g c = record {
   low = omega (arith, c.len-always.ensures);
   within = omega (arith, c.len-always.ensures);
-  few = sym c.in_ok-fits_without.ensures ∙ c.if-branch.false;
+  few = ap (fits_without c.args.window.now (g.C.CopyLookup.facts c.args.copies.now) c.args.len) (take_all c.len-always.result c.args.ids.now.items (omega (arith, c.len-always.ensures)) ∙ sym c.deref.ensures.value) ∙ sym c.in_ok-fits_without.ensures ∙ c.if-branch.false;
   left = omega arith;
   front = take_all (length c.args.ids.now.items) c.args.ids.now.items (omega arith);
   behind =

@@ -1,0 +1,7 @@
+use Rattle.std.proofs.Common.{rules}
+use Rattle.std.proofs.lemmas.List.Sorted.{IsNonDecreasingBy-from_sort_by_key}
+use Rattle.lru_evictor.specs.declared.search.Leaving.{Leaving}
+use Rattle.lru_evictor.proofs.search.sort_leaving.Goals as goal
+
+pub returns-clause-rising : goal.returns-clause-rising
+returns-clause-rising c = IsNonDecreasingBy-from_sort_by_key (λ (l : Leaving). l.extent.offset) _ c.in_ok-sort_by_key.ensures.sorted (λ a r q k. search rules)
