@@ -16,14 +16,14 @@ use Rattle.journal_replay.specs.declared.fault.ReplayFault.{ReplayFault}
 use Rattle.journal_replay.specs.declared.fault.ReplayFault.TheVariants.{NotAnEntry, Input, Output, NoMemory}
 use Rattle.journal_replay.specs.declared.replay.Outcome.{Outcome}
 use Rattle.journal_replay.specs.declared.replay.Replay.{Replay}
-use Rattle.journal_replay.specs.Journals.{AreRead, IsNoEntry, IsNoHead, JournalEnds, bytes_of, entries_of, journal_bytes, with_feed}
+use Rattle.journal_replay.specs.Journals.{AreRead, IsNoEntry, IsNoHead, JournalEnds, bytes_of, journal_bytes, with_feed}
 use Rattle.journal_replay.specs.Progress.{Adds, AddsLine, EndsLines, IsReplay, LinesEnd, Progress, StopsLines, TakesLine}
-use Rattle.journal_replay.specs.Replays.{IsFound, next_number}
+use Rattle.journal_replay.specs.Replays.{IsFound, Read, entries_of, next_number}
 
 -- ---- one line
 
 -- what was read is the only entry that the line spells
-pub takes_line : (added : Bool) (old new : Replay) (bytes text : List ℕ) (entry : Entry) → bytes ≡ with_feed text → Reads (Some entry) (IsEntryLine old.version text) → Adds added old new entry → TakesLine added old new bytes
+pub takes_line : (added : Bool) (old new : Replay) (bytes text : List ℕ) (entry : Entry) → bytes ≡ with_feed text → Reads (Some entry) (IsEntryLine old.version text) → Adds added old new (record { text = text; entry = entry }) → TakesLine added old new bytes
 takes_line true old new bytes text entry is reads adds = record { line = record { text = text; entry = entry }; is_text = is; spelled = reads.sound; added = adds }
 takes_line false old new bytes text entry is reads adds = λ before so_far.
     record {
@@ -31,7 +31,7 @@ takes_line false old new bytes text entry is reads adds = λ before so_far.
           let texts : other ≡ text = append_cancel_right other text (10 ∷ []) (sym same ∙ is) in
           let found : Some entry ≡ Some x = reads.whole x (subst (λ t. IsEntryLine old.version t x) texts spelled) in
           let one : x ≡ entry = ap (or_else entry) (sym found) in
-          adds before so_far (subst (λ e. e.address.number ≡ next_number old.version before e.address) one number);
+          adds before so_far (subst (λ e. e.address.number ≡ next_number old.version (entries_of before) e.address) one number);
     }
   where
     or_else : Entry → Option Entry → Entry
@@ -71,18 +71,18 @@ module _ (version : Version) (number : ℕ) (replay : Replay) (a r : Option (Lis
         whole = Consumes-all a r (bytes_of so_far.lines) so_far.consumed end;
         form = so_far.form;
         counted = omega (arith, counted);
-        found = subst (λ v. IsFound v (entries_of so_far.lines) replay.difference) so_far.form so_far.after.found;
+        found = subst (λ v. IsFound v so_far.lines replay.difference) so_far.form so_far.after.found;
       }
 
   module _ (r1 : Option (List ℕ)) (bytes : List ℕ) (read : Consumes r r1 bytes) where
-    pub stopped : ((before : List Entry) → IsReplay before replay → IsNoEntry replay.version before bytes) → StopsLines version a r1 number
+    pub stopped : ((before : List Read) → IsReplay before replay → IsNoEntry replay.version (entries_of before) bytes) → StopsLines version a r1 number
     stopped none =
         record {
           lines = so_far.lines;
           rest = bytes;
           read = so_far.read;
           consumed = Consumes-then a r r1 (bytes_of so_far.lines) bytes so_far.consumed read;
-          none = subst (λ v. IsNoEntry v (entries_of so_far.lines) bytes) so_far.form (none (entries_of so_far.lines) so_far.after);
+          none = subst (λ v. IsNoEntry v (entries_of so_far.lines) bytes) so_far.form (none so_far.lines so_far.after);
           numbered = sym so_far.counted;
         }
 
@@ -97,12 +97,12 @@ module _ (version : Version) (number : ℕ) (replay : Replay) (a r : Option (Lis
             record {
               whole = whole_text bytes adds.line.text adds.is_text one;
               spelled = subst (λ v. IsEntryLine v adds.line.text adds.line.entry) so_far.form adds.spelled;
-              numbered = subst (λ v. adds.line.entry.address.number ≡ next_number v before adds.line.entry.address) so_far.form (adds.added.numbered before so_far.after);
+              numbered = subst (λ v. adds.line.entry.address.number ≡ next_number v before adds.line.entry.address) so_far.form (adds.added.numbered so_far.lines so_far.after);
             },
             so_far.read,
           );
           form = adds.added.version ∙ so_far.form;
-          after = adds.added.after before so_far.after;
+          after = adds.added.after so_far.lines so_far.after;
           consumed = Consumes-then a r r1 (bytes_of so_far.lines) (with_feed adds.line.text) so_far.consumed (subst (Consumes r r1) adds.is_text read);
         }
 
@@ -120,7 +120,7 @@ whole_journal version a b c bytes is head (Ok outcome) ends =
       read = subst (λ v. AreRead v ends.lines) (sym ends.form) ends.read;
       whole = subst (λ v. IfSome a (λ all. all ≡ journal_bytes v ends.lines)) (sym ends.form) (Consumes-whole a b (with_feed (head_text version)) (bytes_of ends.lines) (subst (Consumes a b) is head) ends.whole);
       counted = ends.counted;
-      found = subst (λ v. IsFound v (entries_of ends.lines) outcome.difference) (sym ends.form) ends.found;
+      found = subst (λ v. IsFound v ends.lines outcome.difference) (sym ends.form) ends.found;
     }
 whole_journal version a b c bytes is head (Err (NotAnEntry number)) ends =
     inr (record {

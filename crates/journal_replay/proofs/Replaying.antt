@@ -1,5 +1,5 @@
 -- A replay with one line more.
-use Rattle.std.proofs.Common.{◌≡◌, ◌≢◌, ℕ, suc, Bool, true, false, cond, List, [], ◌∷◌, ◌++◌, length, map, Option, Some, None, is_some, refl, sym, ap, subst, ◌∙◌, arith}
+use Rattle.std.proofs.Common.{◌≡◌, ℕ, suc, Bool, true, false, cond, List, [], ◌∷◌, ◌++◌, length, map, Option, Some, None, is_some, refl, sym, ap, subst, ◌∙◌, arith}
 use Rattle.std.specs.Prelude.{if◌then◌else◌, MatchOption}
 use Rattle.std.proofs.lemmas.List.{length-append}
 use Rattle.obj_id.specs.declared.commands.Reply.{Reply}
@@ -12,7 +12,7 @@ use Rattle.journal_replay.specs.declared.replay.Difference.{Difference}
 use Rattle.journal_replay.specs.Inputs.{judged_of, line_of}
 use Rattle.journal_replay.specs.Progress.{AddsEntry}
 use Rattle.journal_text.specs.Saved.{place_of, same_place}
-use Rattle.journal_replay.specs.Replays.{AreReplayed, IsFirstDifference, IsFound, due_after, lines_of, next_number}
+use Rattle.journal_replay.specs.Replays.{AreReplayed, IsFirstDifference, IsFound, IsUnlike, Read, due_after, entries_of, lines_of, next_number}
 use Rattle.journal_replay.specs.States.{AreAfter, JobState, state_of}
 use Rattle.journal_text.proofs.SamePlaces.{same_place-equal, same_place-itself}
 
@@ -91,14 +91,17 @@ module _ (version : Version) (before : List Entry) (x : Entry) where
   AreReplayed-line agree due =
       at_each (λ place ls. IsReplayed (unbegun_brief place.job.0) ls) (IsReplayed-snoc (unbegun_brief here.job.0) lines (line_of version x) (agree here) due) (λ place t. agree place)
 
+-- ---- what is found with a line more
+
+module _ (version : Version) (before : List Read) (line : Read) where
   -- an older difference stays the first
-  pub later-difference : (d : Difference) → IsFirstDifference version before d → IsFirstDifference version (x ∷ before) d
+  later-difference : (d : Difference) → IsFirstDifference version before d → IsFirstDifference version (line ∷ before) d
   later-difference d first =
       record {
-        later = x ∷ first.later;
-        entry = first.entry;
+        later = line ∷ first.later;
+        line = first.line;
         before = first.before;
-        found = ap (λ r. x ∷ r) first.found;
+        found = ap (λ r. line ∷ r) first.found;
         agree = first.agree;
         at = first.at;
         had = first.had;
@@ -106,57 +109,58 @@ module _ (version : Version) (before : List Entry) (x : Entry) where
         differs = first.differs;
       }
 
-  -- without one, this line's is
-  pub found-line : (o : Option Difference) (due : Reply ℕ) → due ≡ due_after version before x → AreReplayed version before
-      → MatchOption o (x.reply ≡ due) (λ d. (x.reply ≢ due) × (d ≡ record { address = x.address; had = x.reply; due = due })) → IsFound version (x ∷ before) o
-  found-line None due is agree same = AreReplayed-line agree (same ∙ is)
-  found-line (Some d) due is agree other =
-      record {
-        later = [];
-        entry = x;
-        before = before;
-        found = refl;
-        agree = agree;
-        at = ap (λ (e : Difference). e.address) other.1;
-        had = ap (λ (e : Difference). e.had) other.1;
-        due = ap (λ (e : Difference). e.due) other.1 ∙ is;
-        differs = λ h. other.0 (sym (ap (λ (e : Difference). e.had) other.1) ∙ h ∙ ap (λ (e : Difference). e.due) other.1);
-      }
+  -- a difference that was found is kept
+  pub found-kept : (o : Option Difference) → is_some o ≡ true → IsFound version before o → IsFound version (line ∷ before) o
+  found-kept None some found = absurd cc
+  found-kept (Some d) some found = later-difference d found
 
--- a difference that was found is kept
-pub found-kept : (version : Version) (before : List Entry) (x : Entry) (o : Option Difference) → is_some o ≡ true → IsFound version before o → IsFound version (x ∷ before) o
-found-kept version before x None some found = absurd cc
-found-kept version before x (Some d) some found = later-difference version before x d found
+  module _ (due : Reply ℕ) (is : due ≡ due_after version (entries_of before) line.entry) where
+    -- without one, this line's is
+    found-line : (o : Option Difference) → AreReplayed version (entries_of before) → MatchOption o (line.entry.reply ≡ due) (IsUnlike line.text line.entry.address line.entry.reply due) → IsFound version (line ∷ before) o
+    found-line None agree same = AreReplayed-line version (entries_of before) line.entry agree (same ∙ is)
+    found-line (Some d) agree other =
+        record {
+          later = [];
+          line = line;
+          before = before;
+          found = refl;
+          agree = agree;
+          at = other.at;
+          had = other.had;
+          due = other.due_is ∙ is;
+          differs = λ h. other.differs (h ∙ other.due_is);
+        }
 
--- what is found with a line more, where nothing was found yet
-pub found-first : (version : Version) (before : List Entry) (x : Entry) (o o1 : Option Difference) (due : Reply ℕ) → is_some o ≡ false → due ≡ due_after version before x
-    → MatchOption o1 (x.reply ≡ due) (λ d. (x.reply ≢ due) × (d ≡ record { address = x.address; had = x.reply; due = due })) → IsFound version before o → IsFound version (x ∷ before) o1
-found-first version before x None o1 due none is compared found = found-line version before x o1 due is found compared
-found-first version before x (Some d) o1 due none is compared found = absurd cc
+    pub found-first : (o o1 : Option Difference) → is_some o ≡ false → MatchOption o1 (line.entry.reply ≡ due) (IsUnlike line.text line.entry.address line.entry.reply due) → IsFound version before o → IsFound version (line ∷ before) o1
+    found-first None o1 none compared found = found-line o1 found compared
+    found-first (Some d) o1 none compared found = absurd cc
 
-module _ (version : Version) (jobs new : List (JobAt × JobState)) (x : Entry) (due : Reply ℕ) (o o1 : Option Difference) where
+module _ (version : Version) (jobs new : List (JobAt × JobState)) (line : Read) (due : Reply ℕ) (o o1 : Option Difference) where
+  abbrev x : Entry
+  x = line.entry
+
   abbrev Steps : JobAt → Judged → Type 0
   Steps place input =
       x.address.number ≡ suc (state_of jobs place).last
       → ((other : JobAt) → state_of new other ≡ (if same_place place other then record { last = x.address.number; store = brief_after (state_of jobs place).store input } else state_of jobs other))
       → due ≡ (brief_step (state_of jobs place).store input).reply
-      → AddsEntry (record { version = version; jobs = jobs; difference = o }) (record { version = version; jobs = new; difference = o1 }) x
+      → AddsEntry (record { version = version; jobs = jobs; difference = o }) (record { version = version; jobs = new; difference = o1 }) line
 
-  steps_here : ((before : List Entry) → due ≡ due_after version before x → IsFound version before o → IsFound version (x ∷ before) o1) → Steps (place_of x.address) (judged_of version x.address x.input)
+  steps_here : ((before : List Read) → due ≡ due_after version (entries_of before) x → IsFound version before o → IsFound version (line ∷ before) o1) → Steps (place_of x.address) (judged_of version x.address x.input)
   steps_here found numbered moved is =
       record {
         version = refl;
-        numbered = λ before so_far. numbered ∙ last-next version before x jobs so_far.states;
+        numbered = λ before so_far. numbered ∙ last-next version (entries_of before) x jobs so_far.states;
         after = λ before so_far. record {
-          states = AreAfter-line version before x jobs so_far.states new (numbered ∙ last-next version before x jobs so_far.states) moved;
-          found = found before (answer-due version before x jobs so_far.states due is) so_far.found;
+          states = AreAfter-line version (entries_of before) x jobs so_far.states new (numbered ∙ last-next version (entries_of before) x jobs so_far.states) moved;
+          found = found before (answer-due version (entries_of before) x jobs so_far.states due is) so_far.found;
         };
       }
 
   pub adds : (place : JobAt) (input : Judged) → place ≡ place_of x.address → input ≡ judged_of version x.address x.input
-      → ((before : List Entry) → due ≡ due_after version before x → IsFound version before o → IsFound version (x ∷ before) o1)
+      → ((before : List Read) → due ≡ due_after version (entries_of before) x → IsFound version before o → IsFound version (line ∷ before) o1)
       → x.address.number ≡ suc (state_of jobs place).last
       → ((other : JobAt) → state_of new other ≡ (if same_place place other then record { last = x.address.number; store = brief_after (state_of jobs place).store input } else state_of jobs other))
       → due ≡ (brief_step (state_of jobs place).store input).reply
-      → AddsEntry (record { version = version; jobs = jobs; difference = o }) (record { version = version; jobs = new; difference = o1 }) x
+      → AddsEntry (record { version = version; jobs = jobs; difference = o }) (record { version = version; jobs = new; difference = o1 }) line
   adds place input at told found = subst (λ p. Steps p input) (sym at) (subst (λ i. Steps (place_of x.address) i) (sym told) (steps_here found))

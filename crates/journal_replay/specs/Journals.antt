@@ -1,5 +1,5 @@
 -- A journal's text: its first line, and a line for each entry. Lines stand newest first.
-use Rattle.std.specs.Prelude.{◌≡◌, ◌≢◌, ℕ, suc, List, [], ◌∷◌, ◌++◌, All, length, map, Option, IfSome, Result, Ok, Err, ◌⊎◌, ⊤}
+use Rattle.std.specs.Prelude.{◌≡◌, ◌≢◌, ℕ, suc, List, [], ◌∷◌, ◌++◌, All, length, Option, IfSome, Result, Ok, Err, ◌⊎◌, ⊤}
 use Rattle.std.specs.Io.KnownBytes.{Consumes}
 use Rattle.std.specs.Str.{IsUtf8}
 use Rattle.journal_text.specs.declared.entry.Entry.{Entry}
@@ -8,17 +8,9 @@ use Rattle.journal_text.specs.Reading.{IsEntryLine, head_text}
 use Rattle.journal_replay.specs.declared.fault.ReplayFault.{ReplayFault}
 use Rattle.journal_replay.specs.declared.fault.ReplayFault.TheVariants.{NotAnEntry, Input, Output, NoMemory}
 use Rattle.journal_replay.specs.declared.replay.Outcome.{Outcome}
-use Rattle.journal_replay.specs.Replays.{IsFound, next_number}
+use Rattle.journal_replay.specs.Replays.{IsFound, Read, entries_of, next_number}
 
 -- ---- lines
-
--- a line without its line feed, and the entry that it spells
-pub record Read : Type 0 where
-  pub text : List ℕ
-  pub entry : Entry
-
-abbrev pub entries_of : List Read → List Entry
-entries_of lines = map (λ line. line.entry) lines
 
 -- an entry's number is the next one of its job at its node, from 1
 pub record IsRead (version : Version) (before : List Entry) (line : Read) : Type 0 where
@@ -59,7 +51,7 @@ pub record IsJournal (read_old : Option (List ℕ)) (outcome : Outcome) : Type 0
   pub read : AreRead outcome.version lines
   pub whole : IfSome read_old (λ all. all ≡ journal_bytes outcome.version lines)
   pub counted : outcome.lines ≡ length lines
-  pub found : IsFound outcome.version (entries_of lines) outcome.difference
+  pub found : IsFound outcome.version lines outcome.difference
 
 -- the first line is no journal's
 pub record StopsAtHead (read_old read_new : Option (List ℕ)) (number : ℕ) : Type 0 where

@@ -1,44 +1,43 @@
--- A replay so far, and what a line more makes of it. Entries and lines stand newest first.
+-- A replay so far, and what a line more makes of it. Lines stand newest first.
 use Rattle.std.specs.Prelude.{◌≡◌, ◌≢◌, ℕ, suc, Bool, true, false, List, ◌∷◌, ◌++◌, length, Option, IfSome, Result, Ok, Err, ⊤}
 use Rattle.std.specs.Io.KnownBytes.{Consumes}
-use Rattle.journal_text.specs.declared.entry.Entry.{Entry}
 use Rattle.journal_text.specs.declared.entry.Version.{Version}
 use Rattle.journal_text.specs.Reading.{IsEntryLine}
 use Rattle.journal_replay.specs.declared.fault.ReplayFault.{ReplayFault}
 use Rattle.journal_replay.specs.declared.fault.ReplayFault.TheVariants.{NotAnEntry, Input, Output, NoMemory}
 use Rattle.journal_replay.specs.declared.replay.Outcome.{Outcome}
 use Rattle.journal_replay.specs.declared.replay.Replay.{Replay}
-use Rattle.journal_replay.specs.Replays.{IsFound, next_number}
+use Rattle.journal_replay.specs.Replays.{IsFound, Read, entries_of, next_number}
 use Rattle.journal_replay.specs.States.{IsAfter}
-use Rattle.journal_replay.specs.Journals.{AreRead, IsNoEntry, Read, bytes_of, entries_of, with_feed}
+use Rattle.journal_replay.specs.Journals.{AreRead, IsNoEntry, bytes_of, with_feed}
 
 -- ---- a line more
 
 -- a replay that these lines lead to
-abbrev pub IsReplay : List Entry → Replay → Type 0
-IsReplay entries replay = IsAfter replay.version entries replay.jobs replay.difference
+abbrev pub IsReplay : List Read → Replay → Type 0
+IsReplay lines replay = IsAfter replay.version lines replay.jobs replay.difference
 
 -- the next line
-pub record AddsEntry (old new : Replay) (entry : Entry) : Type 0 where
+pub record AddsEntry (old new : Replay) (line : Read) : Type 0 where
   pub version : new.version ≡ old.version
-  pub numbered : (before : List Entry) → IsReplay before old → entry.address.number ≡ next_number old.version before entry.address
-  pub after : (before : List Entry) → IsReplay before old → IsReplay (entry ∷ before) new
+  pub numbered : (before : List Read) → IsReplay before old → line.entry.address.number ≡ next_number old.version (entries_of before) line.entry.address
+  pub after : (before : List Read) → IsReplay before old → IsReplay (line ∷ before) new
 
 -- or a line with another number
-abbrev pub Adds : Bool → Replay → Replay → Entry → Type 0
-Adds true old new entry = AddsEntry old new entry
-Adds false old new entry = (before : List Entry) → IsReplay before old → entry.address.number ≢ next_number old.version before entry.address
+abbrev pub Adds : Bool → Replay → Replay → Read → Type 0
+Adds true old new line = AddsEntry old new line
+Adds false old new line = (before : List Read) → IsReplay before old → line.entry.address.number ≢ next_number old.version (entries_of before) line.entry.address
 
 -- the bytes are the next line
 pub record AddsLine (old new : Replay) (bytes : List ℕ) : Type 0 where
   pub line : Read
   pub is_text : bytes ≡ with_feed line.text
   pub spelled : IsEntryLine old.version line.text line.entry
-  pub added : AddsEntry old new line.entry
+  pub added : AddsEntry old new line
 
 abbrev pub TakesLine : Bool → Replay → Replay → List ℕ → Type 0
 TakesLine true old new bytes = AddsLine old new bytes
-TakesLine false old new bytes = (before : List Entry) → IsReplay before old → IsNoEntry old.version before bytes
+TakesLine false old new bytes = (before : List Read) → IsReplay before old → IsNoEntry old.version (entries_of before) bytes
 
 -- ---- the lines after the first
 
@@ -55,7 +54,7 @@ pub record Progress (version : Version) (number : ℕ) (replay : Replay) (read_o
   pub counted : suc (suc (length lines)) ≡ number
   pub read : AreRead version lines
   pub form : replay.version ≡ version
-  pub after : IsReplay (entries_of lines) replay
+  pub after : IsReplay lines replay
   pub consumed : Consumes read_old read_new (bytes_of lines)
 
 -- the lines after the first are all that there was
@@ -65,7 +64,7 @@ pub record EndsLines (version : Version) (read_old : Option (List ℕ)) (outcome
   pub whole : IfSome read_old (λ all. all ≡ bytes_of lines)
   pub form : outcome.version ≡ version
   pub counted : outcome.lines ≡ length lines
-  pub found : IsFound version (entries_of lines) outcome.difference
+  pub found : IsFound version lines outcome.difference
 
 -- after these lines comes one of this number that isn't an entry
 pub record StopsLines (version : Version) (read_old read_new : Option (List ℕ)) (number : ℕ) : Type 0 where

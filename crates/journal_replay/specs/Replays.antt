@@ -1,15 +1,25 @@
--- The replay of a saved journal: each job at each node apart, from a store that was never admitted. Entries stand newest
--- first.
-use Rattle.std.specs.Prelude.{◌≡◌, ◌≢◌, ℕ, suc, if◌then◌else◌, List, [], ◌∷◌, ◌++◌, length, Option, None, Some}
+-- The replay of a saved journal: each job at each node apart, from a store that was never admitted. Lines and entries
+-- stand newest first.
+use Rattle.std.specs.Prelude.{◌≡◌, ◌≢◌, ℕ, suc, if◌then◌else◌, List, [], ◌∷◌, ◌++◌, length, map, Option, None, Some}
+use Rattle.std.specs.String.{string_bytes}
 use Rattle.obj_id.specs.declared.commands.Reply.{Reply}
 use Rattle.private_store.specs.Replay.{Brief, Line, IsReplayed, brief_step, replayed, unbegun_brief}
 use Rattle.journal_text.specs.declared.entry.Address.{Address}
 use Rattle.journal_text.specs.declared.entry.Entry.{Entry}
 use Rattle.journal_text.specs.declared.entry.Version.{Version}
 use Rattle.journal_text.specs.declared.entry.JobAt.{JobAt}
+use Rattle.journal_text.specs.Reading.{answer_part}
 use Rattle.journal_text.specs.Saved.{place_of, same_place}
 use Rattle.journal_replay.specs.declared.replay.Difference.{Difference}
 use Rattle.journal_replay.specs.Inputs.{judged_of, line_of}
+
+-- a line without its line feed, and the entry that it spells
+pub record Read : Type 0 where
+  pub text : List ℕ
+  pub entry : Entry
+
+abbrev pub entries_of : List Read → List Entry
+entries_of lines = map (λ line. line.entry) lines
 
 -- the lines of a job at a node, oldest first
 abbrev pub lines_of : Version → JobAt → List Entry → List Line
@@ -33,19 +43,26 @@ next_number version before address = suc (length (lines_of version (place_of add
 abbrev pub AreReplayed : Version → List Entry → Type 0
 AreReplayed version entries = (place : JobAt) → IsReplayed (unbegun_brief place.job.0) (lines_of version place entries)
 
--- the first line whose answer isn't the one that is due
-pub record IsFirstDifference (version : Version) (entries : List Entry) (difference : Difference) : Type 0 where
-  pub later : List Entry
-  pub entry : Entry
-  pub before : List Entry
-  pub found : entries ≡ later ++ entry ∷ before
-  pub agree : AreReplayed version before
-  pub at : difference.address ≡ entry.address
-  pub had : difference.had ≡ entry.reply
-  pub due : difference.due ≡ due_after version before entry
-  pub differs : difference.had ≢ difference.due
+-- the line's answer isn't the one that is due
+pub record IsUnlike (text : List ℕ) (address : Address) (reply due : Reply ℕ) (difference : Difference) : Type 0 where
+  pub at : difference.address ≡ address
+  pub had : string_bytes difference.had ≡ answer_part text
+  pub due_is : difference.due ≡ due
+  pub differs : reply ≢ due
+
+-- the first line whose answer isn't the one that is due, with that answer as it stands there
+pub record IsFirstDifference (version : Version) (lines : List Read) (difference : Difference) : Type 0 where
+  pub later : List Read
+  pub line : Read
+  pub before : List Read
+  pub found : lines ≡ later ++ line ∷ before
+  pub agree : AreReplayed version (entries_of before)
+  pub at : difference.address ≡ line.entry.address
+  pub had : string_bytes difference.had ≡ answer_part line.text
+  pub due : difference.due ≡ due_after version (entries_of before) line.entry
+  pub differs : line.entry.reply ≢ difference.due
 
 -- what is found in all of them
-abbrev pub IsFound : Version → List Entry → Option Difference → Type 0
-IsFound version entries None = AreReplayed version entries
-IsFound version entries (Some difference) = IsFirstDifference version entries difference
+abbrev pub IsFound : Version → List Read → Option Difference → Type 0
+IsFound version lines None = AreReplayed version (entries_of lines)
+IsFound version lines (Some difference) = IsFirstDifference version lines difference

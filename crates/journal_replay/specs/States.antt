@@ -7,7 +7,7 @@ use Rattle.journal_text.specs.declared.entry.Version.{Version}
 use Rattle.journal_text.specs.declared.entry.JobAt.{JobAt}
 use Rattle.journal_replay.specs.declared.replay.Difference.{Difference}
 use Rattle.journal_text.specs.Saved.{same_place}
-use Rattle.journal_replay.specs.Replays.{IsFound, lines_of, store_of}
+use Rattle.journal_replay.specs.Replays.{IsFound, Read, entries_of, lines_of, store_of}
 
 -- what is kept of a job at a node: the number of its last line, or 0, and its store without contents
 pub record JobState : Type 0 where
@@ -23,6 +23,6 @@ AreAfter version entries jobs =
     (place : JobAt) → state_of jobs place ≡ record { last = length (lines_of version place entries); store = store_of version place entries }
 
 -- a replay so far
-pub record IsAfter (version : Version) (entries : List Entry) (jobs : List (JobAt × JobState)) (difference : Option Difference) : Type 0 where
-  pub states : AreAfter version entries jobs
-  pub found : IsFound version entries difference
+pub record IsAfter (version : Version) (lines : List Read) (jobs : List (JobAt × JobState)) (difference : Option Difference) : Type 0 where
+  pub states : AreAfter version (entries_of lines) jobs
+  pub found : IsFound version lines difference

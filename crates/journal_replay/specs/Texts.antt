@@ -1,6 +1,7 @@
 -- What is said of a replay.
 use Rattle.std.specs.Prelude.{◌≡◌, ℕ, List, ◌++◌, codes, decimal, Option, None, Some, Result, Ok, Err, ⊤}
 use Rattle.std.specs.Io.KnownBytes.{Appends, Keeps}
+use Rattle.std.specs.String.{string_bytes}
 use Rattle.journal_text.specs.declared.entry.Address.{Address}
 use Rattle.journal_text.specs.declared.entry.Version.{Version}
 use Rattle.journal_text.specs.Printing.{answer_text}
@@ -25,10 +26,10 @@ fault_text NoMemory = codes "store: no memory"
 abbrev pub place_text : Address → List ℕ
 place_text x = codes "entry " ++ decimal x.number ++ codes " of j" ++ decimal x.job.0 ++ codes " at n" ++ decimal x.node
 
--- the line of a difference
+-- the line of a difference: the answer as it stands there, and the one that is due as a journal of that form spells it
 abbrev pub difference_text : Version → Difference → List ℕ
 difference_text version x =
-    place_text x.address ++ codes ": had " ++ answer_text version x.address.job.0 x.had ++ codes ", should be " ++ answer_text version x.address.job.0 x.due ++ codes "\n"
+    place_text x.address ++ codes ": had " ++ string_bytes x.had ++ codes ", should be " ++ answer_text version x.address.job.0 x.due ++ codes "\n"
 
 abbrev pub found_text : Version → ℕ → Option Difference → List ℕ
 found_text version lines None = codes "replayed " ++ decimal lines ++ codes "\n"

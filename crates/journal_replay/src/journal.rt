@@ -95,7 +95,7 @@ fn replay_line(alloc: Global, replay: &mut Replay, bytes: &[u8]) -> Result<bool,
     match read_line(alloc, text, replay.version())? {
         None => Ok(false),
         Some(entry) => {
-            let added = replay.add(entry)?;
+            let added = replay.add(alloc, text, entry)?;
             Ok(added)
         }
     }

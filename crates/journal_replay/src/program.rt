@@ -93,7 +93,7 @@ fn difference_text(
 {
     let job = difference.address.job;
     let place = place_text(alloc, difference.address)?;
-    let had = write_answer(alloc, job, &difference.had, version)?;
+    let had = &difference.had;
     let due = write_answer(alloc, job, &difference.due, version)?;
     let text = format!(in alloc; "{place}: had {had}, should be {due}\n")?;
     Ok(text)

@@ -1,11 +1,12 @@
 //! The replay of a journal's lines, one after another.
 ghost use Rattle.std.specs.Prelude.{◌≡◌, ◌≢◌, ◌↔◌, suc, [], None, MatchOption, IfOk, IsTrue};
 ghost use Rattle.journal_replay.specs.Progress.{Adds};
+ghost use Rattle.journal_replay.specs.Replays.{IsUnlike};
 
 use crate::inputs::judged_of;
 use crate::jobs::Jobs;
 use crate::replies::same_reply;
-use journal_text::{Address, Entry, JobAt, Version};
+use journal_text::{Address, Entry, JobAt, Version, answer_of};
 use obj_id::Reply;
 use std::alloc::{AllocError, Global};
 
@@ -13,8 +14,8 @@ use std::alloc::{AllocError, Global};
 #[derive(Debug, Drop)]
 pub struct Difference {
     pub address: Address,
-    /// The answer in the line.
-    pub had: Reply<u64>,
+    /// The answer, as it stands in the line.
+    pub had: String,
     /// The answer that the replay gives there.
     pub due: Reply<u64>,
 }
@@ -52,9 +53,14 @@ impl Replay {
         }
     }
 
-    /// Takes the next line. False if its number isn't the next one of its job at its node: such a line isn't an entry.
-    pub(crate) fn add(&mut self, entry: Entry) -> Result<bool, AllocError>
-        ensures { IfOk result (λ added. Adds added self.old self.new entry) }
+    /// Takes the next line and its entry. False if its number isn't the next one of its job at its node: such a line isn't an entry.
+    pub(crate) fn add(
+        &mut self,
+        alloc: Global,
+        text: &str,
+        entry: Entry,
+    ) -> Result<bool, AllocError>
+        ensures { IfOk result (λ added. Adds added self.old self.new (record { text = text.now; entry = entry })) }
     {
         let Entry {
             address,
@@ -68,7 +74,7 @@ impl Replay {
         let input = judged_of(self.version, address, input);
         let due = self.jobs.step(place, address.number, &input)?;
         if self.difference.is_none() {
-            self.difference = compare(address, reply, due);
+            self.difference = compare(alloc, text, address, reply, due)?;
         }
         Ok(true)
     }
@@ -93,14 +99,20 @@ impl Replay {
 }
 
 /// The difference of a line, if its answer isn't the one that is due.
-fn compare(address: Address, had: Reply<u64>, due: Reply<u64>) -> Option<Difference>
-    ensures { MatchOption result (had ≡ due) (λ difference. (had ≢ due) × (difference ≡ record { address = address; had = had; due = due })) }
+fn compare(
+    alloc: Global,
+    text: &str,
+    address: Address,
+    reply: Reply<u64>,
+    due: Reply<u64>,
+) -> Result<Option<Difference>, AllocError>
+    ensures { IfOk result (λ found. MatchOption found (reply ≡ due) (IsUnlike text.now address reply due)) }
 {
-    if same_reply(&had, &due) {
-        None
-    } else {
-        Some(Difference { address, had, due })
+    if same_reply(&reply, &due) {
+        return Ok(None);
     }
+    let had = answer_of(alloc, text)?;
+    Ok(Some(Difference { address, had, due }))
 }
 
 /// Whether the number comes next after the last one.

@@ -1,5 +1,5 @@
 -- Which entry a line spells, and which form the first line names.
-use Rattle.std.specs.Prelude.{◌≡◌, ℕ, ◌==◌, List, [], ◌∷◌, ◌++◌, codes, Bool, true, false}
+use Rattle.std.specs.Prelude.{◌≡◌, ℕ, ◌==◌, List, [], ◌∷◌, ◌++◌, codes, Bool, true, false, if◌then◌else◌}
 use Rattle.std.specs.List.{slice_split}
 use Rattle.obj_id.specs.declared.commands.Reply.{Reply}
 use Rattle.obj_id.specs.declared.commands.Reply.TheVariants as reply
@@ -66,6 +66,19 @@ IsHalves version _ x = ⊥
 
 abbrev pub cut_at_equals : List ℕ → List (List ℕ)
 cut_at_equals text = slice_split (λ byte. byte == 61) text
+
+-- what stands after a space at the beginning
+abbrev pub after_space : List ℕ → List ℕ
+after_space [] = []
+after_space (byte ∷ rest) = if byte == 32 then rest else []
+
+-- the answer, as it stands in a line with one equals sign
+abbrev pub answer_in : List (List ℕ) → List ℕ
+answer_in (front ∷ back ∷ []) = after_space back
+answer_in _ = []
+
+abbrev pub answer_part : List ℕ → List ℕ
+answer_part text = answer_in (cut_at_equals text)
 
 -- the line, without its line feed: there is one equals sign
 abbrev pub IsEntryLine : Version → List ℕ → Entry → Type 0

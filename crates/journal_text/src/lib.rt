@@ -21,6 +21,6 @@ mod words;
 
 pub use entry::{Address, Entry, JobAt, LineInput, Version};
 pub use laws::a_written_line_is_read_back;
-pub use lines::{read_head, read_line};
+pub use lines::{answer_of, read_head, read_line};
 pub use printing::{write_answer, write_line};
 pub use saved::{Answered, Mark, SavedJournal};

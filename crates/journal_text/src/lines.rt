@@ -1,7 +1,8 @@
 //! Lines of a saved journal.
 ghost use Rattle.std.specs.Prelude.{◌≡◌, ◌≢◌, ℕ, List, ◌++◌, codes, IfOk, MatchOption, map};
 ghost use Rattle.schedule_text.specs.Fields.{Reads};
-ghost use Rattle.journal_text.specs.Reading.{IsEntry, IsEntryAt, IsEntryLine, IsHalves, IsSaid, IsSpaced, cut_at_equals as cut_at_equals_lem, head_text, is_fitting as is_fitting_lem, is_outcome as is_outcome_lem};
+ghost use Rattle.std.specs.String.{string_bytes};
+ghost use Rattle.journal_text.specs.Reading.{answer_in as answer_in_lem, answer_part, IsEntry, IsEntryAt, IsEntryLine, IsHalves, IsSaid, IsSpaced, cut_at_equals as cut_at_equals_lem, head_text, is_fitting as is_fitting_lem, is_outcome as is_outcome_lem};
 
 use crate::entry::{Address, Entry, LineInput, Version};
 use crate::fields::address;
@@ -31,6 +32,26 @@ pub fn read_line(alloc: Global, text: &str, version: Version) -> Result<Option<E
 {
     let halves = cut_at_equals(alloc, text)?;
     halves_entry(alloc, &halves, version)
+}
+
+/// The answer, as it stands in a line that spells an entry: what comes after the equals sign and a space. Nothing if the line
+/// has no such part.
+pub fn answer_of(alloc: Global, text: &str) -> Result<String, AllocError>
+    ensures { IfOk result (λ answer. string_bytes answer ≡ answer_part text.now) }
+{
+    let halves = cut_at_equals(alloc, text)?;
+    String::from_str(alloc, answer_in(&halves))
+}
+
+/// What comes after the equals sign and a space, if there is one equals sign.
+fn answer_in<'a>(halves: &[&'a str]) -> &'a str
+    ensures { result.now ≡ answer_in_lem (map (λ half. half.now) halves.now) }
+{
+    let [_, back] = halves else { return "" };
+    match after_space(back) {
+        Some(answer) => answer,
+        None => "",
+    }
 }
 
 /// What stands between the equals signs.

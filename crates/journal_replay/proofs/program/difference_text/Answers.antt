@@ -6,5 +6,5 @@ use Rattle.journal_replay.proofs.program.difference_text.Goals as goal
 
 pub returns : goal.returns
 returns c =
-    let parts : string_bytes c.in_ok-text.text ≡ string_bytes c.in_ok-place.place ++ codes ": had " ++ string_bytes c.in_ok-had.had ++ codes ", should be " ++ string_bytes c.in_ok-due.due ++ codes "\n" = simp append_assoc (search rules) in
-    parts ∙ (λ i. c.in_ok-place.ensures i ++ codes ": had " ++ c.in_ok-had.ensures i ++ codes ", should be " ++ c.in_ok-due.ensures i ++ codes "\n")
+    let parts : string_bytes c.in_ok-text.text ≡ string_bytes c.in_ok-place.place ++ codes ": had " ++ string_bytes c.args.difference.now.had ++ codes ", should be " ++ string_bytes c.in_ok-due.due ++ codes "\n" = simp append_assoc (search rules) in
+    parts ∙ (λ i. c.in_ok-place.ensures i ++ codes ": had " ++ string_bytes c.args.difference.now.had ++ codes ", should be " ++ c.in_ok-due.ensures i ++ codes "\n")
