@@ -40,6 +40,9 @@ least_follows low (line.Note n x) h = h
 in_turn : (a b c : ℕ) → nat_le a b ≡ true → nat_le b c ≡ true → nat_le a c ≡ true
 in_turn a b c h k = grind (arith, nat_tests, h, k)
 
+lower : (a b c : ℕ) → nat_le a b ≡ true → nat_lt b c ≡ true → nat_lt a c ≡ true
+lower a b c h k = grind (arith, nat_tests, h, k)
+
 -- one of another number
 not_below : (number : ℕ) (l : Line) → nat_lt (step_of l) number ≡ true → is_entry number l ≡ false
 not_below number (line.Entry entry) h = grind (arith, nat_tests, h)
@@ -92,9 +95,6 @@ module _ (l : Line) (after : List Line) where
   none_below entry low (x ∷ before) h less =
       let rest = both_right (follows low x) (rise_above (step_of x) (before ++ l ∷ after)) h in
       neither (is_this entry x) (has entry before) (narrow entry x (not_below entry.number x (lower (step_of x) (step_of l) entry.number (up_to (step_of x) before rest) less))) (none_below entry (step_of x) before rest less)
-    where
-      lower : (a b c : ℕ) → nat_le a b ≡ true → nat_lt b c ≡ true → nat_lt a c ≡ true
-      lower a b c h k = grind (arith, nat_tests, h, k)
 
   -- if the line is the entry of this number, those before are of lower ones
   up_to_it : (number low : ℕ) (before : List Line) → is_entry number l ≡ true → rise_above low (before ++ l ∷ after) ≡ true → nat_lt low number ≡ true
@@ -102,9 +102,6 @@ module _ (l : Line) (after : List Line) where
   up_to_it number low (x ∷ before) is h =
       lower low (step_of x) number (least_follows low x (both_left (follows low x) (rise_above (step_of x) (before ++ l ∷ after)) h))
       (up_to_it number (step_of x) before is (both_right (follows low x) (rise_above (step_of x) (before ++ l ∷ after)) h))
-    where
-      lower : (a b c : ℕ) → nat_le a b ≡ true → nat_lt b c ≡ true → nat_lt a c ≡ true
-      lower a b c h k = grind (arith, nat_tests, h, k)
 
   none_before : (entry : Entry) (low : ℕ) (before : List Line) → is_entry entry.number l ≡ true → rise_above low (before ++ l ∷ after) ≡ true → has entry before ≡ false
   none_before entry low [] is h = refl
