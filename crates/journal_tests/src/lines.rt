@@ -1,6 +1,6 @@
 //! Lines as they are read, and written again. A table is one text: the prover reads each element of an array.
 use assertions::same;
-use journal_text::{Version, read_head, read_line, write_line};
+use journal_text::{Version, answer_of, read_head, read_line, write_line};
 use std::alloc::{AllocError, Global};
 use std::process::Abort;
 use std::test::Fail;
@@ -86,6 +86,21 @@ fn gives(
     Ok(())
 }
 
+/// The answer in a line, asked for once more if memory ran out.
+fn answered(alloc: Global, text: &str) -> Result<String, AllocError> {
+    match answer_of(alloc, text) {
+        Ok(answer) => Ok(answer),
+        Err(_) => answer_of(alloc, text),
+    }
+}
+
+/// Checks the answer in a line.
+fn answers(rt: &impl Abort, alloc: Global, text: &str, answer: &str) -> Result<(), AllocError> {
+    let told = answered(alloc, text)?;
+    same!(rt; told.as_str(), answer);
+    Ok(())
+}
+
 #[test]
 fn lines_are_written_as_they_were_read(rt: HostRuntime) -> Result<(), Fail> {
     let alloc = rt.alloc();
@@ -116,6 +131,20 @@ fn the_first_version_tells_less_of_hands(rt: HostRuntime) -> Result<(), Fail> {
         gives(&rt, alloc, third, Version::Two, third)?;
     }
     gives(&rt, alloc, "n0 j1 2 quota 64 0 = ok", Version::Two, "")?;
+    Ok(())
+}
+
+#[test]
+fn an_answer_is_told_as_it_stands(rt: HostRuntime) -> Result<(), Fail> {
+    let alloc = rt.alloc();
+    for line in THIRD.split('\n') {
+        let (_, answer) = line.split_once(" = ").unwrap_or((line, ""));
+        answers(&rt, alloc, line, answer)?;
+    }
+    answers(&rt, alloc, "n0 j1 1 end", "")?;
+    answers(&rt, alloc, "n0 j1 1 end =ok", "")?;
+    answers(&rt, alloc, "n0 j1 1 end =  got 20 ", " got 20 ")?;
+    answers(&rt, alloc, "n0 j1 1 end = ok = ok", "")?;
     Ok(())
 }
 
