@@ -277,7 +277,7 @@ fn digest_of(bytes: &[u8]) -> Digest
     Digest(Sha256::digest(bytes))
 }
 
-/// How long the chunk of this index is, in an object of `length` bytes; 0 behind its end.
+/// How long the chunk of this index is, in an object of `length` bytes; 0 after its end.
 fn chunk_bytes(length: u32, index: u32) -> usize
     ensures { result ≡ chunk_length length index }
 {

@@ -1,4 +1,4 @@
-//! Want of memory: these tests take no memory but for what they test, so each passes whichever allocation fails.
+//! Out of memory: these tests take no memory but for what they test, so each passes whichever allocation fails.
 use assertions::same;
 use bytes::Bytes;
 use obj_id::{Command, JobKey, JobNo, Refusal, Reply};

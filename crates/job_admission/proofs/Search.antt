@@ -1,4 +1,4 @@
--- The search for the place of a window: behind what is in the way.
+-- The search for the place of a window: after what is in the way.
 use Rattle.std.proofs.Common.{◌≡◌, ℕ, ◌+◌, ◌*◌, ◌/◌, ◌%◌, ◌<◌, ◌≤◌, Bool, true, false, not, ◌&&◌, cond, List, [], ◌∷◌, Option, Some, None, refl, sym, ap, subst, ◌∙◌, arith, ⊎_elim}
 use Rattle.std.specs.Prelude.{nat_le, find}
 use Rattle.std.specs.List.{list_all}
@@ -44,7 +44,7 @@ not_true : (b : Bool) → not b ≡ true → b ≡ false
 not_true true h = true_false h
 not_true false h = refl
 
--- what isn't apart begins before the bytes end, and ends behind their begin
+-- what isn't apart begins before the bytes end, and ends after their begin
 pub meets : (a b : Extent) → is_apart a b ≡ false → (b.offset < end_of a) × (a.offset < end_of b)
 meets a b h = ⊎_elim
     (λ (lt : b.offset < end_of a). ⊎_elim (λ (gt : a.offset < end_of b). (lt, gt)) (λ (ge : end_of b ≤ a.offset). absurd (grind (arith, nat_tests, lt, ge, h))) (cases_lt a.offset (end_of b)))
@@ -71,7 +71,7 @@ taken_before ws w n from o h low high = by (list_all (is_apart (at o n)) ws) ref
         let not_here = meeting (at o n) w (omega (arith, sides.0)) high in
         sym here ∙ not_here
 
--- what is in the way ends behind where the search is
+-- what is in the way ends after where the search is
 pub ends_behind : (ws : List Extent) (w : Extent) (n from : ℕ) → find (is_in_the_way (at from n)) ws ≡ Some w → from < end_of w
 ends_behind ws w n from h = (meets (at from n) w (not_true _ (found_passes (is_in_the_way (at from n)) ws w h))).1
 

@@ -153,7 +153,7 @@ impl Admission {
     /// Gives a live job another quota; its window stays where it lies. Takes no memory.
     ///
     /// `NotAdmitted` where it isn't live, `BadSize` where the quota is out of its limits, `NoRoom` where
-    /// the bytes behind its window are another job's or not there. A refusal changes nothing.
+    /// the bytes after its window are another job's or not there. A refusal changes nothing.
     pub fn resize(&mut self, job: JobNo, quota: Quota) -> Result<(), Refusal>
         ensures ok { OnOk result (self.new ≡ resized self.old job quota) }
         ensures lives { OnOk result (lives_of self.new.live ≡ map (widened job.0 quota.window) (lives_of self.old.live)) }

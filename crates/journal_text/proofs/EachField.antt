@@ -4,7 +4,7 @@ use Rattle.std.proofs.lemmas.List.{append_assoc, append-nil, at_drop_more, drop_
 use Rattle.schedule_text.specs.Fields.{Reads}
 use Rattle.journal_text.specs.Each.{IsEach}
 
--- what a whole list of things is behind those that were read
+-- what a whole list of things is after those that were read
 pub record IsContinued {X : Type 0} (IsSpelled : List ℕ → X → Type 0) (rest : List (List ℕ)) (xs zs : List X) : Type 0 where
   pub ys : List X
   pub joined : xs ++ ys ≡ zs

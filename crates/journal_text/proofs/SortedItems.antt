@@ -10,7 +10,7 @@ use Rattle.journal_text.specs.declared.items.Item.TheVariants.{Own, Granted}
 use Rattle.journal_text.specs.Each.{IsEach}
 use Rattle.journal_text.specs.Items.{IsItem, IsListed, IsSorted, all_granted, granted_of, in_order, own_of}
 
--- the order that the rest has to keep behind those granted items
+-- the order that the rest has to keep after those granted items
 abbrev pub order_after : List GrantedItem → List Item → Bool
 order_after [] rest = in_order rest
 order_after (x ∷ xs) rest = all_granted rest
@@ -57,7 +57,7 @@ module _ (items : List Item) (i : ℕ) (own : List OwnItem) (granted : List Gran
       order_is = here.order_is ∙ order-granted granted x (drop (i + 1) items);
     }
 
-    -- an own item behind a granted one
+    -- an own item after a granted one
     pub Reads-disordered : (x : OwnItem) → get_or items i d ≡ Own x → (granted ≡ [] → ⊥) → Reads {X = List OwnItem × List GrantedItem} None (IsSorted items)
     Reads-disordered x is some = record {
       sound = tt;

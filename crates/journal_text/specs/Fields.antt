@@ -5,7 +5,7 @@ use Rattle.obj_id.specs.declared.ids.JobNo.{JobNo}
 use Rattle.schedule_text.specs.Fields.{IsNumber, IsLongNumber, IsObject}
 use Rattle.journal_text.specs.declared.entry.Address.{Address}
 
--- a number of 32 bits behind a mark
+-- a number of 32 bits after a mark
 pub record IsMarked (mark field : List ℕ) (number : ℕ) : Type 0 where
   pub fits : number < 2 ^ 32
   pub spelled : mark ++ decimal number ≡ field

@@ -22,7 +22,7 @@ pub record IsOwnItem (job : ℕ) (id state kind length : List ℕ) (x : OwnItem)
   pub kinded : kind_word x.kind ≡ kind
   pub long : IsNumber length x.length
 
--- `KIND:LEN` behind ID and STATE
+-- `KIND:LEN` after ID and STATE
 abbrev pub IsOwn : ℕ → List ℕ → List ℕ → List (List ℕ) → OwnItem → Type 0
 IsOwn job id state (kind ∷ length ∷ []) x = IsOwnItem job id state kind length x
 IsOwn job id state _ x = ⊥
@@ -39,12 +39,12 @@ pub record IsGrantedItem (job : ℕ) (id length depth : List ℕ) (x : GrantedIt
   pub long : IsNumber length x.length
   pub deep : IsPositive depth x.depth
 
--- `LEN` behind ID and `granted`
+-- `LEN` after ID and `granted`
 abbrev pub IsFirstHand : ℕ → List ℕ → List (List ℕ) → GrantedItem → Type 0
 IsFirstHand job id (length ∷ []) x = IsFirstHandItem job id length x
 IsFirstHand job id _ x = ⊥
 
--- `LEN:DEPTH` behind ID and `granted`
+-- `LEN:DEPTH` after ID and `granted`
 abbrev pub IsHandItem : ℕ → List ℕ → List (List ℕ) → GrantedItem → Type 0
 IsHandItem job id (length ∷ depth ∷ []) x = IsGrantedItem job id length depth x
 IsHandItem job id _ x = ⊥
@@ -89,7 +89,7 @@ all_granted [] = true
 all_granted (Own x ∷ items) = false
 all_granted (Granted x ∷ items) = all_granted items
 
--- no own item stands behind a granted one
+-- no own item stands after a granted one
 abbrev pub in_order : List Item → Bool
 in_order [] = true
 in_order (Own x ∷ items) = in_order items

@@ -10,7 +10,7 @@ use schedule_text::fields::{long_number, number, object};
 /// The nodes of a journal are numbered below this.
 const NODES: u32 = 8;
 
-/// A number of 32 bits behind a mark.
+/// A number of 32 bits after a mark.
 fn marked(field: &str, mark: char) -> Option<u32>
     requires { mark < 128 }
     ensures { Reads result (IsMarked (mark ∷ []) field.now) }

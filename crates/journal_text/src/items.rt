@@ -55,7 +55,7 @@ fn items(
     Ok(Some(items))
 }
 
-/// The two halves of a list, in which no own item stands behind a granted one.
+/// The two halves of a list, in which no own item stands after a granted one.
 fn sorted(
     alloc: Global,
     items: &[Item],
@@ -112,7 +112,7 @@ fn item_of(id: &str, word: &str, parts: &[&str], job: JobNo, version: Version) -
     }
 }
 
-/// `KIND:LEN` behind ID and STATE.
+/// `KIND:LEN` after ID and STATE.
 fn own(id: &str, state: &str, parts: &[&str], job: JobNo) -> Option<OwnItem>
     ensures { Reads result (IsOwn job.0 id.now state.now (map (λ part. part.now) parts.now)) }
 {
@@ -136,7 +136,7 @@ fn own_item(name: &str, stated: &str, word: &str, bytes: &str, job: JobNo) -> Op
     })
 }
 
-/// `LEN:DEPTH` behind ID and `granted`. Version 1 has no depth there: it is 1.
+/// `LEN:DEPTH` after ID and `granted`. Version 1 has no depth there: it is 1.
 fn granted(id: &str, parts: &[&str], job: JobNo, version: Version) -> Option<GrantedItem>
     ensures { Reads result (IsGranted version job.0 id.now (map (λ part. part.now) parts.now)) }
 {
@@ -146,7 +146,7 @@ fn granted(id: &str, parts: &[&str], job: JobNo, version: Version) -> Option<Gra
     }
 }
 
-/// `LEN` behind ID and `granted`.
+/// `LEN` after ID and `granted`.
 fn first_hand(name: &str, parts: &[&str], job: JobNo) -> Option<GrantedItem>
     ensures { Reads result (IsFirstHand job.0 name.now (map (λ part. part.now) parts.now)) }
 {
@@ -154,7 +154,7 @@ fn first_hand(name: &str, parts: &[&str], job: JobNo) -> Option<GrantedItem>
     first_hand_item(name, bytes, job)
 }
 
-/// `LEN:DEPTH` behind ID and `granted`.
+/// `LEN:DEPTH` after ID and `granted`.
 fn hand(name: &str, parts: &[&str], job: JobNo) -> Option<GrantedItem>
     ensures { Reads result (IsHandItem job.0 name.now (map (λ part. part.now) parts.now)) }
 {

@@ -132,7 +132,7 @@ fn entry(
     }
 }
 
-/// The entry that stands there, by the fields behind its address and those of its answer.
+/// The entry that stands there, by the fields after its address and those of its answer.
 fn entry_at(
     alloc: Global,
     address: Address,

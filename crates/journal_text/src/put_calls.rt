@@ -1,4 +1,4 @@
-//! Commands of sessions, put behind a line.
+//! Commands of sessions, put after a line.
 ghost use Rattle.std.specs.Prelude.{◌≡◌, ◌++◌, [], ◌∷◌, codes, decimal, OnOk};
 ghost use Rattle.std.specs.String.{string_bytes};
 ghost use Rattle.obj_id.specs.Texts.{id_text, task_text};

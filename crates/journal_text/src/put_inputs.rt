@@ -1,4 +1,4 @@
-//! Inputs, put behind a line.
+//! Inputs, put after a line.
 ghost use Rattle.std.specs.Prelude.{◌≡◌, ◌++◌, [], ◌∷◌, codes, decimal, IfOk, OnOk, map};
 ghost use Rattle.std.specs.String.{string_bytes};
 ghost use Rattle.obj_id.specs.Texts.{id_text};

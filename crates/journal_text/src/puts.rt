@@ -1,4 +1,4 @@
-//! Fields put behind a line, each after a space. If memory runs out, part of them stands there.
+//! Fields put after a line, each after a space. If memory runs out, part of them stands there.
 ghost use Rattle.std.specs.Prelude.{◌≡◌, ◌++◌, [], ◌∷◌, decimal, OnOk};
 ghost use Rattle.std.specs.String.{string_bytes};
 ghost use Rattle.obj_id.specs.Texts.{id_text, task_text};

@@ -111,7 +111,7 @@ fn usage(fields: &[&str]) -> Option<Usage>
     })
 }
 
-/// The window and what is used of it, and the four numbers behind them.
+/// The window and what is used of it, and the four numbers after them.
 fn windows(fields: &[&str]) -> Option<((u64, u64), ((u64, u64), (u64, u64)))>
     ensures { Reads result (IsWindows (map (λ field. field.now) fields.now)) }
 {
@@ -121,7 +121,7 @@ fn windows(fields: &[&str]) -> Option<((u64, u64), ((u64, u64), (u64, u64)))>
     Some((pair(window, used)?, devices(fields)?))
 }
 
-/// The device bytes and what is used of them, and the two numbers behind them.
+/// The device bytes and what is used of them, and the two numbers after them.
 fn devices(fields: &[&str]) -> Option<((u64, u64), (u64, u64))>
     ensures { Reads result (IsDevices (map (λ field. field.now) fields.now)) }
 {

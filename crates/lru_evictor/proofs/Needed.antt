@@ -50,7 +50,7 @@ module _ (window : Region) (facts : Looked) (n : ℕ) (ids : List ObjectId) wher
     abbrev tested : List ObjectId → Bool
     tested out = fits_without window facts n (base ++ out)
 
-    -- the first of the others, behind those that stand there in any case
+    -- the first of the others, after those that stand there in any case
     joined : (j : ℕ) → base ++ take j (drop (length base) ids) ≡ take (length base + j) ids
     joined j =
         (λ i. sym front i ++ sym (drop-take (length base) j ids) i)

@@ -223,9 +223,9 @@ fn needed<C: CopyLookup>(
     }
 }
 
-/// How many of the copies in `ids`, and of those that the walk chooses behind them, have to go for so
+/// How many of the copies in `ids`, and of those that the walk chooses after them, have to go for so
 /// many bytes to fit, where those in `ids` go in any case; `None` where all of them are too few. The
-/// walk goes as far as it must, and what it chose stands behind the others in `ids`.
+/// walk goes as far as it must, and what it chose stands after the others in `ids`.
 ///
 /// Looks at one chosen copy, two, four and so on, each time with one look-up of each and one sort, and where these
 /// are enough finds how many are by bisection, which takes neither.

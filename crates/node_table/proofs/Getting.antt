@@ -231,7 +231,7 @@ module _ (node : ℕ) (row : Row) (beside : Beside) (contents : Contents) (sessi
       (subst (λ m. TakesStep node row beside contents x (only (reply.Got m)) (row_held is.kept is.found (unmarked_of is.kept is.ready) (sealed_of is.kept is.ready)) beside) (sym is.length)
       (hold_done is.kept is.found (unmarked_of is.kept is.ready) (sealed_of is.kept is.ready) is.passed))
 
-  -- it was refused, and not for want of memory
+  -- it was refused, and not by NoMemory
   pub sealed_refused : (r : Refusal) (new : Row) → r ≢ NoMemory → IsHoldRefusedAt row.copies id r new.copies → new ≡ row → TakesStep node row beside contents x (only (reply.Refused r)) new beside
   sealed_refused r new known is same =
       subst (λ t. TakesStep node row beside contents x (only (reply.Refused r)) t beside) (sym same)

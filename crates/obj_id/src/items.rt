@@ -36,7 +36,7 @@ impl<T> Items<T> {
         Items { items }
     }
 
-    /// Adds an item at the end. Want of memory leaves the list as it was.
+    /// Adds an item at the end. If memory runs out, the list is as it was.
     pub fn push(&mut self, item: T) -> Result<(), AllocError>
     where
         T: Drop,

@@ -27,7 +27,7 @@ use Rattle.private_store.specs.NodeInputs.{JobInput, Before, own_event, withdraw
 abbrev pub given_there : ℕ → JobInput → Given
 given_there place x = record { job = x.job; input = at_node place x.input }
 
--- ---- want of memory
+-- ---- out of memory
 
 want_is : (r : Refusal) → is_no_memory (Told (reply.Refused r)) ≡ wants_memory {P = List ℕ} (reply.Refused r)
 want_is NoMemory = refl

@@ -61,7 +61,7 @@ abbrev pub own_here : Before → NodeEvent → Reply (List ℕ) → Option JobIn
 own_here before (Own e) told = own_event before e told
 own_here before (Arrive job a) told = unless_wanting told (of_job job.0 (input.Arrive a))
 
--- the same where the answer isn't want of memory, which no node gives: it is an error there
+-- the same where the answer isn't NoMemory, which no node gives: it is an error there
 abbrev pub own_due : Before → NodeEvent → Reply (List ℕ) → Option JobInput
 own_due before (Own (event.Finish job number a)) told = if before.out job.0 number then of_job job.0 (input.Answer number a) else None
 own_due before (Own (event.Call job session c)) told = of_job job.0 (input.Call session c)

@@ -205,7 +205,7 @@ shared_answer nodes memory before (steps.At node (event.Call job session c)) = N
 shared_answer nodes memory before (steps.Deliver job from to m damage) = Some (deliver_answer nodes memory before job.0 from to m damage)
 
 -- what the step must have been answered: a command by its job's private store, which is said of the
--- job; want of memory as it was
+-- job; NoMemory as it was
 abbrev pub answer_due : ℕ → ℕ → List Traced → Traced → StepAnswer
 answer_due nodes memory before entry =
     if is_no_memory entry.answer then entry.answer else unwrap_or (shared_answer nodes memory before entry.step) entry.answer

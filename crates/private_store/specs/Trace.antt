@@ -154,7 +154,7 @@ Agree nodes job first second = inputs_of nodes job first ≡ inputs_of nodes job
 abbrev pub is_answered : Told → Bool
 is_answered t = not (is_no_memory (answer.Told t.reply))
 
--- the headline of one trace: the job's replies, but for want of memory, are those of its private cluster
+-- the headline of one trace: the job's replies, but for NoMemory, are those of its private cluster
 -- on its own inputs
 abbrev pub IsPrivate : ℕ → ℕ → List Traced → Type 0
 IsPrivate nodes job trace = filter is_answered (replies_of job trace) ≡ private_run job nodes (inputs_of nodes job trace)

@@ -9,7 +9,7 @@ use Rattle.schedule_text.specs.declared.lines.Speaker.{Speaker}
 use Rattle.schedule_text.specs.Fields.{Reads}
 use Rattle.schedule_text.specs.Reading.{IsCall, IsCallLine, IsCommandText, IsSpeaker}
 
--- a session's line has four fields at least behind its first word
+-- a session's line has four fields at least after its first word
 pub Reads-short_call : (nodes : ℕ) (fields : List (Bor (List ℕ))) → length fields < 4 → Reads {X = Line} None (IsCallLine nodes (map (λ field. field.now) fields))
 Reads-short_call nodes [] short = record { sound = tt; whole = λ x is. absurd is }
 Reads-short_call nodes (a ∷ []) short = record { sound = tt; whole = λ x is. absurd is }

@@ -200,7 +200,7 @@ module _ {G : Type 0} (gives : G → Asked → Answered → G → Type 0) (r : O
     input_ended c frames2 Items is hears end ended ends = last_ended c frames2 hears end ended ends
     input_ended c frames2 NoFrame is hears end ended ends = absurd (let f : ⊥ = cc in f)
 
-  -- the piece is heard, and then what waits behind its items
+  -- the piece is heard, and then what waits after its items
   module _ (frames : Reading) (r1 : Option (List ℕ)) (b : Standing G) (so_far : Progress frames r1 b) (r2 : Option (List ℕ)) (c : Standing G) (frames2 : Reading) (piece : List ℕ) (read : Consumes r1 r2 piece)
       (what : Heard) (is : what ≡ Items) (hears : HearsPiece gives frames piece frames2 b c (Ok what)) (d : Standing G) (frames3 : Reading) where
     once : Progress frames2 r2 c

@@ -1,4 +1,4 @@
--- A part of a frame is made whole, and the stream goes on behind it.
+-- A part of a frame is made whole, and the stream goes on after it.
 use Rattle.std.proofs.Common.{◌≡◌, ◌==◌, ℕ, ◌+◌, ◌-◌, ◌<◌, ◌≤◌, ◌⊎◌, Bool, true, false, List, [], ◌∷◌, ◌++◌, length, take, drop, inl, inr, refl, sym, ap, subst, ◌∙◌, arith, append_assoc, length-append, length-drop}
 use Rattle.std.proofs.lemmas.Bool.{eqb-true}
 use Rattle.std.proofs.lemmas.List.{take-append-drop}
@@ -32,7 +32,7 @@ pub fed-stream_read : (before piece : List ℕ) (items : List Item) (faulty : Bo
     → stream_of (before ++ piece) ≡ stream_read items faulty rest → fed (unfinished before) piece ≡ fed_by items faulty rest
 fed-stream_read before piece items faulty rest is = ap told_of is ∙ stream_read-told items faulty rest
 
--- what is kept behind a piece is a part of a frame
+-- what is kept after a piece is a part of a frame
 pub IsPart-fed : (before piece : List ℕ) (items : List Item) (faulty : Bool) (rest : List ℕ)
     → fed (unfinished before) piece ≡ fed_by items faulty rest → faulty ≡ false → IsPart rest
 IsPart-fed before piece items false rest is sound = subst (λ f. IsKept f.reader) is (IsKept-reading_after (before ++ piece))
@@ -94,7 +94,7 @@ completed before piece n m size middle after part f long number g =
 
 -- ---- what is read of it
 
--- the bytes and the piece, parted behind what was taken
+-- the bytes and the piece, parted after what was taken
 parted : (before piece : List ℕ) (n : ℕ) (after : List ℕ) → after ≡ before ++ take n piece → before ++ piece ≡ after ++ drop n piece
 parted before piece n after is =
     ap (λ b. before ++ b) (sym (take-append-drop n piece)) ∙ sym (append_assoc before (take n piece) (drop n piece)) ∙ ap (λ b. b ++ drop n piece) (sym is)
@@ -112,7 +112,7 @@ after_item-stream_read : (x : Item) (items : List Item) (faulty : Bool) (rest : 
 after_item-stream_read x items true rest = refl
 after_item-stream_read x items false rest = refl
 
--- a whole frame, and the frames behind it
+-- a whole frame, and the frames after it
 pub fed-whole_frame : (said : Said) (kept behind : List ℕ) (items : List Item) (faulty : Bool) (rest : List ℕ) → IsWholeFrame said kept
     → stream_of behind ≡ stream_read items faulty rest → fed (unfinished kept) behind ≡ fed_by (filled said (drop 5 kept) ∷ items) faulty rest
 fed-whole_frame said kept behind items faulty rest whole is =

@@ -50,7 +50,7 @@ byte_from n (k ∷ ks) (suc i) h =
     let sum : n + 1 + i ≡ n + suc i = omega arith in
     rw (← sum) (byte_from (n + 1) ks i (and_parts _ _ h).1)
 
--- the kind at a place has the byte behind it
+-- the kind at a place has the byte after it
 pub byte_at : (i : ℕ) → IfSome (slice_get all_kinds i) (λ k. byte_of k ≡ 1 + i)
 unfolding are_numbered
 byte_at i = byte_from 1 all_kinds i refl

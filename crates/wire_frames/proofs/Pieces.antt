@@ -56,7 +56,7 @@ stream_of-append bytes more = going_on (suc (length bytes)) bytes more (omega ar
 
 -- ---- pieces
 
--- what is given behind these items
+-- what is given after these items
 abbrev given_onto : List Item → Feeding → Feeding
 given_onto items f = record { items = items ++ f.items; reader = f.reader }
 

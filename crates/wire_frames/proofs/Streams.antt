@@ -9,11 +9,11 @@ use Rattle.wire_frames.specs.Heads.{IsPart, cut_end}
 use Rattle.private_store.specs.declared.frames.Item.{Item}
 use Rattle.private_store.specs.Frames.{clean, mid_frame, malformed, Stream, stopped, after_item, frames_of, is_command_length, item_of, number_at, stream_of}
 
--- the bytes behind a frame
+-- the bytes after a frame
 abbrev pub behind : List ℕ → List ℕ
 behind bytes = drop (4 + number_at bytes 0) bytes
 
--- one step of the grammar, where what is behind the frame says `rest`
+-- one step of the grammar, where what is after the frame says `rest`
 abbrev pub step : List ℕ → Stream → Stream
 step [] rest = stopped [] clean
 step (b ∷ bs) rest =
@@ -50,7 +50,7 @@ fuel (suc n) (suc m) (b ∷ bs) h k =
     ∙ ap (step (b ∷ bs)) (fuel n m (behind (b ∷ bs)) (shorter b bs size n h) (shorter b bs size m k))
     ∙ sym (frames_of-step m (b ∷ bs))
 
--- a stream is its first frame and the stream behind it
+-- a stream is its first frame and the stream after it
 pub stream_of-step : (bytes : List ℕ) → stream_of bytes ≡ step bytes (stream_of (behind bytes))
 stream_of-step [] = refl
 stream_of-step (b ∷ bs) =
@@ -59,7 +59,7 @@ stream_of-step (b ∷ bs) =
     frames_of-step n (b ∷ bs)
     ∙ ap (step (b ∷ bs)) (fuel n (suc (length (behind (b ∷ bs)))) (behind (b ∷ bs)) (shorter b bs size n (omega arith)) (omega arith))
 
--- so many bytes behind a length stand at the head of these bytes, and are read so
+-- so many bytes after a length stand at the head of these bytes, and are read so
 pub record IsHead (bytes : List ℕ) (size : ℕ) (read : Option Item) : Type 0 where
   pub number : number_at bytes 0 ≡ size
   pub in_range : is_command_length size ≡ true

@@ -6,7 +6,7 @@ use Rattle.private_store.specs.declared.frames.Item.TheVariants as item
 use Rattle.wire_frames.specs.declared.bodies.Said.{Said}
 use Rattle.wire_frames.specs.declared.bodies.Said.TheVariants as said
 
--- the item; a write has what stands behind the first 32 bytes of its body
+-- the item; a write has what stands after the first 32 bytes of its body
 abbrev pub filled : Said → List ℕ → Item
 filled (said.Item x) body = x
 filled (said.Write id offset) body = item.Command (command.Write id offset (drop 32 body))

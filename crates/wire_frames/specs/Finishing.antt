@@ -12,7 +12,7 @@ pub record IsFilled (goal : ℕ) (before piece : List ℕ) (taken : ℕ) (after 
   pub no_more : (length after ≤ goal) ⊎ (after ≡ before)
   pub no_less : (taken ≡ length piece) ⊎ (goal ≤ length after)
 
--- so many bytes of a piece were added to a part of a frame: all, where it is a part still; none behind the frame
+-- so many bytes of a piece were added to a part of a frame: all, where it is a part still; none after the frame
 pub record IsCompleted (before piece : List ℕ) (taken : ℕ) (after : List ℕ) : Type 0 where
   pub bytes : after ≡ before ++ take taken piece
   pub within : taken ≤ length piece

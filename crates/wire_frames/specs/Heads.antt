@@ -39,7 +39,7 @@ StandsAtHead bytes head.Cut = IsPart bytes
 StandsAtHead bytes head.Fault = Unit {0}
 StandsAtHead bytes (head.Frame said size) = IsFrame bytes said size
 
--- a stream behind these items
+-- a stream after these items
 abbrev pub after_items : List Item → Stream → Stream
 after_items items stream = record stream { items = items ++ stream.items }
 

@@ -20,7 +20,7 @@ feeding reader (piece ∷ pieces) =
     let others = feeding (fed reader piece).reader pieces in
     record { items = items_in (fed reader piece).answer ++ others.items; reader = others.reader }
 
--- what a stream gives, and what a reader keeps behind it
+-- what a stream gives, and what a reader keeps after it
 abbrev pub given_by : Stream → Feeding
 given_by stream = record { items = stream.items; reader = reading_after stream }
 

@@ -34,7 +34,7 @@ reading_at clean rest = unfinished rest
 reading_at mid_frame rest = unfinished rest
 reading_at malformed rest = failed
 
--- what a reader keeps behind this much of the stream
+-- what a reader keeps after this much of the stream
 abbrev pub reading_after : Stream → Reading
 reading_after stream = reading_at stream.end stream.rest
 
@@ -58,7 +58,7 @@ told answer reader = record { answer = answer; reader = reader }
 abbrev pub fed : Reading → List ℕ → Fed
 fed reader piece = told (answer_of (continued reader piece)) (reading_after (continued reader piece))
 
--- a piece by the items that it gives and what is left, where a fault stands behind them or doesn't
+-- a piece by the items that it gives and what is left, where a fault stands after them or doesn't
 abbrev pub fed_by : List Item → Bool → List ℕ → Fed
 fed_by items true rest = told (answer_at malformed items) failed
 fed_by items false rest = told (Ok items) (unfinished rest)

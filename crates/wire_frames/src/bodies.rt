@@ -17,7 +17,7 @@ const BEFORE_PAYLOAD: usize = 32;
 #[derive(Debug, Drop)]
 pub(crate) enum Said {
     Item(Item),
-    /// A write to the object at the offset. Its payload is what the body has behind its first 32 bytes.
+    /// A write to the object at the offset. Its payload is what the body has after its first 32 bytes.
     Write(ObjectId, u32),
 }
 
@@ -100,7 +100,7 @@ fn bare(command: Command<Bytes>, body: &[u8]) -> Option<Item>
     }
 }
 
-/// An object's id, and what its kind has behind it.
+/// An object's id, and what its kind has after it.
 fn about(kind: ObjectKind, body: &[u8]) -> Option<Said>
     ensures reads { option_filled result body.now ≡ read_about kind body.now }
     ensures payload { IfSome result (λ said. HasPayload said body.now) }
@@ -198,7 +198,7 @@ pub(crate) fn number_at(body: &[u8], at: usize) -> u32
     u32::from_be_bytes(number)
 }
 
-/// The job behind the id.
+/// The job after the id.
 fn target_at(body: &[u8]) -> JobNo
     requires { 32 ≤ length body.now }
     ensures { result.0 ≡ number_at_lem body.now 28 }

@@ -49,7 +49,7 @@ fn command_frame(alloc: Global, command: &Command<Bytes>) -> Result<Vec<u8>, All
     }
 }
 
-/// A frame whose body is an object's id and what stands behind it.
+/// A frame whose body is an object's id and what stands after it.
 fn about(alloc: Global, kind: u8, id: ObjectId, rest: &[u8]) -> Result<Vec<u8>, AllocError>
     requires { length rest.now < 65536 }
     ensures { IfOk result (λ f. f.items ≡ frame (kind ∷ id_bytes id ++ rest.now)) }

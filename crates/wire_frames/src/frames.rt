@@ -9,7 +9,7 @@ use crate::kinds::FrameKind;
 use private_store::Item;
 use std::alloc::{AllocError, Global};
 
-/// The most bytes that a command's frame has behind its length.
+/// The most bytes that a command's frame has after its length.
 const MOST_BYTES: u32 = 65_600;
 
 /// How many bytes of a frame stand before its body: its length and its kind.
@@ -32,7 +32,7 @@ pub(crate) struct Frames {
     pub(crate) items: Vec<Item>,
     /// How many bytes they take.
     pub(crate) used: usize,
-    /// Whether a fault stands behind them.
+    /// Whether a fault stands after them.
     pub(crate) faulty: bool,
 }
 
@@ -91,7 +91,7 @@ pub(crate) fn read_head(bytes: &[u8]) -> Head
     }
 }
 
-/// Whether a command's frame may have so many bytes behind its length.
+/// Whether a command's frame may have so many bytes after its length.
 pub(crate) fn is_command_length(size: u32) -> bool
     ensures { result ≡ is_command_length_lem size }
 {

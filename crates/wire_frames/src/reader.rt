@@ -34,7 +34,7 @@ impl Model for Reader {
     ghost invariant = { λ r. IsPart r.rest.items };
 }
 
-/// The items that a piece gives, and whether a fault stands behind them.
+/// The items that a piece gives, and whether a fault stands after them.
 #[derive(Drop)]
 struct Gain {
     items: Vec<Item>,
@@ -92,8 +92,8 @@ impl Reader {
     }
 }
 
-/// Reads the whole frames of what was kept and of the piece behind it, and keeps what is left. Where nothing was
-/// kept they are read from the piece itself. Want of memory leaves what was kept.
+/// Reads the whole frames of what was kept and of the piece after it, and keeps what is left. Where nothing was
+/// kept they are read from the piece itself. If memory runs out, what was kept stays.
 fn read_on(alloc: Global, kept: &mut BytesMut, piece: &[u8]) -> Result<Gain, AllocError>
     requires { IsPart kept.old.items }
     ensures fed { IfOk result (λ g. fed (unfinished kept.old.items) piece.now ≡ fed_by g.items.items g.faulty kept.new.items) }
@@ -116,7 +116,7 @@ fn read_on(alloc: Global, kept: &mut BytesMut, piece: &[u8]) -> Result<Gain, All
 }
 
 /// Reads on where a part of a frame is kept. The piece gives what that frame lacks; once it is whole the piece is
-/// read behind it. Want of memory can leave bytes of the piece behind what was kept.
+/// read after it. If memory runs out, bytes of the piece may be left after what was kept.
 fn finish_frame(alloc: Global, kept: &mut BytesMut, piece: &[u8]) -> Result<Gain, AllocError>
     requires { IsPart kept.old.items }
     ensures fed { IfOk result (λ g. fed (unfinished kept.old.items) piece.now ≡ fed_by g.items.items g.faulty kept.new.items) }
@@ -136,8 +136,8 @@ fn finish_frame(alloc: Global, kept: &mut BytesMut, piece: &[u8]) -> Result<Gain
     }
 }
 
-/// Reads on where a whole frame is kept, and no more: its bytes become its item's, and what is behind it is read from
-/// the piece itself. Want of memory leaves what was kept.
+/// Reads on where a whole frame is kept, and no more: its bytes become its item's, and what is after it is read from
+/// the piece itself. If memory runs out, what was kept stays.
 fn read_behind(
     alloc: Global,
     said: Said,

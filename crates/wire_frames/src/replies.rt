@@ -9,7 +9,7 @@ use bytes::Bytes;
 use obj_id::{CopyState, GrantedItem, OwnItem, Reply, Usage};
 use std::alloc::{AllocError, Global};
 
-/// The frame of a reply, of at most 262,144 bytes behind its length. What a device worker is answered has none,
+/// The frame of a reply, of at most 262,144 bytes after its length. What a device worker is answered has none,
 /// and a granted item's depth is below 256.
 pub fn encode_reply(alloc: Global, reply: &Reply<Bytes>) -> Result<Vec<u8>, AllocError>
     requires { IsTrue (has_reply_frame reply.now) }

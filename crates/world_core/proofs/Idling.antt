@@ -73,7 +73,7 @@ module _ (nodes memory : ℕ) (history : List Traced) (entry : Traced) (k : IsId
         replies = replies_more nodes job entry history j.replies told;
       }
 
--- ---- want of memory
+-- ---- out of memory
 
 abbrev wanting : StepAnswer
 wanting = Told (reply.Refused NoMemory)

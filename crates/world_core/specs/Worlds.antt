@@ -74,7 +74,7 @@ pub record IsJobAfter (nodes job : ℕ) (sent : List Sent) (table : Locations) (
   -- its messages and locations are those of its private cluster
   pub messages : sent ≡ (cluster_until nodes job history).sent
   pub locations : table ≡ (cluster_until nodes job history).locations
-  -- its replies, but for want of memory, are those of its private cluster
+  -- its replies, but for NoMemory, are those of its private cluster
   pub replies : filter is_answered (replies_of job (reverse history)) ≡ private_run job nodes (inputs_until nodes job history)
 
 -- the world after a history

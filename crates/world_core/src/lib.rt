@@ -73,7 +73,7 @@ impl World {
         })
     }
 
-    /// Takes one step and gives its answer. Want of memory is the answer `NoMemory`, and then nothing has
+    /// Takes one step and gives its answer. Out of memory is the answer `NoMemory`, and then nothing has
     /// changed.
     pub fn step(&mut self, step: &Step) -> StepAnswer
         requires { is_within_lem (length self.old.nodes) step.now ≡ true }

@@ -39,7 +39,7 @@ impl Trace {
         }
     }
 
-    /// Adds a step with its answer. Want of memory leaves the trace as it was.
+    /// Adds a step with its answer. If memory runs out, the trace is as it was.
     fn push(&mut self, entry: Traced) -> Result<(), AllocError>
         ensures ok { OnOk result (self.new ≡ self.old ++ entry ∷ []) }
         ensures err { OnErr result (self.new ≡ self.old) }
@@ -58,7 +58,7 @@ impl Trace {
 
 /// Runs a schedule in a new world.
 ///
-/// For every schedule, and for every job number: the job's replies, but for want of memory, are those of
+/// For every schedule, and for every job number: the job's replies, but for `NoMemory`, are those of
 /// its private cluster, which nobody else uses, on its own inputs; and what neighbours share is answered
 /// as it is due. `NoMemory` where there is none for the world or the trace; a step that wants memory is
 /// answered so.
