@@ -151,7 +151,7 @@ fn keeps_its_bytes<D: SpillDevice>(rt: &impl Abort, device: &mut D) {
     holds!(rt; has(rt, device, OTHER, &[9]));
 }
 
-/// What is asked of it where two jobs have works of one number.
+/// What is asked of it if two jobs have works of one number.
 fn keeps_jobs_apart<D: SpillDevice>(rt: &impl Abort, device: &mut D) {
     same!(rt; write(rt, device, OTHER, &[9]), Ok(()));
     holds!(rt; is_unread(rt, device, NEIGHBOUR, 1));
@@ -310,7 +310,7 @@ fn printed(alloc: Global, fault: &FolderFault) -> Result<String, AllocError> {
     }
 }
 
-/// What is printed of a folder that is refused; nothing where it isn't.
+/// What is printed of a folder that is refused; nothing if it isn't.
 fn refusal_of<R: Files + AllocGlobal + Clone + Drop>(rt: &R, folder: &str) -> Result<String, Fail> {
     match over_files(rt, folder) {
         Ok(_) => Ok(String::new(rt.alloc())),

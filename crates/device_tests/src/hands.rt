@@ -62,7 +62,7 @@ fn all_stand(grants: &Grants, hands: &[(u32, ObjectId, u32)]) -> bool {
     hands.iter().all(|(giver, id, taker)| grants.has_given(JobNo(*giver), *id, JobNo(*taker)))
 }
 
-/// The depth of the oldest hand of the object to the job; 0 where the job doesn't see it.
+/// The depth of the oldest hand of the object to the job; 0 if the job doesn't see it.
 fn depth(grants: &Grants, job: u32, id: ObjectId) -> u32 {
     match grants.seen_by(JobNo(job), id) {
         Some(hand) => hand.depth(),

@@ -145,7 +145,7 @@ impl FetchIn {
         Ok(())
     }
 
-    /// The same, where the indexes of all chunks were made before. Takes no memory.
+    /// The same, if the indexes of all chunks were made before. Takes no memory.
     pub fn begin_with(&mut self, missing: Vec<u32>)
         requires { missing.items ≡ counted 0 (chunk_count self.old.length) }
         ensures { self.new ≡ pull_begun self.old }
@@ -224,7 +224,7 @@ impl FetchIn {
 /// The chunks of an object with these bytes that a fetch of this number asked for: one for each index that
 /// the object has, in the order asked, and an index asked twice is sent twice.
 ///
-/// `NoMemory` where the messages can't be made. Copies the bytes of each chunk once.
+/// `NoMemory` if the messages can't be made. Copies the bytes of each chunk once.
 pub fn chunks_asked(
     alloc: Global,
     bytes: &[u8],

@@ -43,7 +43,7 @@ impl Random {
         self.0
     }
 
-    /// A number below the bound; 0 where the bound is 0.
+    /// A number below the bound; 0 if the bound is 0.
     fn below(&mut self, bound: u32) -> u32 {
         (self.next() % u64::from(bound.max(1))) as u32
     }
@@ -57,7 +57,7 @@ impl Random {
 #[derive(Drop)]
 struct Outcome {
     items: Vec<Item>,
-    /// How many bytes were fed before the piece that told a fault; all, where none did.
+    /// How many bytes were fed before the piece that told a fault; all, if none did.
     sound: usize,
     /// How many bytes were fed.
     fed: usize,

@@ -70,9 +70,9 @@ impl Grants {
         self.hands.len()
     }
 
-    /// Why the giver can't grant the object to the target: `BadId` where the target is no job, the giver
-    /// or the object's own job; `NotGranted` where it is another job's object and the giver doesn't see
-    /// it; `Exists` where the hand stands; `TooMany` where the giver's oldest hand of it has depth 3, or
+    /// Why the giver can't grant the object to the target: `BadId` if the target is no job, the giver
+    /// or the object's own job; `NotGranted` if it is another job's object and the giver doesn't see
+    /// it; `Exists` if the hand stands; `TooMany` if the giver's oldest hand of it has depth 3, or
     /// 64 hands of the giver stand. Who the target is, and whether it lives, is never asked.
     pub fn grant_check(&self, giver: JobNo, id: ObjectId, target: JobNo) -> Option<Refusal>
         ensures { result ≡ grant_check_lem self.now giver.0 id target.0 }
@@ -103,7 +103,7 @@ impl Grants {
     /// that hangs on it; no other hand to the same taker does. Gives the hands that ended by depth, id,
     /// giver and taker.
     ///
-    /// `NotGranted` where no such hand stands, `NoMemory` last. A refusal changes nothing.
+    /// `NotGranted` if no such hand stands, `NoMemory` last. A refusal changes nothing.
     pub fn withdraw(
         &mut self,
         giver: JobNo,
@@ -288,7 +288,7 @@ impl Grants {
     }
 }
 
-/// A law of every table that grants and ends have made: a job sees an object exactly where a chain of at
+/// A law of every table that grants and ends have made: a job sees an object exactly if a chain of at
 /// most three standing hands leads to it from the object's own job.
 pub fn what_is_seen_is_led_to()
     ensures { (hands : List StandingHand) → AreHands hands → (id : ObjectId) (job : ℕ) → sees hands id job ↔ is_led_to hands id job }
@@ -303,7 +303,7 @@ pub fn a_store_has_what_the_table_has()
 {}
 
 /// A law of every job's own store that has the hands of the table: a Grant and a Withdraw are refused by the
-/// store exactly where the table refuses them, in the same order among the store's own checks.
+/// store exactly if the table refuses them, in the same order among the store's own checks.
 pub fn a_store_refuses_what_the_table_refuses()
     ensures { (lengths : ObjectId → ℕ) (hands : List StandingHand) (store : Shape) → HasHands lengths hands store → RefusesAlike hands store }
 {}

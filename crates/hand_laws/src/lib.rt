@@ -57,7 +57,7 @@ pub fn laws_hold_at_every_moment()
 /// What other jobs do with the hands of a job's objects doesn't show to it. If two traces are equal but for other jobs'
 /// Grants, Withdraws and Peeks of its objects, and for what commands are answered, the job has the same inputs in both and is
 /// told the same. Of the answers to commands these count: those to other jobs' other Grants, since a giver has only so many
-/// hands, and whether there was memory. Where the shared answers are due, they follow from the rest, and only whether there
+/// hands, and whether there was memory. If the shared answers are due, they follow from the rest, and only whether there
 /// was memory counts of them.
 pub fn others_hands_dont_show()
     ensures any { (nodes job : ℕ) (first second : List Traced) → OthersDontShow nodes job first second }

@@ -86,8 +86,8 @@ impl Admission {
     /// Admits a job. Its window goes to the least multiple of 16 in the node's memory at which it meets no
     /// live job's.
     ///
-    /// `BadId` for job 0, `BadSize` where the quota is out of its limits, `Exists` for a number that isn't
-    /// above all that were admitted here, `NoRoom` where 64 jobs are live or no place is free, `NoMemory`
+    /// `BadId` for job 0, `BadSize` if the quota is out of its limits, `Exists` for a number that isn't
+    /// above all that were admitted here, `NoRoom` if 64 jobs are live or no place is free, `NoMemory`
     /// last. A refusal changes nothing.
     pub fn admit(&mut self, job: JobNo, quota: Quota, key: JobKey) -> Result<(), Refusal>
         ensures ok { OnOk result (self.new ≡ admitted self.old job quota key) }
@@ -113,7 +113,7 @@ impl Admission {
         }
     }
 
-    /// The job lives no longer, and the bytes of its window are free. `NotAdmitted` where it isn't live;
+    /// The job lives no longer, and the bytes of its window are free. `NotAdmitted` if it isn't live;
     /// then nothing changes. Takes no memory.
     pub fn finish_job(&mut self, job: JobNo) -> Result<(), Refusal>
         ensures ok { OnOk result (self.new ≡ finished self.old job) }
@@ -152,7 +152,7 @@ impl Admission {
 
     /// Gives a live job another quota; its window stays where it lies. Takes no memory.
     ///
-    /// `NotAdmitted` where it isn't live, `BadSize` where the quota is out of its limits, `NoRoom` where
+    /// `NotAdmitted` if it isn't live, `BadSize` if the quota is out of its limits, `NoRoom` if
     /// the bytes after its window are another job's or not there. A refusal changes nothing.
     pub fn resize(&mut self, job: JobNo, quota: Quota) -> Result<(), Refusal>
         ensures ok { OnOk result (self.new ≡ resized self.old job quota) }
@@ -173,8 +173,8 @@ impl Admission {
 
     /// The number of the job's next session, from 1. Takes no memory.
     ///
-    /// `NotAdmitted` where the job isn't live or the key isn't its own, which are told alike, `TooMany`
-    /// where 4,294,967,295 numbers were given. A refusal changes nothing and uses no number.
+    /// `NotAdmitted` if the job isn't live or the key isn't its own, which are told alike, `TooMany`
+    /// if 4,294,967,295 numbers were given. A refusal changes nothing and uses no number.
     pub fn enter(&mut self, job: JobNo, key: &JobKey) -> Result<u32, Refusal>
         ensures number { IfOk result (λ number. number ≡ sessions_entered_lem self.old job + 1) }
         ensures count { IfOk result (λ number. sessions_entered_lem self.new job ≡ number) }
@@ -246,7 +246,7 @@ impl Admission {
         None
     }
 
-    /// How many session numbers were given for the job; 0 where it isn't live.
+    /// How many session numbers were given for the job; 0 if it isn't live.
     fn sessions_entered(&self, job: JobNo) -> u32
         ensures { result ≡ sessions_entered_lem self.now job }
     {

@@ -18,7 +18,7 @@ pub(crate) fn call(first: &str, fields: &[&str], job: JobNo) -> Option<(u32, Com
     Some((session, command))
 }
 
-/// The command that fields spell, where the job speaks.
+/// The command that fields spell, if the job speaks.
 fn brief_command(fields: &[&str], job: JobNo) -> Option<Command<u64>>
     ensures { Reads result (IsBriefCommand job.0 (map (λ field. field.now) fields.now)) }
 {

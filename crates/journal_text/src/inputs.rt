@@ -14,7 +14,7 @@ use schedule_text::fields::{alone, id, id_number, long_number, number, object, t
 use schedule_text::quota;
 use std::alloc::{AllocError, Global};
 
-/// The input that fields spell, where the job speaks.
+/// The input that fields spell, if the job speaks.
 pub(crate) fn input(
     alloc: Global,
     fields: &[&str],

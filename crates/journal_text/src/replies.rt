@@ -11,7 +11,7 @@ use obj_id::{JobNo, Refusal, Reply, Usage};
 use schedule_text::fields::{alone, long_number, number};
 use std::alloc::{AllocError, Global};
 
-/// The answer that fields spell, where the job speaks.
+/// The answer that fields spell, if the job speaks.
 pub(crate) fn reply(
     alloc: Global,
     fields: &[&str],

@@ -146,7 +146,7 @@ fn enter(order: &mut UseOrder, index: u32, before: &[u32]) -> Result<bool, Refus
     }
 }
 
-/// Enters ids of these indexes. Whether they stand in this order, and did as far as they were entered where memory ran out.
+/// Enters ids of these indexes. Whether they stand in this order, and did as far as they were entered if memory ran out.
 fn all_entered(order: &mut UseOrder, indexes: &[u32]) -> Result<bool, Refusal> {
     let mut entered = 0usize;
     let mut all = true;

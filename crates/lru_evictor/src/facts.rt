@@ -26,7 +26,7 @@ pub trait CopyLookup {
 
     ghost facts: { Self → ObjectId → Option CopyFacts };
 
-    /// What the plan reads of the copy of the id, or `None` where there is none.
+    /// What the plan reads of the copy of the id, or `None` if there is none.
     fn facts(&self, id: &ObjectId) -> Option<CopyFacts>
         ensures { result ≡ facts self.now id.now };
 }

@@ -6,7 +6,7 @@ ghost use Rattle.private_store.specs.Shape.{Copy};
 ghost use Rattle.private_store.specs.Step.{reordered};
 ghost use Rattle.lru_evictor.specs.Orders.{without_id, last_used, touched, AreThere};
 
-/// Where each id of an order has its copy, entering an id is what a step does to the order of use that
+/// If each id of an order has its copy, entering an id is what a step does to the order of use that
 /// used the id, forgetting one is what a step does that removed its copy, and a step that used nothing
 /// and removed nothing leaves the order.
 pub fn orders_follow_the_steps()

@@ -169,7 +169,7 @@ fn fits_first(
     Ok(window.fits_without(&gone, len).is_some())
 }
 
-/// How many copies have to go for so many bytes to fit, where the first `few` are too few and the first
+/// How many copies have to go for so many bytes to fit, if the first `few` are too few and the first
 /// `enough` are enough. Takes a test for each time that the distance is halved.
 fn bisect(
     alloc: Global,
@@ -197,8 +197,8 @@ fn bisect(
     Ok(enough)
 }
 
-/// How many of these copies have to go for so many bytes to fit, where the first `few` are too few, or
-/// `None` where all of them are. Takes one look-up for each and one sort, however many tests it takes.
+/// How many of these copies have to go for so many bytes to fit, if the first `few` are too few, or
+/// `None` if all of them are. Takes one look-up for each and one sort, however many tests it takes.
 fn needed<C: CopyLookup>(
     alloc: Global,
     window: &Window,
@@ -224,10 +224,10 @@ fn needed<C: CopyLookup>(
 }
 
 /// How many of the copies in `ids`, and of those that the walk chooses after them, have to go for so
-/// many bytes to fit, where those in `ids` go in any case; `None` where all of them are too few. The
+/// many bytes to fit, if those in `ids` go in any case; `None` if all of them are too few. The
 /// walk goes as far as it must, and what it chose stands after the others in `ids`.
 ///
-/// Looks at one chosen copy, two, four and so on, each time with one look-up of each and one sort, and where these
+/// Looks at one chosen copy, two, four and so on, each time with one look-up of each and one sort, and if these
 /// are enough finds how many are by bisection, which takes neither.
 pub(crate) fn shortest<C: CopyLookup>(
     alloc: Global,

@@ -35,7 +35,7 @@ impl Node {
     /// A message of a job arrives.
     ///
     /// The view that the node shows of the job afterwards is what the private step makes of the view before on that
-    /// message, and every other job's is as it was. `Stale` where the job isn't live, and then nothing changes. `NoMemory`
+    /// message, and every other job's is as it was. `Stale` if the job isn't live, and then nothing changes. `NoMemory`
     /// alone is an error, and then nothing has changed; it never stands in for `Stale`. It sends no more messages than
     /// `foresee_arrival` says, tells no job of a hand, and says what it was to its own job: nothing if it is stale.
     pub fn arrive(&mut self, job: JobNo, arrival: &Arrival) -> Result<Outcome, Refusal>

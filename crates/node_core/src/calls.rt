@@ -18,7 +18,7 @@ use spill_work::Works;
 use std::alloc::{AllocError, Global};
 
 /// Carries out a command on the row of the session's job. `NotGranted` for another job's object. The error
-/// is out of memory, and then nothing has changed; Write, Release and Usage take none, and Leave takes some only where a
+/// is out of memory, and then nothing has changed; Write, Release and Usage take none, and Leave takes some only if a
 /// copy is doomed. Works that it asks for
 /// come last in the line, and those before them stay.
 pub(crate) fn carry_out(

@@ -65,7 +65,7 @@ impl Node {
     }
 
     /// A worker answers a work that it was given: the work leaves the line, and its job takes the step. Answers what it was
-    /// to the job as well. `Stale` where the job isn't live, or nobody has taken such a work of it, and then it was nothing,
+    /// to the job as well. `Stale` if the job isn't live, or nobody has taken such a work of it, and then it was nothing,
     /// and nothing changes. Takes no memory; hashes the bytes once.
     pub(crate) fn finish(
         &mut self,

@@ -23,7 +23,7 @@ use std::alloc::Global;
 
 impl Node {
     /// Grants an object, the job's own or one that it was granted, to the target, live or not: the target is told.
-    /// `NotAdmitted` where the job isn't live; of an own object `BadId`, `Gone`, `Absent`, `NotResident`, `Exists` or
+    /// `NotAdmitted` if the job isn't live; of an own object `BadId`, `Gone`, `Absent`, `NotResident`, `Exists` or
     /// `TooMany`, of another's `BadId`, `NotGranted`, `Exists` or `TooMany`. The error is out of memory, and then nothing
     /// has changed.
     pub(crate) fn grant(
@@ -59,7 +59,7 @@ impl Node {
     }
 
     /// Takes back from the target an object that the job granted to it: the hand ends, with all that hang on it, and
-    /// each taker is told. `NotAdmitted` where the job isn't live, `NotGranted` where no such hand stands. The error is
+    /// each taker is told. `NotAdmitted` if the job isn't live, `NotGranted` if no such hand stands. The error is
     /// out of memory, and then nothing has changed.
     pub(crate) fn withdraw(
         &mut self,
@@ -131,7 +131,7 @@ fn give(
     node_table::Outcome::only(alloc, Reply::Ok)
 }
 
-/// The step of the job's row by a Withdraw of a hand that stood, where hands of the object from its own job are left or
+/// The step of the job's row by a Withdraw of a hand that stood, if hands of the object from its own job are left or
 /// none. Takes no memory.
 fn let_go(
     alloc: Global,

@@ -7,7 +7,7 @@ use bytes::Bytes;
 use obj_id::{Command, Reply};
 use private_store::{Event, Judged};
 
-/// What an event with this reply was, if it is no Finish: nothing where the operator was refused. Takes no memory.
+/// What an event with this reply was, if it is no Finish: nothing if the operator was refused. Takes no memory.
 pub(crate) fn judged_as(event: &Event, reply: &Reply<Bytes>) -> Option<Judged>
     ensures { result ≡ judged_as_lem event.now reply.now }
 {

@@ -181,8 +181,8 @@ impl Node {
         }
     }
 
-    /// The number of the job's next session, from 1. `NotAdmitted` where the job isn't live or the key isn't
-    /// the whole of its own, which are told alike; `TooMany` where 4,294,967,295 numbers were given. A
+    /// The number of the job's next session, from 1. `NotAdmitted` if the job isn't live or the key isn't
+    /// the whole of its own, which are told alike; `TooMany` if 4,294,967,295 numbers were given. A
     /// refusal changes nothing and uses no number. No event: no job's view changes. Takes no memory.
     pub fn enter(&mut self, job: JobNo, key: &JobKey) -> Result<u32, Refusal>
         ensures number { IfOk result (λ number. number ≡ sessions_entered self.old.admissions job + 1) }
@@ -197,7 +197,7 @@ impl Node {
         self.admission.enter(job, key)
     }
 
-    /// A job's quotas and what is used of them, in bytes and in numbers. `NotAdmitted` where the job isn't
+    /// A job's quotas and what is used of them, in bytes and in numbers. `NotAdmitted` if the job isn't
     /// live. No event: nothing changes. Takes no memory.
     pub fn usage(&self, job: JobNo) -> Result<Usage, Refusal>
         ensures told { IfOk result (λ told. (view : View) → Shows self.now job.0 view → told ≡ usage_of view.shape) }
@@ -212,8 +212,8 @@ impl Node {
 
     /// The bytes of an object that the session holds, all of them, lent without a copy.
     ///
-    /// `NotAdmitted` where the job isn't live, `NotGranted` for another job's object, `Absent` where there
-    /// is no copy, `NotSealed` while it is being written or fetched, `NotHeld` where the session has no
+    /// `NotAdmitted` if the job isn't live, `NotGranted` for another job's object, `Absent` if there
+    /// is no copy, `NotSealed` while it is being written or fetched, `NotHeld` if the session has no
     /// hold. No event: nothing changes. Takes no memory.
     pub fn read_borrowed(&self, job: JobNo, session: u32, id: &ObjectId) -> Result<&[u8], Refusal>
         ensures ok { IfOk result (λ bytes. (view : View) → Shows self.now job.0 view → IsBorrowed view session id.now bytes.now) }
@@ -229,7 +229,7 @@ impl Node {
     }
 
     /// A session's command that ends no hand and gives none: its job's row carries it out, but for List and Peek, which
-    /// read other rows too. `NotAdmitted` where the job isn't live.
+    /// read other rows too. `NotAdmitted` if the job isn't live.
     fn call(
         &mut self,
         job: JobNo,

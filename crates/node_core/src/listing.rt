@@ -16,7 +16,7 @@ use obj_id::{GrantedItem, Items, JobNo, ObjectId, Refusal, Reply};
 use std::alloc::AllocError;
 
 impl Node {
-    /// List: the job's own copies by rising id, and the objects that others granted to it. `NotAdmitted` where the job
+    /// List: the job's own copies by rising id, and the objects that others granted to it. `NotAdmitted` if the job
     /// isn't live. The error is out of memory. Changes nothing.
     pub(crate) fn list(&self, job: JobNo, session: u32) -> Result<node_table::Outcome, Refusal>
         ensures ok { IfOk result (λ o. StepsOne self.now (event.Call job session command.List) (row_given_of o) self.now) }

@@ -33,7 +33,7 @@ pub struct Outcome {
 }
 
 impl Outcome {
-    /// What a row gave, where no hand changed, with what the event was to its job. Takes no memory.
+    /// What a row gave, if no hand changed, with what the event was to its job. Takes no memory.
     pub(crate) fn of_row(
         alloc: Global,
         outcome: node_table::Outcome,
@@ -62,7 +62,7 @@ impl Outcome {
         Outcome::of_row(alloc, outcome, judged)
     }
 
-    /// What a row gave, where this hand of an object of this length was given: `notes` is empty, and has room for one.
+    /// What a row gave, if this hand of an object of this length was given: `notes` is empty, and has room for one.
     pub(crate) fn with_given(
         outcome: node_table::Outcome,
         notes: Vec<Note>,
@@ -86,7 +86,7 @@ impl Outcome {
         }
     }
 
-    /// The same, where these hands end by it: `notes` is empty, and has room for a note of each.
+    /// The same, if these hands end by it: `notes` is empty, and has room for a note of each.
     pub(crate) fn with_ends(
         outcome: node_table::Outcome,
         notes: Vec<Note>,

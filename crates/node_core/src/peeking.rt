@@ -19,7 +19,7 @@ use obj_id::limits::MOST_BYTES;
 use obj_id::{JobNo, ObjectId, Refusal, Reply};
 
 impl Node {
-    /// Peek: bytes of an object that another job granted, as they lie in the window of its own job. `NotAdmitted` where the
+    /// Peek: bytes of an object that another job granted, as they lie in the window of its own job. `NotAdmitted` if the
     /// job isn't live, `NotGranted`, `BadSize` for more than 65,536 bytes, `OutOfBounds`. The error is out of memory.
     /// Changes nothing.
     pub(crate) fn peek(

@@ -315,7 +315,7 @@ impl<L: Ledger> Kept<L> {
         self.logs.jobs()
     }
 
-    /// The number of the step that the last folded line of a job number is of; 0 where nothing was folded.
+    /// The number of the step that the last folded line of a job number is of; 0 if nothing was folded.
     pub fn covered(&self, job: JobNo) -> u64
         ensures { result ≡ (journal_of self.now.logs job.0).covered }
     {

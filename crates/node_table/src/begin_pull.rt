@@ -41,7 +41,7 @@ use std::alloc::{AllocError, Global};
 
 impl JobRow {
     /// Get of an object whose source is known, and that the window may have: room is made for it, and then all its chunks
-    /// are asked for at the source; the answer is `Pending`. Where there is no room the answer is that of Create. The error
+    /// are asked for at the source; the answer is `Pending`. If there is no room the answer is that of Create. The error
     /// is out of memory, and then nothing has changed. The works that it asks for come last in the line.
     pub(crate) fn begin_pull(
         &mut self,

@@ -43,7 +43,7 @@ impl RowCopy {
         None
     }
 
-    /// Why its owner task can't unpin it, where that task asks or another: `Absent`, `NotOwner`, `NotHeld`.
+    /// Why its owner task can't unpin it, if that task asks or another: `Absent`, `NotOwner`, `NotHeld`.
     fn unpin_check(&self, owner: bool) -> Option<Refusal>
         ensures { result ≡ if self.now.copy.doomed then Some Absent else unpin_check_of self.now owner }
     {
@@ -196,7 +196,7 @@ impl Copies {
         }
     }
 
-    /// Why no fetch can begin, where this was the last one's number: `TooMany`, or nothing.
+    /// Why no fetch can begin, if this was the last one's number: `TooMany`, or nothing.
     pub fn fetch_check(&self, begun: u64) -> Option<Refusal>
         ensures { result ≡ fetch_check_lem self.now begun }
     {

@@ -136,7 +136,7 @@ impl Copies {
         count
     }
 
-    /// The copy under its id, in place of what was there. Where the map is full, it moves to a larger one. A
+    /// The copy under its id, in place of what was there. If the map is full, it moves to a larger one. A
     /// failure changes nothing.
     pub fn insert(&mut self, id: ObjectId, copy: RowCopy) -> Result<(), AllocError>
         ensures ok { OnOk result (self.new ≡ with_entry self.old id copy) }
@@ -233,7 +233,7 @@ impl Copies {
         copy.hold(session)
     }
 
-    /// One hold of the session on the copy less. `Absent`, `NotHeld` where it has none; a refusal changes
+    /// One hold of the session on the copy less. `Absent`, `NotHeld` if it has none; a refusal changes
     /// nothing. Takes no memory.
     pub fn release(&mut self, id: &ObjectId, session: u32) -> Result<(), Refusal>
         ensures ok { OnOk result (self.new ≡ changed (released session) self.old id.now) }
@@ -484,14 +484,14 @@ impl Copies {
         self.get(id)?.farewell(node, *id)
     }
 
-    /// A write of the copy is in flight, where one can be.
+    /// A write of the copy is in flight, if one can be.
     fn begin_spill(&mut self, id: &ObjectId)
         ensures { self.new ≡ changed spilling_if self.old id.now }
     {
         self.update(id, |copy| copy.begin_spill_if());
     }
 
-    /// Writes of these copies are in flight, where they can be.
+    /// Writes of these copies are in flight, if they can be.
     pub fn begin_spills(&mut self, ids: &[ObjectId])
         ensures { self.new ≡ each_changed spilling_if self.old ids.now }
     {

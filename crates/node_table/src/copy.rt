@@ -297,7 +297,7 @@ impl RowCopy {
         Ok(Some(self.length()))
     }
 
-    /// One hold of the session less. `NotHeld` where it has none, and then nothing changes. Takes no memory.
+    /// One hold of the session less. `NotHeld` if it has none, and then nothing changes. Takes no memory.
     pub fn release(&mut self, session: u32) -> Result<(), Refusal>
         ensures ok { OnOk result (self.new ≡ released session self.old) }
         ensures passed { IsOk result → release_check self.old session ≡ None }

@@ -30,7 +30,7 @@ use std::alloc::{AllocError, Global};
 
 impl JobRow {
     /// Get of a sealed copy: one more hold of the session, and the copy is the most recently used one.
-    /// `TooMany` at 64 holds. `None` where there is no sealed copy, and then nothing has changed.
+    /// `TooMany` at 64 holds. `None` if there is no sealed copy, and then nothing has changed.
     fn get_sealed(&mut self, session: u32, id: &ObjectId) -> Result<Option<Reply<Bytes>>, Refusal>
         requires { is_remembered self.old.ended_tasks id.now.task ≡ false }
         ensures some { IfOk result (λ o. IfSome o (λ reply. (node : ℕ) (beside : Beside) (contents : Contents) → (id.now.job.0 == self.old.job) ≡ true → IsShown self.old beside contents
@@ -52,7 +52,7 @@ impl JobRow {
 
 impl JobRow {
     /// Get of an object that isn't here: its fetch begins, under the job's next number, and its source is
-    /// asked for. `TooMany` at 1,024 copies, and where no number is left; else the answer is `Pending`.
+    /// asked for. `TooMany` at 1,024 copies, and if no number is left; else the answer is `Pending`.
     fn begin_fetch(&mut self, alloc: Global, node: u32, id: &ObjectId) -> Result<Outcome, Refusal>
         requires alive { is_remembered self.old.ended_tasks id.now.task ≡ false }
         requires none { at self.old.copies id.now ≡ None }

@@ -70,7 +70,7 @@ impl JobRow {
         Outcome::only(alloc, Reply::Ok)
     }
 
-    /// Withdraw of the job's own object, where a hand of it to the target stood, and hands of it from the job are left
+    /// Withdraw of the job's own object, if a hand of it to the target stood, and hands of it from the job are left
     /// or none: a doomed copy that nothing else keeps is removed. Takes no memory.
     pub fn withdraw(
         &mut self,
@@ -92,7 +92,7 @@ impl JobRow {
         self.settle_after(id, Items::new(alloc))
     }
 
-    /// The bytes of an object that the job granted, all of them, lent without a copy; none where it has no place.
+    /// The bytes of an object that the job granted, all of them, lent without a copy; none if it has no place.
     pub fn lend_granted(&self, id: &ObjectId) -> Option<&[u8]>
         ensures some { IfSome result (λ bytes. bytes.now ≡ row_bytes self.now id.now) }
         ensures none { IfNone result (row_bytes self.now id.now ≡ []) }
@@ -101,7 +101,7 @@ impl JobRow {
         Some(self.bytes(id))
     }
 
-    /// The length of an object that the job granted; 0 where it has no place.
+    /// The length of an object that the job granted; 0 if it has no place.
     pub fn granted_length(&self, id: &ObjectId) -> u32
         ensures { result ≡ length (row_bytes self.now id.now) }
     {

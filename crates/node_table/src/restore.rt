@@ -37,7 +37,7 @@ use std::alloc::Global;
 impl JobRow {
     /// Get of a copy that is away and has no fault to tell of: room is made for it, and its bytes are asked for at the
     /// device; the answer is `Pending`. `Busy` at 8 works in flight, `TooMany` if the job has no number of works left, and
-    /// where there is no room the answer is that of Create. The error is out of memory, and then nothing has changed. The
+    /// if there is no room the answer is that of Create. The error is out of memory, and then nothing has changed. The
     /// works that it asks for come last in the line.
     pub(crate) fn restore(
         &mut self,

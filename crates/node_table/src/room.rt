@@ -36,8 +36,8 @@ pub(crate) enum RoomPlan {
     Ask(Items<ObjectId>),
     /// Nothing: `DeviceFailed` is to be told, since a spill failed, and then forgotten.
     TellFailedSpill,
-    /// Nothing: `Pending` where works that are in flight will make room, `Full` where nothing would,
-    /// `Busy` where as many works are in flight as may be, `TooMany` where the job has too few numbers of
+    /// Nothing: `Pending` if works that are in flight will make room, `Full` if nothing would,
+    /// `Busy` if as many works are in flight as may be, `TooMany` if the job has too few numbers of
     /// works left.
     Refuse(Refusal),
 }

@@ -174,7 +174,7 @@ impl JobRow {
         self.copies.get(id)?.extent()
     }
 
-    /// The bytes of a copy, lent without a copy; none where it isn't resident.
+    /// The bytes of a copy, lent without a copy; none if it isn't resident.
     pub(crate) fn bytes(&self, id: &ObjectId) -> &[u8]
         ensures { (k : Kept) (e : Extent) → at self.now.copies id.now ≡ Some k → extent_of k.copy ≡ Some e
             → result.now ≡ take k.copy.length (placed_bytes e self.now.window.placed) }
@@ -428,7 +428,7 @@ impl JobRow {
         self.copies.fail_fetch(id, fault);
     }
 
-    /// Writes of these copies are in flight, where they can be. Takes no memory.
+    /// Writes of these copies are in flight, if they can be. Takes no memory.
     pub(crate) fn spill_copies(&mut self, ids: &[ObjectId])
         ensures { self.new ≡ record self.old { copies = each_changed spilling_if self.old.copies ids.now } }
     {
@@ -466,7 +466,7 @@ impl JobRow {
         self.copies.lose(id, fault);
     }
 
-    /// One hold of the session on the copy less. `Absent`, `NotHeld` where it has none; a refusal changes
+    /// One hold of the session on the copy less. `Absent`, `NotHeld` if it has none; a refusal changes
     /// nothing. Takes no memory.
     pub(crate) fn release_copy(&mut self, id: &ObjectId, session: u32) -> Result<(), Refusal>
         ensures ok { OnOk result (self.new ≡ record self.old { copies = changed (released session) self.old.copies id.now }) }
@@ -577,7 +577,7 @@ impl JobRow {
     }
 }
 
-/// The first `len` bytes, or all of them where there are fewer.
+/// The first `len` bytes, or all of them if there are fewer.
 fn first_bytes(bytes: &[u8], len: u32) -> &[u8]
     ensures { result.now ≡ take len bytes.now }
 {

@@ -15,7 +15,7 @@ use std::process::Abort;
 use std::test::Fail;
 use world_core::{Shape, Trace, World};
 
-/// The bytes of a node's memory, where a test needs no other number.
+/// The bytes of a node's memory, if a test needs no other number.
 const MEMORY: u64 = 1_073_741_824;
 
 const TWO_NODES: Shape = Shape {

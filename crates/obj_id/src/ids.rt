@@ -101,7 +101,7 @@ impl Model for ObjectId {
 impl ObjectId {
     ghost use Rattle.obj_id.specs.Ids.{IsId, id_bytes};
 
-    /// The object's name by its parts. `BadId` where the job or the index is 0.
+    /// The object's name by its parts. `BadId` if the job or the index is 0.
     pub fn new(task: TaskNo, job: JobNo, index: u32) -> Result<ObjectId, Refusal>
         ensures id { IfOk result IsId }
         ensures made { 1 ≤ job.0 → 1 ≤ index
@@ -116,7 +116,7 @@ impl ObjectId {
     }
 
     /// The id whose 28 bytes these are: 20 of the task, then job and index with the highest byte
-    /// first. `BadId` where there is none: at another length, and where the job or the index is 0.
+    /// first. `BadId` if there is none: at another length, and if the job or the index is 0.
     pub fn from_bytes(bytes: &[u8]) -> Result<ObjectId, Refusal>
         ensures id { IfOk result IsId }
         ensures spelled { IfOk result (λ id. id_bytes id ≡ bytes.now) }

@@ -17,7 +17,7 @@ pub fn ids_are_ordered_as_their_bytes()
         → ⟦<ObjectId as Ord>⟧.cmp a b ≡ slice_cmp nat_cmp (id_bytes a) (id_bytes b) }
 {}
 
-/// Where a job speaks, a text names one object and one task at most, no short text is a full one,
+/// If a job speaks, a text names one object and one task at most, no short text is a full one,
 /// and the text that is printed for an object or a task is one of its names.
 pub fn a_text_names_one()
     ensures id { (job : ℕ) (a b : ObjectId) (text : List ℕ) → IsId a → IsId b

@@ -3,7 +3,7 @@ ghost use Rattle.std.specs.Prelude.{◌≡◌, ℕ, ◌^◌, ◌<◌, IfSome, de
 
 use itoa::Buffer;
 
-/// The number that the text prints, below 2^64. `None` where no number of 64 bits is printed so:
+/// The number that the text prints, below 2^64. `None` if no number of 64 bits is printed so:
 /// an empty text, a sign, a leading zero, another byte than a digit, or too great a number.
 pub fn read_u64(text: &str) -> Option<u64>
     ensures printed { IfSome result (λ number. decimal number ≡ text.now) }
@@ -19,7 +19,7 @@ pub fn read_u64(text: &str) -> Option<u64>
     }
 }
 
-/// The number that the text prints, below 2^32. `None` where no number of 32 bits is printed so.
+/// The number that the text prints, below 2^32. `None` if no number of 32 bits is printed so.
 pub fn read_u32(text: &str) -> Option<u32>
     ensures printed { IfSome result (λ number. decimal number ≡ text.now) }
     ensures read { (number : ℕ) → number < 2 ^ 32 → decimal number ≡ text.now

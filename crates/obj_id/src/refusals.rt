@@ -126,7 +126,7 @@ impl Refusal {
         }
     }
 
-    /// The refusal of a number, or `None` where there is none.
+    /// The refusal of a number, or `None` if there is none.
     pub fn from_number(number: u8) -> Option<Refusal>
         ensures numbered { IfSome result (λ refusal. number_of refusal ≡ number) }
         ensures found { (refusal : Refusal) → number_of refusal ≡ number → result ≡ Some refusal }
@@ -135,7 +135,7 @@ impl Refusal {
         ALL.get(usize::from(index)).copied()
     }
 
-    /// The refusal of a name, or `None` where there is none.
+    /// The refusal of a name, or `None` if there is none.
     pub fn from_name(name: &str) -> Option<Refusal>
         ensures named { IfSome result (λ refusal. name_of refusal ≡ name.now) }
         ensures found { (refusal : Refusal) → name_of refusal ≡ name.now → result ≡ Some refusal }

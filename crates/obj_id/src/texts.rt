@@ -14,8 +14,8 @@ use hex::FromHex;
 use std::alloc::{AllocError, Global};
 
 impl ObjectId {
-    /// The id that the text names where the job speaks, by its short text or by its digits.
-    /// `BadId` where there is none.
+    /// The id that the text names if the job speaks, by its short text or by its digits.
+    /// `BadId` if there is none.
     pub fn read(text: &str, job: JobNo) -> Result<ObjectId, Refusal>
         ensures id { IfOk result IsId }
         ensures named { IfOk result (λ id. IsIdText job.0 id text.now) }
@@ -28,7 +28,7 @@ impl ObjectId {
         ObjectId::read_full(text)
     }
 
-    /// The text by which the id is printed where the job speaks: the short one if there is one,
+    /// The text by which the id is printed if the job speaks: the short one if there is one,
     /// else its digits.
     pub fn write(&self, alloc: Global, job: JobNo) -> Result<String, AllocError>
         ensures { IfOk result (λ text. string_bytes text ≡ id_text job.0 self.now) }
@@ -47,8 +47,8 @@ impl ObjectId {
         self.task().has_short_text()
     }
 
-    /// The id whose short text this is where the job speaks: `tN.I` for its own object, `J/tN.I`
-    /// for one of another job. `BadId` where there is none.
+    /// The id whose short text this is if the job speaks: `tN.I` for its own object, `J/tN.I`
+    /// for one of another job. `BadId` if there is none.
     pub fn read_short(text: &str, job: JobNo) -> Result<ObjectId, Refusal>
         ensures id { IfOk result IsId }
         ensures spelled { IfOk result (λ id. IsShortText job.0 id text.now) }
@@ -62,7 +62,7 @@ impl ObjectId {
         id.ok_or(Refusal::BadId)
     }
 
-    /// The id's short text where the job speaks.
+    /// The id's short text if the job speaks.
     pub fn write_short(&self, alloc: Global, job: JobNo) -> Result<String, AllocError>
         requires { IsTrue (has_short_text self.now.task) }
         ensures { IfOk result (λ text. string_bytes text ≡ short_text job.0 self.now) }
@@ -77,7 +77,7 @@ impl ObjectId {
         }
     }
 
-    /// The id whose 56 digits these are, in lower case. `BadId` where there is none.
+    /// The id whose 56 digits these are, in lower case. `BadId` if there is none.
     pub fn read_full(text: &str) -> Result<ObjectId, Refusal>
         ensures id { IfOk result IsId }
         ensures spelled { IfOk result (λ id. full_text id ≡ text.now) }
@@ -128,7 +128,7 @@ impl ObjectId {
 }
 
 impl TaskNo {
-    /// The task that the text names, as `tN` or by its digits. `BadId` where there is none.
+    /// The task that the text names, as `tN` or by its digits. `BadId` if there is none.
     pub fn read(text: &str) -> Result<TaskNo, Refusal>
         ensures task { IfOk result IsTask }
         ensures named { IfOk result (λ task. IsTaskText task text.now) }
@@ -169,7 +169,7 @@ impl TaskNo {
         TaskNo(bytes)
     }
 
-    /// The task whose 40 digits these are, in lower case. `BadId` where there is none.
+    /// The task whose 40 digits these are, in lower case. `BadId` if there is none.
     pub fn read_full(text: &str) -> Result<TaskNo, Refusal>
         ensures task { IfOk result IsTask }
         ensures spelled { IfOk result (λ task. full_task_text task ≡ text.now) }

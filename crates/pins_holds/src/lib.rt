@@ -133,7 +133,7 @@ impl Pins {
     }
 
     /// The owner task keeps it no longer; `owner` says whether it is that task that asks. `NotOwner`
-    /// where it isn't, and for a secondary; `NotHeld` where there is no pin. A refusal changes nothing.
+    /// if it isn't, and for a secondary; `NotHeld` if there is no pin. A refusal changes nothing.
     pub fn unpin(&mut self, owner: bool) -> Result<(), Refusal>
         ensures ok { OnOk result (self.new ≡ record self.old { pinned = false }) }
         ensures passed { IsOk result → unpin_check_lem self.old owner ≡ None }
@@ -168,7 +168,7 @@ impl Pins {
         }
     }
 
-    /// The task borrows it, as the last one. `NotOwner` for a secondary, `Exists` where the task borrows
+    /// The task borrows it, as the last one. `NotOwner` for a secondary, `Exists` if the task borrows
     /// it, `TooMany` at 64 borrowers, `NoMemory` last. A refusal changes nothing.
     pub fn borrow(&mut self, task: TaskNo) -> Result<(), Refusal>
         ensures ok { OnOk result (self.new ≡ with_borrower self.old task) }
@@ -201,7 +201,7 @@ impl Pins {
         }
     }
 
-    /// The task borrows it no longer. `NotOwner` for a secondary, `Absent` where it doesn't borrow it. A
+    /// The task borrows it no longer. `NotOwner` for a secondary, `Absent` if it doesn't borrow it. A
     /// refusal changes nothing. Takes no memory.
     pub fn give_up(&mut self, task: TaskNo) -> Result<(), Refusal>
         ensures ok { OnOk result (self.new ≡ without_borrower self.old task) }
@@ -265,7 +265,7 @@ impl Pins {
         }
     }
 
-    /// One hold less of the session. `NotHeld` where it has none, and then nothing changes. Takes no
+    /// One hold less of the session. `NotHeld` if it has none, and then nothing changes. Takes no
     /// memory.
     pub fn release(&mut self, session: u32) -> Result<(), Refusal>
         ensures ok { OnOk result (self.new ≡ with_holds self.old session (holds_of_lem self.old session - 1)) }

@@ -29,7 +29,7 @@ ghost use Rattle.private_store.specs.Trace.{inputs_until};
 ghost use Rattle.private_store.specs.NodeInputs.{before_at, inputs_to};
 ghost use Rattle.obj_id.specs.declared.commands.Reply.TheVariants as reply;
 
-/// First fit gives the least multiple of 16 at which the bytes are free, and nothing where there is
+/// First fit gives the least multiple of 16 at which the bytes are free, and nothing if there is
 /// none.
 pub fn first_fit_is_least()
     ensures units { (extents : List Extent) (window n p : ℕ) → first extents window n ≡ Some p → p % 16 ≡ 0 }

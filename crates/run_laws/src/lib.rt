@@ -38,7 +38,7 @@ pub fn others_hands_dont_show_in_runs()
 
 /// Runs two schedules, each in a new world. A job whose inputs are the same in both is given equal replies, but for want of
 /// memory, whatever all others do. Two runs that differ in other jobs' Grants, Withdraws and Peeks of a job's objects alone,
-/// as `others_hands_dont_show_in_runs` has it, give the job the same inputs and the same replies. `NoMemory` where there is
+/// as `others_hands_dont_show_in_runs` has it, give the job the same inputs and the same replies. `NoMemory` if there is
 /// none for a world or a trace.
 pub fn run_two(
     alloc: Global,

@@ -43,7 +43,7 @@ fn command_of(
     }
 }
 
-/// The command that a word and the fields after it spell, where the job speaks, unless it carries
+/// The command that a word and the fields after it spell, if the job speaks, unless it carries
 /// bytes: `None` at `write`, whose last field is spelled differently in different texts.
 pub fn plain_command<P: Drop>(word: Word, fields: &[&str], job: JobNo) -> Option<Command<P>>
     ensures { Reads result (IsPlainCommand job.0 word (map (λ field. field.now) fields.now)) }

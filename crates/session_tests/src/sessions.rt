@@ -182,7 +182,7 @@ fn served(
 }
 
 /// Who came in was left last, and nobody else called; what was written is a beginning of the whole answer,
-/// and is handed over where the session ended.
+/// and is handed over if the session ended.
 fn look_at(rt: &impl Abort, session: &Session, whole: &[u8]) {
     holds!(rt; whole.starts_with(session.outbox.written.as_slice()));
     if session.outcome.is_ok() {

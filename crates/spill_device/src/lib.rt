@@ -51,7 +51,7 @@ impl<T: Drop> From<AllocFailed<T>> for DeviceFault {
     }
 }
 
-/// Keeps bytes under keys, and may fail. `Failed` is answered only where the count of failures rose by
+/// Keeps bytes under keys, and may fail. `Failed` is answered only if the count of failures rose by
 /// one in that call, or stands at its last value; no other answer moves the count.
 pub trait SpillDevice {
     ghost use Rattle.std.specs.Prelude.{◌≡◌, ℕ, List, length, Result, IfOk, ⊤};
@@ -74,13 +74,13 @@ pub trait SpillDevice {
         ensures counted { failures_of self.new ≡ count_after result (failures_of self.old) }
         ensures gives { write_gives self.old key bytes.now result self.new };
 
-    /// The bytes that are kept under the key. `Failed` where they aren't `len` bytes.
+    /// The bytes that are kept under the key. `Failed` if they aren't `len` bytes.
     fn read(&mut self, key: DeviceKey, len: u32) -> Result<Bytes, DeviceFault>
         ensures whole { IfOk result (λ bytes. length bytes ≡ len) }
         ensures counted { failures_of self.new ≡ count_after result (failures_of self.old) }
         ensures gives { read_gives self.old key len result self.new };
 
-    /// Keeps nothing under the key any longer; `Ok` where nothing was.
+    /// Keeps nothing under the key any longer; `Ok` if nothing was.
     fn erase(&mut self, key: DeviceKey) -> Result<(), DeviceFault>
         ensures counted { failures_of self.new ≡ count_after result (failures_of self.old) }
         ensures gives { erase_gives self.old key result self.new };

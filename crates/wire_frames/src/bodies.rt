@@ -51,7 +51,7 @@ impl Said {
     }
 }
 
-/// What a frame of this kind and body says; `None` where the body has another form.
+/// What a frame of this kind and body says; `None` if the body has another form.
 pub(crate) fn read_body(kind: FrameKind, body: &[u8]) -> Option<Said>
     ensures reads { option_filled result body.now ≡ read_of kind body.now }
     ensures payload { IfSome result (λ said. HasPayload said body.now) }

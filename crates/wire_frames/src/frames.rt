@@ -98,7 +98,7 @@ pub(crate) fn is_command_length(size: u32) -> bool
     1 <= size && size <= MOST_BYTES
 }
 
-/// What a frame says by its kind's byte and its body; `None` where there is no such kind or the body has another
+/// What a frame says by its kind's byte and its body; `None` if there is no such kind or the body has another
 /// form.
 fn said_by(kind: u8, body: &[u8]) -> Option<Said>
     ensures reads { option_filled result body.now ≡ item_of kind body.now }

@@ -59,7 +59,7 @@ const KINDS: [FrameKind; 20] = [
 ];
 
 impl FrameKind {
-    /// The kind of a byte, or `None` where there is none.
+    /// The kind of a byte, or `None` if there is none.
     pub(crate) fn from_byte(byte: u8) -> Option<FrameKind>
         ensures found { IfSome result (λ kind. byte_of kind ≡ byte) }
         ensures none { IfNone result ((byte ≡ 0) ⊎ (20 < byte)) }

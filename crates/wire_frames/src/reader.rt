@@ -54,7 +54,7 @@ impl Reader {
 
     /// The items of the frames that are whole now, in order.
     ///
-    /// `Malformed` where a fault stands at the head of what is left: a length out of its range once its four
+    /// `Malformed` if a fault stands at the head of what is left: a length out of its range once its four
     /// bytes are there, or a whole frame of another form. Items that stand before a fault in the same piece are
     /// given, and the fault is answered by the next call, also of an empty piece; every later call answers it
     /// again. `NoMemory` leaves the reader as it was.
@@ -92,7 +92,7 @@ impl Reader {
     }
 }
 
-/// Reads the whole frames of what was kept and of the piece after it, and keeps what is left. Where nothing was
+/// Reads the whole frames of what was kept and of the piece after it, and keeps what is left. If nothing was
 /// kept they are read from the piece itself. If memory runs out, what was kept stays.
 fn read_on(alloc: Global, kept: &mut BytesMut, piece: &[u8]) -> Result<Gain, AllocError>
     requires { IsPart kept.old.items }
@@ -115,7 +115,7 @@ fn read_on(alloc: Global, kept: &mut BytesMut, piece: &[u8]) -> Result<Gain, All
     gain
 }
 
-/// Reads on where a part of a frame is kept. The piece gives what that frame lacks; once it is whole the piece is
+/// Reads on if a part of a frame is kept. The piece gives what that frame lacks; once it is whole the piece is
 /// read after it. If memory runs out, bytes of the piece may be left after what was kept.
 fn finish_frame(alloc: Global, kept: &mut BytesMut, piece: &[u8]) -> Result<Gain, AllocError>
     requires { IsPart kept.old.items }
@@ -136,7 +136,7 @@ fn finish_frame(alloc: Global, kept: &mut BytesMut, piece: &[u8]) -> Result<Gain
     }
 }
 
-/// Reads on where a whole frame is kept, and no more: its bytes become its item's, and what is after it is read from
+/// Reads on if a whole frame is kept, and no more: its bytes become its item's, and what is after it is read from
 /// the piece itself. If memory runs out, what was kept stays.
 fn read_behind(
     alloc: Global,

@@ -105,7 +105,7 @@ impl World {
         })
     }
 
-    /// What the node of the place answers if nothing is made of a message: Ok, or `Stale` where the job isn't live.
+    /// What the node of the place answers if nothing is made of a message: Ok, or `Stale` if the job isn't live.
     fn reply_to_nothing(&self, job: JobNo, place: u32) -> Reply<Bytes>
         requires { place < length self.now.nodes }
         ensures { (node : Hosted) → slice_get self.now.nodes place ≡ Some node → result ≡ answered (stale_unless (is_some (live_at node.admissions job))) }

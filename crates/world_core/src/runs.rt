@@ -60,7 +60,7 @@ impl Trace {
 ///
 /// For every schedule, and for every job number: the job's replies, but for `NoMemory`, are those of
 /// its private cluster, which nobody else uses, on its own inputs; and what neighbours share is answered
-/// as it is due. `NoMemory` where there is none for the world or the trace; a step that wants memory is
+/// as it is due. `NoMemory` if there is none for the world or the trace; a step that wants memory is
 /// answered so.
 pub fn run(alloc: Global, shape: Shape, schedule: Vec<Step>) -> Result<Trace, Refusal>
     requires shape { is_shape shape ≡ true }
