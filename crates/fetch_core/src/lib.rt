@@ -100,7 +100,7 @@ impl FetchIn {
         self.stage
     }
 
-    /// The indexes of the chunks that are missing while it is Pulling, rising; else none.
+    /// The indexes of the chunks that are missing while it is Pulling, rising; otherwise none.
     pub fn missing(&self) -> &[u32]
         ensures { result.now ≡ missing_of self.now.phase }
     {

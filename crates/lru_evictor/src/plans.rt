@@ -19,7 +19,7 @@ impl UseOrder {
     /// How room for an object of `len` bytes is made in the job's window, by the rule of room over the
     /// job's copies alone. `NoMemory` alone; changes nothing.
     ///
-    /// Takes one search of the window if there is room. Else it walks the job's order until enough
+    /// Takes one search of the window if there is room. Otherwise it walks the job's order until enough
     /// copies are found, one look-up each, and searches the window as often as twice the logarithm of how
     /// many have to go; only if eviction won't do does it look at all copies.
     pub fn plan<C: CopyLookup>(

@@ -150,7 +150,7 @@ impl Copies {
         Ok(())
     }
 
-    /// The copy of the id goes, if there is one. Takes no memory.
+    /// The copy of the id is removed, if there is one. Takes no memory.
     pub fn remove(&mut self, id: &ObjectId)
         ensures { self.new ≡ without_entry self.old id.now }
     {

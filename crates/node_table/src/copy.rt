@@ -137,7 +137,7 @@ impl RowCopy {
         })
     }
 
-    /// Whether it goes as soon as nothing keeps it.
+    /// Whether it is removed as soon as nothing keeps it.
     pub fn doomed(&self) -> bool
         ensures { result ≡ self.now.copy.doomed }
     {

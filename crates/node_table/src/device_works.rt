@@ -40,7 +40,7 @@ pub struct Answered {
 
 impl JobRow {
     /// Finish: a device answered the work of this number. The write of a copy backs it, unless it failed, which the next
-    /// one that waits for room is told; the read of a copy seals it again, if it gave the sealed bytes, and else the copy
+    /// one that waits for room is told; the read of a copy seals it again, if it gave the sealed bytes, and otherwise the copy
     /// is away with a fault to tell of. A doomed copy that nothing else keeps is then removed. `Stale` if nobody has taken
     /// such a work, and then nothing changes. Takes no memory; hashes the bytes once.
     pub fn finish(

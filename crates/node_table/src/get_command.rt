@@ -1,4 +1,4 @@
-//! Get: a hold on a copy that is here, and else what brings it here.
+//! Get: a hold on a copy that is here, and otherwise what brings it here.
 ghost use Rattle.std.specs.Prelude.{◌≡◌, [], ◌==◌, ℕ, ◌+◌, ◌≤◌, List, length, true, false, Some, None, IsOk, IfOk, IfSome, IfNone, OnOk, OnErr, IsErrOf};
 ghost use Rattle.std.specs.Option.{option_map_or};
 ghost use Rattle.obj_id.specs.declared.ids.JobNo.{JobNo};
@@ -52,7 +52,7 @@ impl JobRow {
 
 impl JobRow {
     /// Get of an object that isn't here: its fetch begins, under the job's next number, and its source is
-    /// asked for. `TooMany` at 1,024 copies, and if no number is left; else the answer is `Pending`.
+    /// asked for. `TooMany` at 1,024 copies, and if no number is left; otherwise the answer is `Pending`.
     fn begin_fetch(&mut self, alloc: Global, node: u32, id: &ObjectId) -> Result<Outcome, Refusal>
         requires alive { is_remembered self.old.ended_tasks id.now.task ≡ false }
         requires none { at self.old.copies id.now ≡ None }

@@ -59,7 +59,7 @@ pub enum Command<P> {
     Borrow(ObjectId, TaskNo),
     /// A task refers to the object no longer.
     GiveUp(ObjectId, TaskNo),
-    /// The copy goes as soon as nothing keeps it.
+    /// The copy is removed as soon as nothing keeps it.
     Delete(ObjectId),
     /// The task has ended: its objects go, and its borrows.
     EndTask(TaskNo),

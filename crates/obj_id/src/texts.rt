@@ -29,7 +29,7 @@ impl ObjectId {
     }
 
     /// The text by which the id is printed if the job speaks: the short one if there is one,
-    /// else its digits.
+    /// otherwise its digits.
     pub fn write(&self, alloc: Global, job: JobNo) -> Result<String, AllocError>
         ensures { IfOk result (λ text. string_bytes text ≡ id_text job.0 self.now) }
     {
@@ -141,7 +141,7 @@ impl TaskNo {
         TaskNo::read_full(text)
     }
 
-    /// The text by which the task is printed: `tN` if its first 12 bytes are zero, else its digits.
+    /// The text by which the task is printed: `tN` if its first 12 bytes are zero, otherwise its digits.
     pub fn write(&self, alloc: Global) -> Result<String, AllocError>
         ensures { IfOk result (λ text. string_bytes text ≡ task_text self.now) }
     {

@@ -115,7 +115,7 @@ impl ObjectCopy {
         self.backed
     }
 
-    /// Whether it goes as soon as nothing keeps it.
+    /// Whether it is removed as soon as nothing keeps it.
     pub fn doomed(&self) -> bool
         ensures { result ≡ self.now.doomed }
     {
@@ -255,7 +255,7 @@ impl ObjectCopy {
         self.digest = None;
     }
 
-    /// It goes as soon as nothing keeps it.
+    /// It is removed as soon as nothing keeps it.
     pub fn doom(&mut self)
         ensures { self.new ≡ record self.old { doomed = true } }
     {

@@ -121,7 +121,7 @@ impl Directory {
         }
     }
 
-    /// Takes out the node's entry of the object; a row goes with its last one.
+    /// Takes out the node's entry of the object; a row is removed with its last one.
     fn remove(&mut self, job: JobNo, id: ObjectId, node: u32)
         ensures { Applies self.old self.new job (RemoveLocation id node) }
     {

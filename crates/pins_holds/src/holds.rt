@@ -150,7 +150,7 @@ fn set_in(by_session: &mut BTreeMap<u32, u32>, session: u32, count: u32)
     }
 }
 
-/// The session goes.
+/// The session is removed.
 fn remove_from(by_session: &mut BTreeMap<u32, u32>, session: u32)
     requires { IsTrue (is_sorted nat_cmp by_session.old.entries) }
     ensures { by_session.new.entries ≡ without_session by_session.old.entries session }

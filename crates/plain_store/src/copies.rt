@@ -50,7 +50,7 @@ pub struct PlainCopy {
     pub holds: Vec<(u32, u32)>,
     /// The number of the write that put its bytes on the device.
     pub backed: Option<u64>,
-    /// Whether it goes as soon as nothing keeps it.
+    /// Whether it is removed as soon as nothing keeps it.
     pub doomed: bool,
     /// Of a restore, what the next Get is told.
     pub fault: Option<Fault>,
@@ -71,7 +71,7 @@ pub struct PlainWork {
     /// From 1 on.
     pub number: u64,
     pub id: ObjectId,
-    /// Whether it spills, and else restores.
+    /// Whether it spills; otherwise it restores.
     pub writes: bool,
 }
 

@@ -222,7 +222,7 @@ impl Works {
     }
 }
 
-/// The last number that a work of the job had is this; with 0 the job's entry goes.
+/// The last number that a work of the job had is this; with 0 the job's entry is removed.
 fn count_back(used: &mut IndexMap<JobNo, u64>, job: JobNo, last: u64)
     requires { IsSome (lookup (same_job job) used.old.entries) }
     ensures entries { used.new.entries ≡ (if last == 0 then remove_entry (same_job job) used.old.entries else set_value (same_job job) used.old.entries last) }
