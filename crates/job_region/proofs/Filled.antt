@@ -100,6 +100,9 @@ module _ (q : ℕ) (m : List ℕ) where
   pub filled_cut : (quota : ℕ) → length m ≤ q → filled quota (take quota m) ≡ take quota (filled q m) ++ zeros (quota - length (filled q m))
   filled_cut quota within = ⊎_elim longer shorter (cases_lt (length m) quota) ∙ ap (λ k. take quota (filled q m) ++ zeros (quota - k)) (sym (filled_whole q m within))
     where
+      none : quota ≤ q → 0 ≡ quota - q
+      none stays = omega (arith, stays)
+
       -- as many as the window had, or fewer, and those that it gains
       more : length m < quota → zeros (quota - length m) ≡ take (quota - length m) (zeros (q - length m)) ++ zeros (quota - q)
       more lt = ⊎_elim
@@ -108,10 +111,9 @@ module _ (q : ℕ) (m : List ℕ) where
           ap zeros sum ∙ sym (replicate-append-replicate (q - length m) (quota - q) 0)
           ∙ ap (λ xs. xs ++ zeros (quota - q)) (sym (take_all (quota - length m) (zeros (q - length m)) (omega (arith, length-replicate {A = ℕ} (q - length m) 0, grows)))))
           (λ (stays : quota ≤ q).
-          let none : 0 ≡ quota - q = omega (arith, stays) in
           sym (take-replicate (quota - length m) (q - length m) 0 (omega (arith, stays)))
           ∙ sym (append-nil (take (quota - length m) (zeros (q - length m))))
-          ∙ ap (λ k. take (quota - length m) (zeros (q - length m)) ++ zeros k) none)
+          ∙ ap (λ k. take (quota - length m) (zeros (q - length m)) ++ zeros k) (none stays))
           (cases_lt q quota)
 
       longer : length m < quota → filled quota (take quota m) ≡ take quota (filled q m) ++ zeros (quota - q)
