@@ -1,10 +1,11 @@
 -- A journal with one line more, and how it ends.
-use Rattle.std.proofs.Common.{◌≡◌, ◌≢◌, ℕ, suc, ◌+◌, ◌-◌, Bool, true, false, List, [], ◌∷◌, ◌++◌, length, take, Option, None, Some, Result, Ok, Err, IfSome, inr, refl, sym, ap, subst, ◌∙◌, arith, append_assoc}
+use Rattle.std.proofs.Common.{◌≡◌, ◌≢◌, ℕ, suc, ◌+◌, ◌-◌, Bool, true, false, List, [], ◌∷◌, ◌++◌, length, take, drop, Option, None, Some, Result, Ok, Err, IfSome, inr, refl, sym, ap, subst, ◌∙◌, arith, append_assoc}
 use Rattle.std.specs.Prelude.{All}
 use Rattle.std.specs.Io.{StopsAt}
+use Rattle.std.specs.Io.BufRead.{take_through}
 use Rattle.std.specs.Io.KnownBytes.{Consumes, IsAtEnd}
 use Rattle.std.specs.Str.{IsUtf8}
-use Rattle.std.proofs.Math.Seq.{take-append_seam}
+use Rattle.std.proofs.Math.Seq.{take-append_seam, drop-append_seam, drop-append-add}
 use Rattle.std.proofs.lemmas.List.{append_cancel_right, length-append}
 use Rattle.private_store.proofs.KnownBytes.{Consumes-none, Consumes-then, Consumes-all}
 use Rattle.schedule_text.specs.Fields.{Reads}
@@ -16,7 +17,7 @@ use Rattle.journal_replay.specs.declared.fault.ReplayFault.{ReplayFault}
 use Rattle.journal_replay.specs.declared.fault.ReplayFault.TheVariants.{NotAnEntry, Input, Output, NoMemory}
 use Rattle.journal_replay.specs.declared.replay.Outcome.{Outcome}
 use Rattle.journal_replay.specs.declared.replay.Replay.{Replay}
-use Rattle.journal_replay.specs.Journals.{AreRead, IsNoEntry, IsNoHead, JournalEnds, bytes_of, journal_bytes, with_feed}
+use Rattle.journal_replay.specs.Journals.{AreRead, IsNextLine, IsNoEntry, IsNoHead, JournalEnds, bytes_of, journal_bytes, with_feed}
 use Rattle.journal_replay.specs.Progress.{Adds, AddsLine, EndsLines, IsReplay, LinesEnd, Progress, StopsLines, TakesLine}
 use Rattle.journal_replay.specs.Replays.{IsFound, Read, entries_of, next_number}
 
@@ -55,6 +56,19 @@ whole_text bytes text is stops =
     let at : length bytes - 1 ≡ length text = ap (λ b. length b - 1) is ∙ ap (λ n. n - 1) (length-append text (10 ∷ [])) ∙ (omega arith) in
     subst (All (λ byte. byte ≢ 10)) (ap (λ b. take (length bytes - 1) b) is ∙ ap (λ n. take n (with_feed text)) at ∙ take-append_seam text (10 ∷ [])) stops
 
+-- the line that is read next is the next one of the input
+next_line : (a r : Option (List ℕ)) (before bytes : List ℕ) → Consumes a r before → IfSome r (λ left. bytes ≡ take_through 10 left) → IsNextLine a before bytes
+next_line None r before bytes read whole = tt
+next_line (Some all) None before bytes read whole = absurd read
+next_line (Some all) (Some left) before bytes read whole = whole ∙ ap (take_through 10) (sym (ap (drop (length before)) read ∙ drop-append_seam before left))
+
+-- and so after other bytes before these
+next_after : (a b : Option (List ℕ)) (first before bytes : List ℕ) → Consumes a b first → IsNextLine b before bytes → IsNextLine a (first ++ before) bytes
+next_after None b first before bytes read whole = tt
+next_after (Some all) None first before bytes read whole = absurd read
+next_after (Some all) (Some left) first before bytes read whole =
+    whole ∙ ap (take_through 10) (sym (ap (λ n. drop n all) (length-append first before) ∙ ap (drop (length first + length before)) read ∙ drop-append-add first left (length before)))
+
 -- ---- the lines so far
 
 pub begun : (version : Version) (a : Option (List ℕ)) → Progress version 2 (record { version = version; jobs = []; difference = None }) a a
@@ -75,13 +89,14 @@ module _ (version : Version) (number : ℕ) (replay : Replay) (a r : Option (Lis
       }
 
   module _ (r1 : Option (List ℕ)) (bytes : List ℕ) (read : Consumes r r1 bytes) where
-    pub stopped : ((before : List Read) → IsReplay before replay → IsNoEntry replay.version (entries_of before) bytes) → StopsLines version a r1 number
-    stopped none =
+    pub stopped : IfSome r (λ left. bytes ≡ take_through 10 left) → ((before : List Read) → IsReplay before replay → IsNoEntry replay.version (entries_of before) bytes) → StopsLines version a r1 number
+    stopped whole none =
         record {
           lines = so_far.lines;
           rest = bytes;
           read = so_far.read;
           consumed = Consumes-then a r r1 (bytes_of so_far.lines) bytes so_far.consumed read;
+          whole = next_line a r (bytes_of so_far.lines) bytes so_far.consumed whole;
           none = subst (λ v. IsNoEntry v (entries_of so_far.lines) bytes) so_far.form (none so_far.lines so_far.after);
           numbered = sym so_far.counted;
         }
@@ -129,6 +144,7 @@ whole_journal version a b c bytes is head (Err (NotAnEntry number)) ends =
       rest = ends.rest;
       read = ends.read;
       consumed = subst (Consumes a c) (sym (append_assoc (with_feed (head_text version)) (bytes_of ends.lines) ends.rest)) (Consumes-then a b c (with_feed (head_text version)) (bytes_of ends.lines ++ ends.rest) (subst (Consumes a b) is head) ends.consumed);
+      whole = next_after a b (with_feed (head_text version)) (bytes_of ends.lines) ends.rest (subst (Consumes a b) is head) ends.whole;
       none = ends.none;
       numbered = ends.numbered;
     })

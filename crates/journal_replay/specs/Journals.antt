@@ -1,5 +1,6 @@
 -- A journal's text: its first line, and a line for each entry. Lines stand newest first.
-use Rattle.std.specs.Prelude.{◌≡◌, ◌≢◌, ℕ, suc, List, [], ◌∷◌, ◌++◌, All, length, Option, IfSome, Result, Ok, Err, ◌⊎◌, ⊤}
+use Rattle.std.specs.Prelude.{◌≡◌, ◌≢◌, ℕ, suc, List, [], ◌∷◌, ◌++◌, All, length, drop, Option, IfSome, Result, Ok, Err, ◌⊎◌, ⊤}
+use Rattle.std.specs.Io.BufRead.{take_through}
 use Rattle.std.specs.Io.KnownBytes.{Consumes}
 use Rattle.std.specs.Str.{IsUtf8}
 use Rattle.journal_text.specs.declared.entry.Entry.{Entry}
@@ -53,10 +54,15 @@ pub record IsJournal (read_old : Option (List ℕ)) (outcome : Outcome) : Type 0
   pub counted : outcome.lines ≡ length lines
   pub found : IsFound outcome.version lines outcome.difference
 
+-- of an input, what comes after these bytes: the next line with its line feed, or all that is left
+abbrev pub IsNextLine : Option (List ℕ) → List ℕ → List ℕ → Type 0
+IsNextLine read_old before bytes = IfSome read_old (λ all. bytes ≡ take_through 10 (drop (length before) all))
+
 -- the first line is no journal's
 pub record StopsAtHead (read_old read_new : Option (List ℕ)) (number : ℕ) : Type 0 where
   pub rest : List ℕ
   pub consumed : Consumes read_old read_new rest
+  pub whole : IsNextLine read_old [] rest
   pub none : IsNoHead rest
   pub numbered : number ≡ 1
 
@@ -67,6 +73,7 @@ pub record StopsAtLine (read_old read_new : Option (List ℕ)) (number : ℕ) : 
   pub rest : List ℕ
   pub read : AreRead version lines
   pub consumed : Consumes read_old read_new (journal_bytes version lines ++ rest)
+  pub whole : IsNextLine read_old (journal_bytes version lines) rest
   pub none : IsNoEntry version (entries_of lines) rest
   pub numbered : number ≡ suc (suc (length lines))
 

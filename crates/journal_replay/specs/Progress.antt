@@ -9,7 +9,7 @@ use Rattle.journal_replay.specs.declared.replay.Outcome.{Outcome}
 use Rattle.journal_replay.specs.declared.replay.Replay.{Replay}
 use Rattle.journal_replay.specs.Replays.{IsFound, Read, entries_of, next_number}
 use Rattle.journal_replay.specs.States.{IsAfter}
-use Rattle.journal_replay.specs.Journals.{AreRead, IsNoEntry, bytes_of, with_feed}
+use Rattle.journal_replay.specs.Journals.{AreRead, IsNextLine, IsNoEntry, bytes_of, with_feed}
 
 -- ---- a line more
 
@@ -72,6 +72,7 @@ pub record StopsLines (version : Version) (read_old read_new : Option (List ℕ)
   pub rest : List ℕ
   pub read : AreRead version lines
   pub consumed : Consumes read_old read_new (bytes_of lines ++ rest)
+  pub whole : IsNextLine read_old (bytes_of lines) rest
   pub none : IsNoEntry version (entries_of lines) rest
   pub numbered : number ≡ suc (suc (length lines))
 

@@ -1,6 +1,7 @@
 //! A whole journal, read and replayed.
-ghost use Rattle.std.specs.Prelude.{◌≡◌, false, IfOk, IfErr, MatchOption};
+ghost use Rattle.std.specs.Prelude.{◌≡◌, false, IfOk, IfErr, IfSome, MatchOption};
 ghost use Rattle.std.specs.Io.{StopsAt};
+ghost use Rattle.std.specs.Io.BufRead.{take_through};
 ghost use Rattle.std.specs.Io.KnownBytes.{Consumes, IsAtEnd};
 ghost use Rattle.journal_text.specs.Reading.{head_text};
 ghost use Rattle.journal_replay.specs.Journals.{IsNoHead, JournalEnds, with_feed};
@@ -58,6 +59,7 @@ fn replay_lines<R: BufRead>(
 fn next_line<R: BufRead>(reader: &mut R, line: &mut Vec<u8>) -> Result<bool, ReplayFault>
     ensures consumed { Consumes (R.remaining reader.old) (R.remaining reader.new) line.new.items }
     ensures one { StopsAt line.new.items 10 }
+    ensures whole { IfOk result (λ _. IfSome (R.remaining reader.old) (λ left. line.new.items ≡ take_through 10 left)) }
     ensures end { IfOk result (λ is_line. is_line ≡ false → IsAtEnd (R.remaining reader.old)) }
     ensures fault { IfErr result IsReadingFault }
 {

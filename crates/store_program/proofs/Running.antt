@@ -1,9 +1,10 @@
 -- A run with one line more, and how it ends.
-use Rattle.std.proofs.Common.{◌≡◌, ◌≢◌, ℕ, suc, ◌+◌, ◌-◌, Bool, true, List, [], ◌∷◌, length, take, Option, None, Some, Result, Ok, Err, OnOk, refl, sym, ap, subst, ◌∙◌, arith}
+use Rattle.std.proofs.Common.{◌≡◌, ◌≢◌, ℕ, suc, ◌+◌, ◌-◌, Bool, true, List, [], ◌∷◌, length, take, drop, Option, None, Some, IfSome, Result, Ok, Err, OnOk, refl, sym, ap, subst, ◌∙◌, arith}
 use Rattle.std.specs.Prelude.{All, ⊤}
 use Rattle.std.specs.Io.{StopsAt}
+use Rattle.std.specs.Io.BufRead.{take_through}
 use Rattle.std.specs.Io.KnownBytes.{Keeps, Consumes, IsAtEnd}
-use Rattle.std.proofs.Math.Seq.{take-append_seam}
+use Rattle.std.proofs.Math.Seq.{take-append_seam, drop-append_seam}
 use Rattle.std.proofs.lemmas.List.{length-append}
 use Rattle.obj_id.specs.declared.ids.JobNo.{JobNo}
 use Rattle.obj_id.specs.declared.works.DeviceAnswer.{DeviceAnswer}
@@ -21,7 +22,7 @@ use Rattle.store_program.specs.Lines.{IsSpelled, Says, stands, finishes, with_fe
 use Rattle.journal_text.specs.Saved.{Saved}
 use Rattle.store_program.specs.Kept.{Kept, IsKept}
 use Rattle.store_program.specs.Workers.{Crew, IsCrewAfter, Calls, handed_in, held_by}
-use Rattle.store_program.specs.Runs.{RunsStep, RunsLine, StopsRun, IsReadingFault, Progress, IsWorldly, IsOutput, Ran}
+use Rattle.store_program.specs.Runs.{RunsStep, RunsLine, StopsRun, IsNextLine, IsReadingFault, Progress, IsWorldly, IsOutput, Ran}
 use Rattle.store_program.proofs.Crews.{handed_due, after_handing, after_step}
 use Rattle.store_program.proofs.Within.{said_apart, finish_within}
 use Rattle.private_store.proofs.KnownBytes.{Appends-none, Appends-then, Appends-kept, Consumes-none, Consumes-then, Consumes-all}
@@ -97,6 +98,12 @@ pub worldly : (nodes memory : ℕ) (world : Hosting) (history : List Traced) →
 worldly nodes memory world [] h = tt
 worldly nodes memory world (entry ∷ history) h = (world, h)
 
+-- the line that is read next is the next one of the input
+next_line : (a r : Option (List ℕ)) (before bytes : List ℕ) → Consumes a r before → IfSome r (λ left. bytes ≡ take_through 10 left) → IsNextLine a before bytes
+next_line None r before bytes read whole = tt
+next_line (Some all) None before bytes read whole = absurd read
+next_line (Some all) (Some left) before bytes read whole = whole ∙ ap (take_through 10) (sym (ap (drop (length before)) read ∙ drop-append_seam before left))
+
 pub begun : (nodes memory : ℕ) (world : Hosting) (crew : Crew) (asked : Bool) (journal : Option Saved) (a b : Option (List ℕ)) → IsAfter nodes memory world [] → IsCrewAfter nodes crew [] → IsKept asked journal [] → Progress nodes memory 1 world crew asked journal a a b b
 begun nodes memory world crew asked journal a b h c k = record { lines = []; counted = refl; heard = tt; after = h; crew = c; kept = tt; has_kept = k; consumed = Consumes-none a; written = Appends-none b }
 
@@ -149,8 +156,8 @@ module _ (nodes memory number : ℕ) (world : Hosting) (workers : Crew) (asked :
           ends = Consumes-all a r (input_of so_far.lines) so_far.consumed end;
         }
 
-    pub line_stopped : (w1 : Option (List ℕ)) (fault : Fault) (now : Option Saved) → StopsRun nodes number bytes w w1 fault → Ran nodes memory asked now a r1 b w1 (Err fault)
-    line_stopped w1 (NotAStep n) now stops =
+    pub line_stopped : IfSome r (λ left. bytes ≡ take_through 10 left) → (w1 : Option (List ℕ)) (fault : Fault) (now : Option Saved) → StopsRun nodes number bytes w w1 fault → Ran nodes memory asked now a r1 b w1 (Err fault)
+    line_stopped whole w1 (NotAStep n) now stops =
         record {
           lines = so_far.lines;
           rest = bytes;
@@ -160,12 +167,12 @@ module _ (nodes memory number : ℕ) (world : Hosting) (workers : Crew) (asked :
           has_kept = tt;
           consumed = Consumes-then a r r1 (input_of so_far.lines) bytes so_far.consumed read;
           written = Appends-kept b w w1 (output_of so_far.lines) so_far.written stops.2;
-          ends = (stops.0 ∙ sym so_far.counted, stops.1);
+          ends = (stops.0 ∙ sym so_far.counted, stops.1, next_line a r (input_of so_far.lines) bytes so_far.consumed whole);
         }
-    line_stopped w1 Input now stops = absurd stops
-    line_stopped w1 Socket now stops = absurd stops
-    line_stopped w1 Folded now stops = absurd stops
-    line_stopped w1 Output now stops =
+    line_stopped whole w1 Input now stops = absurd stops
+    line_stopped whole w1 Socket now stops = absurd stops
+    line_stopped whole w1 Folded now stops = absurd stops
+    line_stopped whole w1 Output now stops =
         record {
           lines = so_far.lines;
           rest = bytes;
@@ -177,7 +184,7 @@ module _ (nodes memory number : ℕ) (world : Hosting) (workers : Crew) (asked :
           written = tt;
           ends = tt;
         }
-    line_stopped w1 NoMemory now stops =
+    line_stopped whole w1 NoMemory now stops =
         record {
           lines = so_far.lines;
           rest = bytes;

@@ -1,5 +1,6 @@
 -- A run of a text: the lines that were read, a world that took their steps, and what was printed.
-use Rattle.std.specs.Prelude.{◌≡◌, ℕ, suc, Bool, List, [], ◌∷◌, ◌++◌, length, Option, None, Some, IfSome, Result, Ok, Err, OnOk, ⊤}
+use Rattle.std.specs.Prelude.{◌≡◌, ℕ, suc, Bool, List, [], ◌∷◌, ◌++◌, length, drop, Option, None, Some, IfSome, Result, Ok, Err, OnOk, ⊤}
+use Rattle.std.specs.Io.BufRead.{take_through}
 use Rattle.std.specs.Io.KnownBytes.{Appends, Consumes, Keeps}
 use Rattle.private_store.specs.declared.schedules.Step.{Step}
 use Rattle.private_store.specs.declared.schedules.StepAnswer.{StepAnswer}
@@ -108,10 +109,14 @@ abbrev pub IsWorldly : ℕ → ℕ → List Traced → Type 0
 IsWorldly nodes memory [] = ⊤
 IsWorldly nodes memory (entry ∷ history) = (world : Hosting) × IsAfter nodes memory world (entry ∷ history)
 
+-- of an input, what comes after these bytes: the next line with its line feed, or all that is left
+abbrev pub IsNextLine : Option (List ℕ) → List ℕ → List ℕ → Type 0
+IsNextLine read_old before bytes = IfSome read_old (λ all. bytes ≡ take_through 10 (drop (length before) all))
+
 -- a run ends without a fault once the lines are the whole input; and in this line by a fault for what it says
 abbrev pub EndsAt : ℕ → ℕ → List ℕ → Option (List ℕ) → List ℕ → Result ⊤ Fault → Type 0
 EndsAt nodes number bytes read_old input (Ok u) = IfSome read_old (λ all. all ≡ input)
-EndsAt nodes number bytes read_old input (Err (NotAStep n)) = (n ≡ number) × IsNoLine nodes bytes
+EndsAt nodes number bytes read_old input (Err (NotAStep n)) = (n ≡ number) × IsNoLine nodes bytes × IsNextLine read_old input bytes
 EndsAt nodes number bytes read_old input (Err Input) = ⊤
 EndsAt nodes number bytes read_old input (Err Output) = ⊤
 EndsAt nodes number bytes read_old input (Err Socket) = ⊥

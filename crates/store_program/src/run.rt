@@ -1,6 +1,7 @@
 //! Runs of a schedule's text.
-ghost use Rattle.std.specs.Prelude.{◌≡◌, [], is_some, true, false, length, IfOk, OnOk, IfErr};
+ghost use Rattle.std.specs.Prelude.{◌≡◌, [], is_some, true, false, length, IfOk, OnOk, IfErr, IfSome};
 ghost use Rattle.std.specs.Io.{StopsAt};
+ghost use Rattle.std.specs.Io.BufRead.{take_through};
 ghost use Rattle.std.specs.Io.KnownBytes.{Consumes, IsAtEnd};
 ghost use Rattle.std.specs.String.{string_bytes};
 ghost use Rattle.world_core.specs.Worlds.{is_shape, is_within};
@@ -90,6 +91,7 @@ fn run_lines<R: BufRead, W: Write>(
 pub(crate) fn next_line<R: BufRead>(reader: &mut R, line: &mut Vec<u8>) -> Result<bool, Fault>
     ensures consumed { Consumes (R.remaining reader.old) (R.remaining reader.new) line.new.items }
     ensures one { StopsAt line.new.items 10 }
+    ensures whole { IfOk result (λ _. IfSome (R.remaining reader.old) (λ left. line.new.items ≡ take_through 10 left)) }
     ensures end { IfOk result (λ is_line. is_line ≡ false → IsAtEnd (R.remaining reader.old)) }
     ensures fault { IfErr result IsReadingFault }
 {

@@ -20,7 +20,7 @@ returns-in-Ok-false g c = input_ended _ _ _ _ _ _ _ _ _ _ _ c.loop-number.invari
 
 pub returns-in-Err-run_line : goal.returns-in-Err-run_line
 returns-in-Err-run_line g c =
-    line_stopped _ _ _ _ _ _ _ _ _ _ _ c.loop-number.invariant _ _ c.next_line.ensures.consumed _ c.in-Err-run_line.fault _
+    line_stopped _ _ _ _ _ _ _ _ _ _ _ c.loop-number.invariant _ _ c.next_line.ensures.consumed c.in-Ok-true.ensures.whole _ c.in-Err-run_line.fault _
     (subst (λ b. StopsRun c.args.shape.nodes c.loop-number.number b (g.W.Write.contents c.loop-number.writer) (g.W.Write.contents c.run_line.new.writer) c.in-Err-run_line.fault)
     c.deref.ensures.value c.in-Err-run_line.ensures.err)
 
