@@ -13,7 +13,7 @@ use Rattle.job_region.proofs.Resized.{last_end-low}
 abbrev zeros : ℕ → List ℕ
 zeros n = replicate n 0
 
-pub length-filled : (q : ℕ) (m : List ℕ) → length (filled q m) ≡ length m + (q - length m)
+length-filled : (q : ℕ) (m : List ℕ) → length (filled q m) ≡ length m + (q - length m)
 length-filled q m = length-append m (zeros (q - length m)) ∙ ap (λ n. length m + n) (length-replicate {A = ℕ} (q - length m) 0)
 
 pub filled_whole : (q : ℕ) (m : List ℕ) → length m ≤ q → length (filled q m) ≡ q
@@ -70,8 +70,8 @@ module _ (q : ℕ) (m : List ℕ) where
         let left : q - length (overwritten m s bs) ≡ q - length m = omega (arith, length-over, ge) in
         ap (λ k. drop n m ++ zeros k) left ∙ sym (drop-append-le n m (zeros (q - length m)) ge)
 
-    pub filled_over : s + length bs ≤ q → length m ≤ q → filled q (overwritten m s bs) ≡ overwritten (filled q m) s bs
-    filled_over ends within =
+    pub filled_over : length m ≤ q → filled q (overwritten m s bs) ≡ overwritten (filled q m) s bs
+    filled_over within =
         let n = s + length bs in
         let rest : drop n m ++ zeros (q - length (overwritten m s bs)) ≡ drop n (filled q m) = ⊎_elim (λ (lt : length m < n). past_end lt within) (λ (ge : n ≤ length m). within_end ge) (cases_lt (length m) n) in
         append_assoc (take s m ++ bs) (drop n m) (zeros (q - length (overwritten m s bs)))

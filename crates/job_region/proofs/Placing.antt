@@ -59,7 +59,7 @@ module _ {q : ℕ} {m : List ℕ} {len need : ℕ} {es : List Extent} {hs : List
   units = omega (arith, f.is)
 
   over : filled q zeroed ≡ overwritten (filled q m) h.offset (replicate need 0)
-  over = filled_over q m h.offset (replicate need 0) hole_begins (omega (arith, length-replicate {A = ℕ} need 0, hole_ends, hole_fits)) (filled_within q m f.whole)
+  over = filled_over q m h.offset (replicate need 0) hole_begins (filled_within q m f.whole)
 
   pub now_placed : placed_in (filled q zeroed) (put_extent e es) ≡ put_in (h.offset, replicate need 0) (placed_in (filled q m) es)
   now_placed =

@@ -1,5 +1,5 @@
 //! The replay of a journal's lines, one after another.
-ghost use Rattle.std.specs.Prelude.{◌≡◌, ◌≢◌, ◌↔◌, suc, [], None, MatchOption, IfOk, IsTrue};
+ghost use Rattle.std.specs.Prelude.{◌≡◌, ◌↔◌, suc, [], None, MatchOption, IfOk, IsTrue};
 ghost use Rattle.journal_replay.specs.Progress.{Adds};
 ghost use Rattle.journal_replay.specs.Replays.{IsUnlike};
 
