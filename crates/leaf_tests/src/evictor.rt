@@ -3,7 +3,7 @@
 use assertions::holds;
 use indexmap::IndexMap;
 use job_region::Window;
-use lru_evictor::{CopyFacts, CopyLookup, DeviceRoom, Plan, UseOrder};
+use lru_evictor::{Choices, CopyFacts, CopyLookup, DeviceRoom, Plan, UseOrder};
 use obj_id::{JobNo, ObjectId, Refusal, TaskNo};
 use std::alloc::Global;
 use std::test::Fail;
@@ -86,7 +86,7 @@ impl Store {
             ..facts
         };
         self.copies.by_id.insert(id, facts)?;
-        self.order.enter(id)
+        self.order.enter(id, facts.choices())
     }
 
     fn plan(&self, alloc: Global, len: u32, device: DeviceRoom) -> Result<Plan, Refusal> {
@@ -136,11 +136,11 @@ fn stands(order: &UseOrder, indexes: &[u32]) -> bool {
 /// Enters the id, once more if memory ran out: nothing has changed then.
 fn enter(order: &mut UseOrder, index: u32, before: &[u32]) -> Result<bool, Refusal> {
     let id = object(index)?;
-    match order.enter(id) {
+    match order.enter(id, Choices::none()) {
         Ok(()) => Ok(true),
         Err(_) => {
             let kept = stands(order, before);
-            order.enter(id)?;
+            order.enter(id, Choices::none())?;
             Ok(kept)
         }
     }

@@ -14,10 +14,10 @@ use Rattle.obj_id.proofs.SameIds.{same_id-id_eq, id_eq-equal}
 use Rattle.private_store.specs.Tables.{is_among}
 use Rattle.lru_evictor.specs.Orders.{without_id, last_used, touched}
 
-reverse-cons : {X : Type 0} (x : X) (xs : List X) → reverse (x ∷ xs) ≡ reverse xs ++ x ∷ []
+pub reverse-cons : {X : Type 0} (x : X) (xs : List X) → reverse (x ∷ xs) ≡ reverse xs ++ x ∷ []
 reverse-cons x xs = reverse-append (x ∷ []) xs
 
-filter-reverse : {X : Type 0} (test : X → Bool) (xs : List X) → filter test (reverse xs) ≡ reverse (filter test xs)
+pub filter-reverse : {X : Type 0} (test : X → Bool) (xs : List X) → filter test (reverse xs) ≡ reverse (filter test xs)
 filter-reverse test [] = refl
 filter-reverse test (x ∷ xs) =
     ap (filter test) (reverse-cons x xs) ∙ filter-append test (reverse xs) (x ∷ []) ∙ ap (λ ys. ys ++ filter test (x ∷ [])) (filter-reverse test xs)

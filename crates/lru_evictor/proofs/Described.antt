@@ -24,8 +24,8 @@ use Rattle.private_store.specs.Copies.{extent_of, is_evictable, is_passing, is_s
 use Rattle.private_store.specs.Room.{in_order, offset_without, bytes_of_copies}
 use Rattle.job_region.specs.Region.{Region, extents_of, without}
 use Rattle.lru_evictor.specs.declared.facts.DeviceRoom.{DeviceRoom}
-use Rattle.lru_evictor.specs.declared.facts.Choice.{Choice}
-use Rattle.lru_evictor.specs.declared.facts.Choice.TheVariants.{Evictable, Passing, Spillable}
+use Rattle.use_tree.specs.declared.choices.Choice.{Choice}
+use Rattle.use_tree.specs.declared.choices.Choice.TheVariants.{Evictable, Passing, Spillable}
 use Rattle.lru_evictor.specs.Facts.{Looked, passes, passes_at, chosen, gone_of, fits_without, bytes_at, device_bytes}
 use Rattle.lru_evictor.specs.Plans.{IsDescribed, facts_of, extents_in}
 use Rattle.lru_evictor.proofs.Free.{goes, all-left, first-same}

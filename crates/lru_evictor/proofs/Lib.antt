@@ -7,3 +7,4 @@ pub mod Described
 pub mod Planned
 pub mod Rooms
 pub mod Firsts
+pub mod Uses

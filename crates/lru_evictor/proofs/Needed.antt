@@ -8,7 +8,7 @@ use Rattle.std.proofs.lemmas.List.{take-append-drop, take-take, take_all, drop_a
 use Rattle.obj_id.specs.declared.ids.ObjectId.{ObjectId}
 use Rattle.job_region.specs.Region.{Region}
 use Rattle.private_store.specs.Room.{shortest}
-use Rattle.lru_evictor.specs.declared.facts.Choice.{Choice}
+use Rattle.use_tree.specs.declared.choices.Choice.{Choice}
 use Rattle.lru_evictor.specs.Facts.{Looked, passes_at, chosen, fits_without, AreNeeded}
 use Rattle.lru_evictor.proofs.Free.{fits-more}
 use Rattle.lru_evictor.proofs.Shortest.{shortest-found, shortest-none}

@@ -1,6 +1,6 @@
 -- The searches' answers are the plan of the rule of room.
-use Rattle.std.proofs.Common.{◌≡◌, ℕ, ◌+◌, ◌-◌, ◌==◌, List, [], ◌∷◌, ◌++◌, Option, Some, None, sym, ap, ◌∙◌, is_some, take, drop, length}
-use Rattle.std.specs.Option.{option_map}
+use Rattle.std.proofs.Common.{◌≡◌, ℕ, ◌+◌, ◌-◌, ◌==◌, List, [], ◌∷◌, ◌++◌, Bool, Option, Some, None, true, false, not, ◌&&◌, ◌||◌, refl, sym, ap, ◌∙◌, is_some, take, drop, length}
+use Rattle.std.specs.Option.{option_map, option_map_or}
 use Rattle.std.specs.Prelude.{nat_lt, if◌then◌else◌}
 use Rattle.obj_id.specs.declared.ids.ObjectId.{ObjectId}
 use Rattle.private_store.specs.Limits.{most_works}
@@ -9,10 +9,54 @@ use Rattle.private_store.specs.Copies.{is_spillable}
 use Rattle.private_store.specs.Room.{Plan, fits, wait, full, busy, evict, spill, plan, victims, spilled, spill_plan, shortest, offset_without, in_order}
 use Rattle.job_region.specs.Region.{Region}
 use Rattle.lru_evictor.specs.declared.facts.DeviceRoom.{DeviceRoom}
-use Rattle.lru_evictor.specs.declared.facts.Choice.TheVariants.{Evictable, Passing, Spillable}
-use Rattle.lru_evictor.specs.Facts.{Looked, chosen, fits_without}
+use Rattle.use_tree.specs.declared.choices.Choice.TheVariants.{Evictable, Passing, Spillable}
+use Rattle.lru_evictor.specs.declared.facts.CopyFacts.{CopyFacts}
+use Rattle.use_tree.specs.Choices.{has}
+use Rattle.use_tree.specs.declared.choices.Choices.{Choices}
+use Rattle.lru_evictor.specs.Orders.{covers}
+use Rattle.use_tree.specs.declared.choices.Choice.{Choice}
+use Rattle.lru_evictor.specs.Facts.{Looked, passes, passes_at, choices_of, choices_at, chosen, fits_without}
 use Rattle.lru_evictor.specs.Plans.{IsDescribed, evict_here, spill_here}
 use Rattle.lru_evictor.proofs.Described.{fits-described, chosen-evictable, chosen-passing, chosen-spillable, device_bytes-described}
+
+-- what a walk chooses is chosen by the choices of the facts
+passes-choices : (facts : Looked) (k : Choice) (id : ObjectId) → has k (choices_at facts id) ≡ passes_at facts k id
+passes-choices facts k id = by k (facts id)
+  where
+    by : (k : Choice) (o : Option CopyFacts) → has k (option_map_or choices_of o (record { evictable = false; passing = false; spillable = false })) ≡ option_map_or (passes k) o false
+    by Evictable None = refl
+    by Evictable (Some copy) = refl
+    by Passing None = refl
+    by Passing (Some copy) = refl
+    by Spillable None = refl
+    by Spillable (Some copy) = refl
+
+-- what a walk chooses is among the choices of its copy
+pub chosen-covered : (facts : Looked) (k : Choice) (x : ObjectId) (c : Choices) → covers c (choices_at facts x) ≡ true → passes_at facts k x ≡ true → has k c ≡ true
+chosen-covered facts k x c h is = by k (choices_at facts x) h (passes-choices facts k x ∙ is)
+  where
+    first : (a b d : Bool) → (not a || b) && d ≡ true → a ≡ true → b ≡ true
+    first true true d h e = refl
+    first true false d h e = cc
+    first false b d h e = cc
+
+    second : (a b d : Bool) → a && (b && d) ≡ true → b && d ≡ true
+    second true b d h = h
+    second false b d h = cc
+
+    third : (a b : Bool) → not a || b ≡ true → a ≡ true → b ≡ true
+    third true b h e = h
+    third false b h e = cc
+
+    last : (a b d : Bool) → a && (b && d) ≡ true → d ≡ true
+    last true true d h = h
+    last true false d h = cc
+    last false b d h = cc
+
+    by : (k : Choice) (d : Choices) → covers c d ≡ true → has k d ≡ true → has k c ≡ true
+    by Evictable d h e = first d.evictable c.evictable ((not d.passing || c.passing) && (not d.spillable || c.spillable)) h e
+    by Passing d h e = first d.passing c.passing (not d.spillable || c.spillable) (second (not d.evictable || c.evictable) (not d.passing || c.passing) (not d.spillable || c.spillable) h) e
+    by Spillable d h e = third d.spillable c.spillable (last (not d.evictable || c.evictable) (not d.passing || c.passing) (not d.spillable || c.spillable) h) e
 
 -- the plan, where it is known what may be evicted and what may be spilled
 abbrev planned : Shape → Option (List ObjectId) → Option (List ObjectId) → Plan
@@ -67,26 +111,26 @@ module _ (store : Shape) (window : Region) (device : DeviceRoom) (facts : Looked
 
   -- ---- the exits of the plan
 
-  module _ (start first_order : List ObjectId) (empty : start ≡ []) (same_order : first_order ≡ order) (ids : List ObjectId) (r : Option ℕ)
+  module _ (start first_order : List ObjectId) (empty : start ≡ []) (same_order : chosen facts Evictable first_order ≡ chosen facts Evictable order) (ids : List ObjectId) (r : Option ℕ)
       (found : option_map (λ k. drop (length start) (take k ids)) r ≡ searched start (chosen facts Evictable first_order)) where
     first_searched : option_map (λ k. drop (length start) (take k ids)) r ≡ searched [] (chosen facts Evictable order)
-    first_searched = found ∙ (λ i. searched (empty i) (chosen facts Evictable (same_order i)))
+    first_searched = found ∙ (λ i. searched (empty i) (same_order i))
 
     pub evict-exit : (count : ℕ) (cut : List ObjectId) (told : Plan) → r ≡ Some count → cut ≡ take count ids → told ≡ evict_here cut → told ≡ plan order store n
     evict-exit count cut told is first says =
         says ∙ plan-evicts cut (ap Some first ∙ (λ i. Some (drop (length (sym empty i)) (take count ids))) ∙ ap (option_map (λ k. drop (length start) (take k ids))) (sym is) ∙ first_searched)
 
-    module _ (none : r ≡ None) (all : ids ≡ start ++ chosen facts Evictable first_order) (second_order : List ObjectId) (same_second : second_order ≡ order) (base : List ObjectId) (gathered : base ≡ ids ++ chosen facts Passing second_order) where
+    module _ (none : r ≡ None) (all : ids ≡ start ++ chosen facts Evictable first_order) (second_order : List ObjectId) (same_second : chosen facts Passing second_order ≡ chosen facts Passing order) (base : List ObjectId) (gathered : base ≡ ids ++ chosen facts Passing second_order) where
       nothing : None ≡ searched [] (chosen facts Evictable order)
       nothing = ap (option_map (λ k. drop (length start) (take k ids))) (sym none) ∙ first_searched
 
       base_is : base ≡ chosen facts Evictable order ++ chosen facts Passing order
-      base_is = gathered ∙ (λ i. (all ∙ (λ j. empty j ++ chosen facts Evictable (same_order j))) i ++ chosen facts Passing (same_second i))
+      base_is = gathered ∙ (λ i. (all ∙ (λ j. empty j ++ same_order j)) i ++ same_second i)
 
-      module _ (third_order : List ObjectId) (same_third : third_order ≡ order) (after : List ObjectId) (t : Option ℕ)
+      module _ (third_order : List ObjectId) (same_third : chosen facts Spillable third_order ≡ chosen facts Spillable order) (after : List ObjectId) (t : Option ℕ)
           (searching : option_map (λ k. drop (length base) (take k after)) t ≡ searched base (chosen facts Spillable third_order)) where
         then_searched : option_map (λ k. drop (length base) (take k after)) t ≡ searched base (chosen facts Spillable order)
-        then_searched = searching ∙ ap (λ o. searched base (chosen facts Spillable o)) same_third
+        then_searched = searching ∙ ap (searched base) same_third
 
         pub full-exit : t ≡ None → full ≡ plan order store n
         full-exit is = plan-full nothing base base_is (ap (option_map (λ k. drop (length base) (take k after))) (sym is) ∙ then_searched)

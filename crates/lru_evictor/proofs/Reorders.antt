@@ -1,14 +1,14 @@
 -- An order of use after a step that used one copy, removed one, or did neither.
-use Rattle.std.proofs.Common.{◌≡◌, ℕ, ◌+◌, Bool, true, false, not, ◌&&◌, ◌||◌, List, [], ◌∷◌, ◌++◌, drop, filter, Option, Some, None, refl, sym, ap, ◌∙◌, cond, is_some}
+use Rattle.std.proofs.Common.{◌≡◌, Bool, true, false, not, ◌&&◌, List, [], ◌∷◌, ◌++◌, filter, Option, Some, None, refl, sym, ap, ◌∙◌, cond, is_some}
 use Rattle.std.specs.List.{list_all}
 use Rattle.obj_id.specs.declared.ids.ObjectId.{ObjectId}
 use Rattle.obj_id.specs.Ids.{id_cmp, same_id}
-use Rattle.obj_id.proofs.SameIds.{id_cmp-IsAntisymmetric, same_id-flip}
+use Rattle.obj_id.proofs.SameIds.{id_cmp-IsAntisymmetric}
 use Rattle.std.specs.FinMap.Entries.{find-where_key}
-use Rattle.private_store.specs.Tables.{ById, at, without_entry, is_among}
+use Rattle.private_store.specs.Tables.{ById, at, without_entry}
 use Rattle.private_store.specs.Shape.{Copy}
 use Rattle.private_store.specs.Step.{is_used, reordered}
-use Rattle.lru_evictor.specs.Orders.{without_id, without_ids, last_used, AreThere}
+use Rattle.lru_evictor.specs.Orders.{without_id, last_used, AreThere}
 
 both : (a b : Bool) → a && b ≡ true → (a ≡ true) × (b ≡ true)
 both true b e = (refl, e)
@@ -54,23 +54,3 @@ module _ (copies : ById Copy) (id : ObjectId) where
 
   pub reordered-removed : (order : List ObjectId) → AreThere copies order → without_id id order ≡ reordered order (without_entry copies id) None
   reordered-removed order h = sym (append_nil (filter (λ x. is_some (at (without_entry copies id) x) && true) order) ∙ removed order h)
-
--- ---- without some ids
-
-without-more : (id : ObjectId) (ids order : List ObjectId) → without_ids ids (without_id id order) ≡ without_ids (id ∷ ids) order
-without-more id ids [] = refl
-without-more id ids (x ∷ xs) =
-    elim (same_id id x) as (λ b. same_id id x ≡ b → without_ids ids (cond (not b) (x ∷ without_id id xs) (without_id id xs)) ≡ cond (not (same_id x id || is_among ids x)) (x ∷ without_ids (id ∷ ids) xs) (without_ids (id ∷ ids) xs)) [
-      | true ↦ λ t. without-more id ids xs ∙ sym (ap (λ b. cond (not (b || is_among ids x)) (x ∷ without_ids (id ∷ ids) xs) (without_ids (id ∷ ids) xs)) (same_id-flip x id ∙ t))
-      | false ↦ λ t.
-          ap (λ ys. cond (not (is_among ids x)) (x ∷ ys) ys) (without-more id ids xs)
-          ∙ sym (ap (λ b. cond (not (b || is_among ids x)) (x ∷ without_ids (id ∷ ids) xs) (without_ids (id ∷ ids) xs)) (same_id-flip x id ∙ t))
-    ] refl
-
--- the first of those that are left goes
-pub without-next : (ids order : List ObjectId) (i : ℕ) (id : ObjectId) → drop i ids ≡ id ∷ drop (i + 1) ids → without_ids (drop (i + 1) ids) (without_id id order) ≡ without_ids (drop i ids) order
-without-next ids order i id next = without-more id (drop (i + 1) ids) order ∙ ap (λ rest. without_ids rest order) (sym next)
-
-pub without-none : (order : List ObjectId) → without_ids [] order ≡ order
-without-none [] = refl
-without-none (x ∷ xs) = ap (λ ys. x ∷ ys) (without-none xs)

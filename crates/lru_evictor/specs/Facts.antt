@@ -6,8 +6,9 @@ use Rattle.obj_id.specs.declared.works.Extent.{Extent}
 use Rattle.private_store.specs.Extents.{first}
 use Rattle.job_region.specs.Region.{Region, extents_of, without}
 use Rattle.lru_evictor.specs.declared.facts.CopyFacts.{CopyFacts}
-use Rattle.lru_evictor.specs.declared.facts.Choice.{Choice}
-use Rattle.lru_evictor.specs.declared.facts.Choice.TheVariants.{Evictable, Passing, Spillable}
+use Rattle.use_tree.specs.declared.choices.Choice.{Choice}
+use Rattle.use_tree.specs.declared.choices.Choice.TheVariants.{Evictable, Passing, Spillable}
+use Rattle.use_tree.specs.declared.choices.Choices.{Choices}
 
 -- the facts of each id that has a copy
 abbrev pub Looked : Type 0
@@ -20,6 +21,14 @@ passes Spillable copy = copy.spillable
 
 abbrev pub passes_at : Looked → Choice → ObjectId → Bool
 passes_at facts choice id = option_map_or (passes choice) (facts id) false
+
+-- the walks that choose a copy
+abbrev pub choices_of : CopyFacts → Choices
+choices_of copy = record { evictable = copy.evictable; passing = copy.passing; spillable = copy.spillable }
+
+-- those that choose the copy of an id
+abbrev pub choices_at : Looked → ObjectId → Choices
+choices_at facts id = option_map_or choices_of (facts id) (record { evictable = false; passing = false; spillable = false })
 
 -- the ids of an order that are chosen
 abbrev pub chosen : Looked → Choice → List ObjectId → List ObjectId

@@ -2,3 +2,4 @@ pub mod Orders
 pub mod Facts
 pub mod Plans
 pub mod Leavings
+pub mod Indexed

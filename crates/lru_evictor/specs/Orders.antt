@@ -1,18 +1,16 @@
 -- The order of use of one job's copies.
-use Rattle.std.specs.Prelude.{not, if◌then◌else◌, List, [], ◌∷◌, ◌++◌, filter, is_some, IsTrue}
+use Rattle.std.specs.Prelude.{◌≡◌, Bool, not, ◌&&◌, ◌||◌, true, false, if◌then◌else◌, List, [], ◌∷◌, ◌++◌, filter, reverse, is_some, IsTrue}
+use Rattle.std.specs.Map.{keys_of}
 use Rattle.std.specs.List.{list_all}
 use Rattle.obj_id.specs.declared.ids.ObjectId.{ObjectId}
 use Rattle.obj_id.specs.Ids.{same_id}
 use Rattle.private_store.specs.Tables.{ById, at, is_among}
 use Rattle.private_store.specs.Shape.{Copy}
+use Rattle.use_tree.specs.declared.choices.Choices.{Choices}
 
 -- the others
 abbrev pub without_id : ObjectId → List ObjectId → List ObjectId
 without_id id order = filter (λ x. not (same_id id x)) order
-
--- the others than all of these
-abbrev pub without_ids : List ObjectId → List ObjectId → List ObjectId
-without_ids ids order = filter (λ x. not (is_among ids x)) order
 
 -- the id is now the most recently used, whether or not it was there
 abbrev pub last_used : ObjectId → List ObjectId → List ObjectId
@@ -25,3 +23,21 @@ touched id order = if is_among order id then last_used id order else order
 -- each id has its copy
 abbrev pub AreThere : ById Copy → List ObjectId → Type 0
 AreThere copies order = IsTrue (list_all (λ id. is_some (at copies id)) order)
+
+-- the ids, least recently used first
+abbrev pub ids_of : {X : Type 0} → List (ObjectId × X) → List ObjectId
+ids_of es = reverse (keys_of es)
+
+-- each id but this one has choices that pass the test
+abbrev pub OthersPass : ObjectId → (ObjectId → Choices → Bool) → List (ObjectId × Choices) → Type 0
+OthersPass id test [] = Unit {0}
+OthersPass id test (e ∷ es) = (same_id id e.0 ≡ false → test e.0 e.1 ≡ true) × OthersPass id test es
+
+-- each id has
+abbrev pub AllPass : (ObjectId → Choices → Bool) → List (ObjectId × Choices) → Type 0
+AllPass test [] = Unit {0}
+AllPass test (e ∷ es) = (test e.0 e.1 ≡ true) × AllPass test es
+
+-- whether all of d are among c
+abbrev pub covers : Choices → Choices → Bool
+covers c d = (not d.evictable || c.evictable) && ((not d.passing || c.passing) && (not d.spillable || c.spillable))

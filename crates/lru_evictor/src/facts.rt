@@ -1,9 +1,10 @@
 //! What a plan for room reads, and what it may be.
 ghost use Rattle.std.specs.Prelude.{◌≡◌, Option};
 ghost use Rattle.obj_id.specs.declared.ids.ObjectId.{ObjectId};
-ghost use Rattle.lru_evictor.specs.Facts.{passes};
+ghost use Rattle.lru_evictor.specs.Facts.{passes, choices_of};
 
 use obj_id::{Extent, Items, ObjectId};
+use use_tree::{Choice, Choices};
 
 /// What the plan reads of a copy.
 #[derive(Clone, Copy, Debug)]
@@ -18,6 +19,19 @@ pub struct CopyFacts {
     pub passing: bool,
     /// A sealed primary that is idle, not backed and not doomed: it may be spilled.
     pub spillable: bool,
+}
+
+impl CopyFacts {
+    /// The walks for room that choose the copy.
+    pub fn choices(self) -> Choices
+        ensures { result ≡ choices_of self }
+    {
+        Choices {
+            evictable: self.evictable,
+            passing: self.passing,
+            spillable: self.spillable,
+        }
+    }
 }
 
 /// The copies of one job, looked up by their ids.
@@ -83,14 +97,6 @@ pub enum RoomFound {
     Busy,
     /// These copies are to be spilled, in this order.
     Spill(Items<ObjectId>),
-}
-
-/// Which copies a walk chooses.
-#[derive(Clone, Copy, Debug)]
-pub(crate) enum Choice {
-    Evictable,
-    Passing,
-    Spillable,
 }
 
 /// Whether a walk chooses the copy.

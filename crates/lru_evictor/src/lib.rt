@@ -3,7 +3,9 @@
 //! which it looks up one at a time.
 #![tactic(auto)]
 
+mod candidates;
 mod facts;
+mod index;
 mod job_order;
 mod laws;
 mod plans;
@@ -14,3 +16,4 @@ pub use facts::{CopyFacts, CopyLookup, DeviceRoom, Plan, RoomFound, Vacancy};
 pub use laws::orders_follow_the_steps;
 pub use search::extents_by_offset;
 pub use use_order::{Order, UseOrder};
+pub use use_tree::{Choice, Choices};

@@ -3,25 +3,27 @@ ghost use Rattle.std.specs.Prelude.{◌≡◌, ◌+◌, ◌<◌, ◌≤◌, ◌+
 ghost use Rattle.obj_id.specs.declared.refusals.Refusal.{Refusal};
 ghost use Rattle.private_store.specs.Shape.{Shape};
 ghost use Rattle.private_store.specs.Room.{plan as room_plan};
-ghost use Rattle.lru_evictor.specs.Facts.{bytes_at, device_bytes, fits_without as is_room_without};
+ghost use Rattle.lru_evictor.specs.Facts.{bytes_at, choices_at, device_bytes, fits_without as is_room_without};
+ghost use Rattle.lru_evictor.specs.Orders.{ids_of, AllPass, covers};
 ghost use Rattle.lru_evictor.specs.Plans.{shown, plan_of, makes_room, IsDescribed, IsVacant, evict_here, spill_here};
 ghost use Rattle.lru_evictor.specs.declared.facts.RoomFound.TheVariants.{Place};
 
-use crate::facts::{Choice, CopyLookup, DeviceRoom, Plan, RoomFound, Vacancy};
+use crate::facts::{CopyLookup, DeviceRoom, Plan, RoomFound, Vacancy};
 use crate::search::{extents_by_offset, gather, shortest};
 use crate::use_order::UseOrder;
 use job_region::Window;
 use obj_id::limits::MOST_WORKS;
 use obj_id::{Items, ObjectId, Refusal};
 use std::alloc::Global;
+use use_tree::Choice;
 
 impl UseOrder {
     /// How room for an object of `len` bytes is made in the job's window, by the rule of room over the
-    /// job's copies alone. `NoMemory` alone; changes nothing.
+    /// job's copies alone, if each id was given all walks that choose its copy. `NoMemory` alone; changes nothing.
     ///
-    /// Takes one search of the window if there is room. Otherwise it walks the job's order until enough
-    /// copies are found, one look-up each, and searches the window as often as twice the logarithm of how
-    /// many have to go; only if eviction won't do does it look at all copies.
+    /// Takes one search of the window if there is room. Otherwise it goes over the copies that may be evicted until enough
+    /// are found, one look-up each and two descents of a tree, and searches the window as often as twice the logarithm of
+    /// how many have to go; if eviction won't do, over those that are passing or may be spilled as well. Over no other copy.
     pub fn plan<C: CopyLookup>(
         &self,
         alloc: Global,
@@ -30,16 +32,16 @@ impl UseOrder {
         window: &Window,
         copies: &C,
     ) -> Result<Plan, Refusal>
-        ensures plan { IfOk result (λ p. (store : Shape) → IsDescribed store window.now device (C.facts copies.now)
-            → shown p ≡ room_plan self.now store len) }
+        ensures plan { IfOk result (λ p. (store : Shape) → AllPass (λ x c. covers c (choices_at (C.facts copies.now) x)) self.now → IsDescribed store window.now device (C.facts copies.now)
+            → shown p ≡ room_plan (ids_of self.now) store len) }
         ensures room { IfOk result (λ p. makes_room window.now (C.facts copies.now) len (shown p) ≡ true) }
         ensures memory { (r : Refusal) → result ≡ Err r → r ≡ Refusal.NoMemory }
     {
         let mut ids = Vec::new(alloc);
-        let least_used = self.order();
+        let evictable = self.candidates(Choice::Evictable);
         let evicted = shortest(
             alloc,
-            least_used,
+            evictable,
             Choice::Evictable,
             window,
             copies,
@@ -50,12 +52,13 @@ impl UseOrder {
             ids.truncate(count);
             return Ok(eviction(ids));
         }
-        gather(self.order(), Choice::Passing, copies, &mut ids)?;
+        let waiting = self.candidates(Choice::Passing);
+        gather(waiting, Choice::Passing, copies, &mut ids)?;
         let passing = ids.len();
-        let order = self.order();
+        let spillable = self.candidates(Choice::Spillable);
         match shortest(
             alloc,
-            order,
+            spillable,
             Choice::Spillable,
             window,
             copies,
@@ -83,8 +86,8 @@ impl UseOrder {
         window: &Window,
         copies: &C,
     ) -> Result<RoomFound, Refusal>
-        ensures plan { IfOk result (λ r. (store : Shape) → IsDescribed store window.now device (C.facts copies.now)
-            → plan_of r ≡ room_plan self.now store len) }
+        ensures plan { IfOk result (λ r. (store : Shape) → AllPass (λ x c. covers c (choices_at (C.facts copies.now) x)) self.now → IsDescribed store window.now device (C.facts copies.now)
+            → plan_of r ≡ room_plan (ids_of self.now) store len) }
         ensures place { IfOk result (λ r. (v : Vacancy) → r ≡ Place v → IsVacant window.now (C.facts copies.now) len v) }
         ensures memory { (r : Refusal) → result ≡ Err r → r ≡ Refusal.NoMemory }
     {

@@ -8,11 +8,12 @@ ghost use Rattle.lru_evictor.specs.declared.search.Leaving.{Leaving};
 ghost use Rattle.lru_evictor.specs.Facts.{chosen, passes_at, extent_at, gone_of, fits_without as is_room_without, device_bytes, AreNeeded};
 ghost use Rattle.lru_evictor.specs.Leavings.{leaving_of as all_leaving, firsts, fits_first as is_room_first};
 
-use crate::facts::{Choice, CopyLookup, DeviceRoom, is_chosen};
-use crate::use_order::Order;
+use crate::candidates::Candidates;
+use crate::facts::{CopyLookup, DeviceRoom, is_chosen};
 use job_region::Window;
 use obj_id::{Extent, ObjectId, Refusal};
 use std::alloc::{AllocError, Global};
+use use_tree::Choice;
 
 /// Whether a walk chooses the copy of the id, if there is one.
 fn chooses<C: CopyLookup>(choice: Choice, copies: &C, id: &ObjectId) -> bool
@@ -26,14 +27,14 @@ fn chooses<C: CopyLookup>(choice: Choice, copies: &C, id: &ObjectId) -> bool
 
 /// Adds the ids of a walk that are chosen, in its order.
 pub(crate) fn gather<C: CopyLookup>(
-    order: Order<'_>,
+    candidates: Candidates<'_>,
     choice: Choice,
     copies: &C,
     ids: &mut Vec<ObjectId>,
 ) -> Result<(), AllocError>
-    ensures { OnOk result (ids.new.items ≡ ids.old.items ++ chosen (C.facts copies.now) choice order.entry) }
+    ensures { OnOk result (ids.new.items ≡ ids.old.items ++ chosen (C.facts copies.now) choice candidates.entry) }
 {
-    for id in order {
+    for id in candidates {
         if chooses(choice, copies, &id) {
             ids.push(id)?;
         }
@@ -231,7 +232,7 @@ fn needed<C: CopyLookup>(
 /// are enough finds how many are by bisection, which takes neither.
 pub(crate) fn shortest<C: CopyLookup>(
     alloc: Global,
-    order: Order<'_>,
+    candidates: Candidates<'_>,
     choice: Choice,
     window: &Window,
     copies: &C,
@@ -239,9 +240,9 @@ pub(crate) fn shortest<C: CopyLookup>(
     ids: &mut Vec<ObjectId>,
 ) -> Result<Option<usize>, AllocError>
     ensures found { IfOk result (λ r. option_map (λ k. drop (length ids.old.items) (take k ids.new.items)) r
-        ≡ shortest_beginning (λ out. is_room_without window.now (C.facts copies.now) len (ids.old.items ++ out)) (chosen (C.facts copies.now) choice order.entry)) }
+        ≡ shortest_beginning (λ out. is_room_without window.now (C.facts copies.now) len (ids.old.items ++ out)) (chosen (C.facts copies.now) choice candidates.entry)) }
     ensures within { IfOk result (λ r. IfSome r (λ k. (length ids.old.items ≤ k) × (k ≤ length ids.new.items))) }
-    ensures all { IfOk result (λ r. IfNone r (ids.new.items ≡ ids.old.items ++ chosen (C.facts copies.now) choice order.entry)) }
+    ensures all { IfOk result (λ r. IfNone r (ids.new.items ≡ ids.old.items ++ chosen (C.facts copies.now) choice candidates.entry)) }
 {
     let always = ids.len();
     if fits_without(alloc, window, copies, ids, len)? {
@@ -250,7 +251,7 @@ pub(crate) fn shortest<C: CopyLookup>(
     let mut few = always;
     // How many more are chosen before the next test.
     let mut left = 1;
-    for id in order {
+    for id in candidates {
         if !chooses(choice, copies, &id) {
             continue;
         }

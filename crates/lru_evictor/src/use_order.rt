@@ -1,16 +1,24 @@
 //! The order of use of one job's copies.
-ghost use Rattle.std.specs.Prelude.{◌≡◌, ◌++◌, ◌∷◌, [], true, IfOk, OnOk, OnErr, IsOk, length};
+ghost use Rattle.std.specs.Prelude.{◌≡◌, Bool, ◌++◌, ◌∷◌, [], true, filter, IfOk, OnOk, OnErr, IsOk, length, reverse};
+ghost use Rattle.std.specs.Map.{keys_of};
 ghost use Rattle.obj_id.specs.declared.refusals.Refusal.{Refusal};
+ghost use Rattle.obj_id.specs.declared.ids.ObjectId.{ObjectId};
 ghost use Rattle.private_store.specs.Tables.{is_among};
-ghost use Rattle.lru_evictor.specs.Orders.{without_id, without_ids, last_used, touched};
+ghost use Rattle.use_tree.specs.declared.choices.Choices.{Choices};
+ghost use Rattle.use_tree.specs.Choices.{has};
+ghost use Rattle.lru_evictor.specs.Orders.{ids_of, without_id, last_used, touched, AllPass, OthersPass};
 
+use crate::candidates::Candidates;
+use crate::index::Place;
 use crate::job_order::JobOrder;
 use lru::Iter;
 use obj_id::{ObjectId, Refusal};
 use std::alloc::Global;
 use std::marker::Model;
+use use_tree::{Choice, Choices};
 
-/// The order of use of one job's copies. A contract sees their ids, least recently used first.
+/// The order of use of one job's copies. A contract sees their ids, most recently used first, each with the walks for room
+/// that may choose its copy.
 #[derive(Drop)]
 pub struct UseOrder {
     alloc: Global,
@@ -22,8 +30,9 @@ impl Model for UseOrder {
     ghost use Rattle.std.specs.Prelude.{List, []};
     ghost use Rattle.std.specs.Option.{unwrap_or};
     ghost use Rattle.obj_id.specs.declared.ids.ObjectId.{ObjectId};
+    ghost use Rattle.use_tree.specs.declared.choices.Choices.{Choices};
 
-    ghost Value = { List ObjectId };
+    ghost Value = { List (ObjectId × Choices) };
 
     ghost view = { λ o. unwrap_or o.cache [] };
 }
@@ -36,62 +45,64 @@ impl UseOrder {
         UseOrder { alloc, cache: None }
     }
 
-    /// Makes the id the most recently used, whether or not it was there. `NoMemory` alone, and then
-    /// nothing has changed; an id that is there takes no memory.
-    pub fn enter(&mut self, id: ObjectId) -> Result<(), Refusal>
-        ensures ok { OnOk result (self.new ≡ last_used id self.old) }
-        ensures succeeds { is_among self.old id ≡ true → IsOk result }
+    /// Makes the id the most recently used, whether or not it was there; these walks may choose its copy. `NoMemory` alone, and
+    /// then nothing has changed; an id that is there takes no memory.
+    pub fn enter(&mut self, id: ObjectId, choices: Choices) -> Result<(), Refusal>
+        ensures ids { OnOk result (ids_of self.new ≡ last_used id (ids_of self.old)) }
+        ensures choices { OnOk result ((test : ObjectId → Choices → Bool) → OthersPass id test self.old → test id choices ≡ true → AllPass test self.new) }
+        ensures succeeds { is_among (ids_of self.old) id ≡ true → IsOk result }
         ensures err { OnErr result (self.new ≡ self.old) }
         ensures memory { (r : Refusal) → result ≡ Err r → r ≡ Refusal.NoMemory }
     {
         match &mut self.cache {
-            Some(order) => order.enter(id)?,
+            Some(order) => order.enter(self.alloc, id, choices)?,
             None => {
-                let order = JobOrder::first(self.alloc, id)?;
+                let order = JobOrder::first(self.alloc, id, choices)?;
                 self.cache = Some(order);
             }
         }
         Ok(())
     }
 
-    /// Makes the id the most recently used, if it is there. Takes no memory.
-    pub fn touch(&mut self, id: ObjectId)
-        ensures { self.new ≡ touched id self.old }
+    /// Makes the id the most recently used, if it is there; these walks may choose its copy. Takes no memory.
+    pub fn touch(&mut self, id: ObjectId, choices: Choices)
+        ensures ids { ids_of self.new ≡ touched id (ids_of self.old) }
+        ensures choices { (test : ObjectId → Choices → Bool) → OthersPass id test self.old → test id choices ≡ true → AllPass test self.new }
     {
         let Some(order) = &mut self.cache else {
             return;
         };
-        order.touch(&id);
+        order.touch(id, choices);
+    }
+
+    /// These walks may choose the copy of the id, if it is there. Takes no memory.
+    pub fn choose(&mut self, id: &ObjectId, choices: Choices)
+        ensures ids { ids_of self.new ≡ ids_of self.old }
+        ensures choices { (test : ObjectId → Choices → Bool) → OthersPass id.now test self.old → test id.now choices ≡ true → AllPass test self.new }
+    {
+        let Some(order) = &mut self.cache else {
+            return;
+        };
+        order.choose(id, choices);
     }
 
     /// Takes the id out, if it is there. Takes no memory.
     pub fn forget(&mut self, id: ObjectId)
-        ensures { self.new ≡ without_id id self.old }
+        ensures ids { ids_of self.new ≡ without_id id (ids_of self.old) }
+        ensures choices { (test : ObjectId → Choices → Bool) → OthersPass id test self.old → AllPass test self.new }
     {
-        let left = match &mut self.cache {
-            None => return,
-            Some(order) => {
-                order.forget(&id);
-                order.len()
-            }
+        let Some(order) = &mut self.cache else {
+            return;
         };
-        if left == 0 {
+        order.forget(&id);
+        if order.len() == 0 {
             self.cache = None;
-        }
-    }
-
-    /// Takes these ids out, as far as they are there. Takes no memory.
-    pub fn forget_all(&mut self, ids: &[ObjectId])
-        ensures { self.new ≡ without_ids ids.now self.old }
-    {
-        for id in ids {
-            self.forget(*id);
         }
     }
 
     /// Whether the id is there.
     pub fn has(&self, id: &ObjectId) -> bool
-        ensures { result ≡ is_among self.now id.now }
+        ensures { result ≡ is_among (ids_of self.now) id.now }
     {
         match &self.cache {
             Some(order) => order.has(id),
@@ -101,13 +112,21 @@ impl UseOrder {
 
     /// The ids, from the least recently used on. Takes no memory.
     pub fn order(&self) -> Order<'_>
-        ensures { result ≡ self.now }
+        ensures { result ≡ ids_of self.now }
     {
         match &self.cache {
-            Some(order) => Order {
-                entries: Some(order.iter()),
-            },
-            None => Order { entries: None },
+            Some(order) => order.order(),
+            None => Order::none(),
+        }
+    }
+
+    /// The ids whose copies the walk may choose, from the least recently used on, and perhaps others between. Takes no memory.
+    pub(crate) fn candidates(&self, choice: Choice) -> Candidates<'_>
+        ensures { (test : ObjectId → Choices → Bool) (chosen : ObjectId → Bool) → AllPass test self.now → ((x : ObjectId) (c : Choices) → test x c ≡ true → chosen x ≡ true → has choice c ≡ true) → filter chosen result ≡ filter chosen (ids_of self.now) }
+    {
+        match &self.cache {
+            Some(order) => order.candidates(choice),
+            None => Candidates::all(Order::none()),
         }
     }
 }
@@ -115,7 +134,7 @@ impl UseOrder {
 /// The ids of a job, from the least recently used on. A contract sees those that are left.
 #[derive(Drop)]
 pub struct Order<'a> {
-    entries: Option<Iter<'a, ObjectId, ()>>,
+    entries: Option<Iter<'a, ObjectId, Place>>,
 }
 
 impl<'a> Model for Order<'a> {
@@ -127,6 +146,24 @@ impl<'a> Model for Order<'a> {
     ghost Value = { List ObjectId };
 
     ghost view = { λ o. option_map_or (λ es. reverse (keys_of es)) o.entries [] };
+}
+
+impl<'a> Order<'a> {
+    /// No id.
+    pub(crate) fn none() -> Order<'a>
+        ensures { result ≡ [] }
+    {
+        Order { entries: None }
+    }
+
+    /// The ids of these entries, from the other end on.
+    pub(crate) fn of(entries: Iter<'a, ObjectId, Place>) -> Order<'a>
+        ensures { result ≡ reverse (keys_of entries.entry) }
+    {
+        Order {
+            entries: Some(entries),
+        }
+    }
 }
 
 impl<'a> Iterator for Order<'a> {

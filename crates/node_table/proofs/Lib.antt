@@ -53,3 +53,4 @@ mod Noted
 pub mod Notes
 pub mod Peeking
 pub mod Granting
+pub mod FollowsCopies

@@ -24,3 +24,4 @@ pub mod Ending
 pub mod EndingTasks
 pub mod Notes
 pub mod Granting
+pub mod Followed

@@ -18,11 +18,15 @@ ghost use Rattle.std.specs.Prelude.{◌≡◌, ◌≢◌, ◌<◌, ◌^◌, [], 
 ghost use Rattle.node_table.specs.Usages.{item_of, total, is_spilling, window_bytes as window_bytes_lem, device_bytes as device_bytes_lem, doomed_one};
 ghost use Rattle.private_store.specs.Kept.{is_fetching};
 ghost use Rattle.node_table.specs.Row.{copies_of};
+ghost use Rattle.node_table.specs.Followed.{facts_in, AreFollowed};
+ghost use Rattle.lru_evictor.specs.Facts.{choices_at};
+ghost use Rattle.lru_evictor.specs.Orders.{ids_of};
 ghost use Rattle.node_table.specs.Arriving.{located, asks, fills, lacks_only, gap_closed, brought, unfetched};
 
 use crate::copy::{Awaited, RowCopy};
 use crate::taken::{Taken, to_u64};
 use indexmap::IndexMap;
+use lru_evictor::{Choices, UseOrder};
 use obj_id::{Digest, DirectoryMessage, Items, Location, ObjectId, OwnItem, Refusal, TaskNo};
 use plain_store::{PlainCopy, copies_by_id};
 use private_store::{Fault, FetchFault};
@@ -123,6 +127,26 @@ impl Copies {
         // as for `window_bytes`
         let _count = self.by_id.len();
         to_u64(self.taken.device)
+    }
+
+    /// The walks for room that choose the copy of the id; none if there is no copy.
+    pub fn choices(&self, id: &ObjectId) -> Choices
+        ensures { result ≡ choices_at (facts_in self.now) id.now }
+    {
+        let Some(copy) = self.get(id) else {
+            return Choices::none();
+        };
+        copy.facts().choices()
+    }
+
+    /// The order of use has the walks for room that choose each of them. Takes a walk over them, and no memory.
+    pub fn follow_all(&self, order: &mut UseOrder)
+        ensures ids { ids_of order.new ≡ ids_of order.old }
+        ensures choices { AreFollowed self.now order.new }
+    {
+        for (id, _) in &self.by_id {
+            order.choose(id, self.choices(id));
+        }
     }
 
     /// How many of them are doomed. Takes a walk over them.

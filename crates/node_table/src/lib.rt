@@ -13,6 +13,7 @@ mod create_command;
 mod device_works;
 mod end_task;
 mod ending;
+mod following;
 mod get_away;
 mod get_command;
 mod get_fetching;

@@ -14,7 +14,8 @@ ghost use Rattle.private_store.specs.Copies.{is_created};
 ghost use Rattle.private_store.specs.Kept.{is_remembered, is_restoring};
 ghost use Rattle.node_table.specs.Usages.{is_spilling};
 ghost use Rattle.node_table.specs.Answering.{written_row, refilled, lost_row};
-ghost use Rattle.lru_evictor.specs.Orders.{touched, last_used};
+ghost use Rattle.lru_evictor.specs.Orders.{touched, last_used, ids_of};
+ghost use Rattle.node_table.specs.Followed.{AreFollowed};
 ghost use Rattle.node_table.specs.Entries.{changed, all_changed, each_changed};
 ghost use Rattle.node_table.specs.Kept.{Kept, sealed, held, released, left, spilling_if, fetched_kept, unpinned, borrowed, given_up, doomed, marked, fault_told, new_kept, waits_for_place, placed_for, CanAwait};
 ghost use Rattle.node_table.specs.Checks.{release_check, borrow_check};
@@ -30,6 +31,7 @@ ghost use Rattle.node_table.specs.Arriving.{located, gap_closed, brought, unfetc
 
 use crate::copies::Copies;
 use crate::copy::{Awaited, RowCopy};
+use crate::following::{follow, follow_each, forget_missing};
 use indexmap::IndexSet;
 use job_region::Window;
 use lru_evictor::{UseOrder, extents_by_offset};
@@ -60,12 +62,14 @@ pub struct JobRow {
 
 impl Model for JobRow {
     ghost use Rattle.node_table.specs.Row.{Row, place_of, ArePlaced};
+    ghost use Rattle.node_table.specs.Followed.{AreFollowed};
+    ghost use Rattle.lru_evictor.specs.Orders.{ids_of};
 
     ghost Value = { Row };
 
-    ghost view = { λ r. record { job = r.job.0; window = r.window; device = r.device; copies = r.copies; order = r.order; fetches_begun = r.fetches_begun; spill_failed = r.spill_failed; ended_tasks = r.ended_tasks.keys } };
+    ghost view = { λ r. record { job = r.job.0; window = r.window; device = r.device; copies = r.copies; order = ids_of r.order; fetches_begun = r.fetches_begun; spill_failed = r.spill_failed; ended_tasks = r.ended_tasks.keys } };
 
-    ghost invariant = { λ r. ArePlaced r.window.placed (place_of r.copies) };
+    ghost invariant = { λ r. ArePlaced r.window.placed (place_of r.copies) × AreFollowed r.copies r.order };
 }
 
 impl JobRow {
@@ -153,9 +157,10 @@ impl JobRow {
         self.device
     }
 
-    /// The order of use of its copies.
+    /// The order of use of its copies, with the walks for room that choose them.
     pub(crate) fn use_order(&self) -> &UseOrder
-        ensures { result.now ≡ self.now.order }
+        ensures ids { ids_of result.now ≡ self.now.order }
+        ensures choices { AreFollowed self.now.copies result.now }
     {
         &self.order
     }
@@ -194,6 +199,7 @@ impl JobRow {
         ensures { self.new ≡ record self.old { copies = changed (sealed digest) self.old.copies id.now } }
     {
         self.copies.seal(id, digest);
+        follow(&mut self.order, &self.copies, id);
     }
 
     /// The fault of the copy was told.
@@ -201,6 +207,7 @@ impl JobRow {
         ensures { self.new ≡ record self.old { copies = changed fault_told self.old.copies id.now } }
     {
         self.copies.forget_fault(id);
+        follow(&mut self.order, &self.copies, id);
     }
 
     /// One more hold of the session on the copy, if it is there, sealed and not doomed, which is the most recently used
@@ -215,7 +222,7 @@ impl JobRow {
     {
         let held = self.copies.hold(id, session)?;
         if held.is_some() {
-            self.order.touch(*id);
+            self.order.touch(*id, self.copies.choices(id));
         }
         Ok(held)
     }
@@ -283,6 +290,7 @@ impl JobRow {
     {
         self.ended_tasks.insert(task)?;
         self.copies.end_hands(task);
+        self.copies.follow_all(&mut self.order);
         Ok(())
     }
 
@@ -300,7 +308,8 @@ impl JobRow {
         ensures err { OnErr result (self.new ≡ self.old) }
     {
         self.copies.insert(*id, RowCopy::fetching(alloc, number))?;
-        if self.order.enter(*id).is_err() {
+        let choices = self.copies.choices(id);
+        if self.order.enter(*id, choices).is_err() {
             self.copies.remove(id);
             return Err(Refusal::NoMemory);
         }
@@ -333,7 +342,8 @@ impl JobRow {
         };
         self.copies
             .insert(*id, RowCopy::created(alloc, kind, len, offset))?;
-        if self.order.enter(*id).is_err() {
+        let choices = self.copies.choices(id);
+        if self.order.enter(*id, choices).is_err() {
             self.copies.remove(id);
             return Err(Refusal::NoMemory);
         }
@@ -345,6 +355,7 @@ impl JobRow {
             }
             Ok(extent) => {
                 self.copies.evict_all(victims);
+                follow_each(&mut self.order, &self.copies, victims);
                 forget_missing(&mut self.order, &self.copies, victims);
                 Ok(extent)
             }
@@ -374,7 +385,9 @@ impl JobRow {
             Err(_) => Err(Refusal::NoMemory),
             Ok(extent) => {
                 self.copies.take_place(id, extent.offset, awaited);
+                follow(&mut self.order, &self.copies, id);
                 self.copies.evict_all(victims);
+                follow_each(&mut self.order, &self.copies, victims);
                 forget_missing(&mut self.order, &self.copies, victims);
                 Ok(extent)
             }
@@ -393,6 +406,7 @@ impl JobRow {
         ensures { self.new ≡ with_copy (located node number entries.now) self.old id.now }
     {
         self.copies.locate(id, node, number, entries);
+        follow(&mut self.order, &self.copies, id);
     }
 
     /// A chunk of `len` bytes came: the gap of the copy that it fills is closed. Takes no memory.
@@ -407,6 +421,7 @@ impl JobRow {
         ensures { self.new ≡ with_copy (gap_closed number from index len) self.old id.now }
     {
         self.copies.take_chunk(id, number, from, index, len);
+        follow(&mut self.order, &self.copies, id);
     }
 
     /// All bytes of the copy are there: it is sealed. Takes no memory.
@@ -415,6 +430,7 @@ impl JobRow {
         ensures { self.new ≡ with_copy brought self.old id.now }
     {
         self.copies.bring(id);
+        follow(&mut self.order, &self.copies, id);
     }
 
     /// The fetch of the copy is over without it: its place is free, and the next Get is told why. Takes no memory.
@@ -426,6 +442,7 @@ impl JobRow {
         let gone = self.place(id);
         self.window.give_back_all(gone.as_slice());
         self.copies.fail_fetch(id, fault);
+        follow(&mut self.order, &self.copies, id);
     }
 
     /// Writes of these copies are in flight, if they can be. Takes no memory.
@@ -433,6 +450,7 @@ impl JobRow {
         ensures { self.new ≡ record self.old { copies = each_changed spilling_if self.old.copies ids.now } }
     {
         self.copies.begin_spills(ids);
+        follow_each(&mut self.order, &self.copies, ids);
     }
 
     /// The write of the copy under this number ended: its bytes are on the device; or it failed, and the next one that
@@ -442,6 +460,7 @@ impl JobRow {
         ensures { self.new ≡ written_row number failed self.old id.now }
     {
         self.copies.end_spill(id, number, failed);
+        follow(&mut self.order, &self.copies, id);
         self.spill_failed = failed || self.spill_failed;
     }
 
@@ -453,6 +472,7 @@ impl JobRow {
     {
         self.put_bytes(id, 0, bytes);
         self.copies.end_restore(id);
+        follow(&mut self.order, &self.copies, id);
     }
 
     /// The read of the copy ended without its bytes: it is away again with this fault, and its place is free. Takes no
@@ -464,6 +484,7 @@ impl JobRow {
         let gone = self.place(id);
         self.window.give_back_all(gone.as_slice());
         self.copies.lose(id, fault);
+        follow(&mut self.order, &self.copies, id);
     }
 
     /// One hold of the session on the copy less. `Absent`, `NotHeld` if it has none; a refusal changes
@@ -475,6 +496,7 @@ impl JobRow {
         ensures err { OnErr result (self.new ≡ self.old) }
     {
         self.copies.release(id, session)?;
+        follow(&mut self.order, &self.copies, id);
         Ok(())
     }
 
@@ -513,6 +535,7 @@ impl JobRow {
         ensures { self.new ≡ with_copy unpinned self.old id.now }
     {
         self.copies.unpin(id);
+        follow(&mut self.order, &self.copies, id);
     }
 
     /// The task borrows the copy, as the last one. `Absent`, also if it is doomed, `NotOwner`, `Exists`, `TooMany`,
@@ -525,6 +548,7 @@ impl JobRow {
         ensures err { OnErr result (self.new ≡ self.old) }
     {
         self.copies.borrow(id, task)?;
+        follow(&mut self.order, &self.copies, id);
         Ok(())
     }
 
@@ -534,6 +558,7 @@ impl JobRow {
         ensures { self.new ≡ with_copy (given_up task) self.old id.now }
     {
         self.copies.give_up(id, task);
+        follow(&mut self.order, &self.copies, id);
     }
 
     /// The copy is removed as soon as nothing keeps it. Takes no memory.
@@ -541,6 +566,7 @@ impl JobRow {
         ensures { self.new ≡ with_copy doomed self.old id.now }
     {
         self.copies.doom(id);
+        follow(&mut self.order, &self.copies, id);
     }
 
     /// Hands of the copy stand that the job gave, or none. Takes no memory.
@@ -548,6 +574,7 @@ impl JobRow {
         ensures { self.new ≡ with_copy (marked granted) self.old id.now }
     {
         self.copies.mark_granted(id, granted);
+        follow(&mut self.order, &self.copies, id);
     }
 
     /// No hold of the session on the copy. Takes no memory.
@@ -555,6 +582,7 @@ impl JobRow {
         ensures { self.new ≡ unheld_row session self.old id.now }
     {
         self.copies.leave(id, session);
+        follow(&mut self.order, &self.copies, id);
     }
 
     /// No hold of the session on any copy. Takes no memory.
@@ -562,6 +590,7 @@ impl JobRow {
         ensures { self.new ≡ record self.old { copies = all_changed (left session) self.old.copies } }
     {
         self.copies.leave_all(session);
+        self.copies.follow_all(&mut self.order);
     }
 
     /// Writes bytes into a resident copy from the offset on.
@@ -582,15 +611,4 @@ fn first_bytes(bytes: &[u8], len: u32) -> &[u8]
     ensures { result.now ≡ take len bytes.now }
 {
     &bytes[..(len as usize).min(bytes.len())]
-}
-
-/// Those of these ids that have no copy leave the order of use. Takes no memory.
-fn forget_missing(order: &mut UseOrder, copies: &Copies, ids: &[ObjectId])
-    ensures { order.new ≡ without_missing copies.now ids.now order.old }
-{
-    for id in ids {
-        if !copies.has(id) {
-            order.forget(*id);
-        }
-    }
 }

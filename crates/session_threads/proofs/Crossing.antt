@@ -26,7 +26,6 @@ use Rattle.hole_tree.specs.contracts.Tree as Tree
 use Rattle.hole_tree.specs.contracts.Tree.TheKnot as knot
 use Rattle.hole_tree.specs.declared.Tree.TheBlock as block
 use Rattle.job_region.specs.contracts.Window as Window
-use Rattle.lru_evictor.proofs.use_order.UseOrder.TheSendSync.{the_send as order_send}
 use Rattle.spill_work.proofs.Works.TheSendSync.{the_send as works_send}
 use Rattle.job_admission.proofs.Admission.TheSendSync.{the_send as admission_send}
 use Rattle.node_table.specs.contracts.row.JobRow as JobRow
@@ -36,6 +35,7 @@ use Rattle.node_journal.specs.contracts.kept.Kept as Kept
 use Rattle.node_journal.proofs.logs.Logs.TheSendSync.{the_send as logs_send}
 use Rattle.std.specs.declared.sync.ledger.Ledger.{Ghosts}
 use Rattle.std.proofs.sync.ledger.Share.TheSendSync.{the_send as share_send}
+use Rattle.session_threads.proofs.OrdersCross.{order_send}
 use Rattle.session_threads.proofs.upkeep.Upkeep.TheSendSync.{the_send as upkeep_send, the_sync as upkeep_sync}
 use Rattle.session_threads.proofs.posting.Ways.TheSendSync.{the_send as ways_send, the_sync as ways_sync}
 use Rattle.session_threads.specs.contracts.shared.SharedNode as Shared

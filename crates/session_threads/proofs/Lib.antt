@@ -1,2 +1,3 @@
+mod OrdersCross
 mod Crossing
 mod SmallLists

@@ -11,7 +11,7 @@ returns-then-branch-clause-found g c =
     let whole = take_all (length c.args.ids.now.items) c.args.ids.now.items (omega arith) in
     let enough = ap fits (whole ∙ sym c.deref.ensures.value) ∙ sym c.in_ok-fits_without.ensures ∙ c.if-branch.true in
     ap (λ k. Some (drop (length c.args.ids.now.items) (take k c.args.ids.now.items))) all
-    ∙ found_at_once c.args.window.now (g.C.CopyLookup.facts c.args.copies.now) c.args.len c.args.ids.now.items (chosen (g.C.CopyLookup.facts c.args.copies.now) c.args.choice c.args.order) enough
+    ∙ found_at_once c.args.window.now (g.C.CopyLookup.facts c.args.copies.now) c.args.len c.args.ids.now.items (chosen (g.C.CopyLookup.facts c.args.copies.now) c.args.choice c.args.candidates) enough
 
 pub loop-id-init : goal.loop-id-init
 loop-id-init g c = record {
@@ -33,10 +33,10 @@ pub returns-in-Some-2-clause-found : goal.returns-in-Some-2-clause-found
 returns-in-Some-2-clause-found g c =
     let few = ap (fits_without c.args.window.now (g.C.CopyLookup.facts c.args.copies.now) c.args.len) (take-pushed c.args.ids.now.items c.loop-id.ids.items c.push.new.self.items c.in-Some.id c.in_ok-push.ensures.items (omega (arith, c.loop-id.invariant.low, c.loop-id.invariant.within)) c.loop-id.few c.loop-id.invariant.within) ∙ c.loop-id.invariant.few in
     let front = front-pushed c.args.ids.now.items c.loop-id.ids.items c.push.new.self.items c.in-Some.id c.in_ok-push.ensures.items (omega (arith, c.loop-id.invariant.low, c.loop-id.invariant.within)) c.loop-id.invariant.front in
-    let behind = behind-pushed c.args.ids.now.items c.loop-id.ids.items c.push.new.self.items c.in-Some.id c.in_ok-push.ensures.items (omega (arith, c.loop-id.invariant.low, c.loop-id.invariant.within)) (g.C.CopyLookup.facts c.args.copies.now) c.args.choice c.loop-id.id-iterator c.next.new.self (chosen (g.C.CopyLookup.facts c.args.copies.now) c.args.choice c.args.order) c.in-Some.ensures.steps (sym c.if-not-chooses.ensures) c.loop-id.invariant.behind in
+    let behind = behind-pushed c.args.ids.now.items c.loop-id.ids.items c.push.new.self.items c.in-Some.id c.in_ok-push.ensures.items (omega (arith, c.loop-id.invariant.low, c.loop-id.invariant.within)) (g.C.CopyLookup.facts c.args.copies.now) c.args.choice c.loop-id.id-iterator c.next.new.self (chosen (g.C.CopyLookup.facts c.args.copies.now) c.args.choice c.args.candidates) c.in-Some.ensures.steps (sym c.if-not-chooses.ensures) c.loop-id.invariant.behind in
     let needed = rw c.in-Some-2.is at c.in_ok-count.ensures.found in
     let above = above_few c.args.window.now (g.C.CopyLookup.facts c.args.copies.now) c.args.len c.push.new.self.items c.loop-id.few c.in-Some-2.count few needed in
-    found_here c.args.window.now (g.C.CopyLookup.facts c.args.copies.now) c.args.len c.push.new.self.items c.args.ids.now.items (chosen (g.C.CopyLookup.facts c.args.copies.now) c.args.choice c.next.new.self) (chosen (g.C.CopyLookup.facts c.args.copies.now) c.args.choice c.args.order) front behind c.in-Some-2.count (omega (arith, above, c.loop-id.invariant.low)) needed
+    found_here c.args.window.now (g.C.CopyLookup.facts c.args.copies.now) c.args.len c.push.new.self.items c.args.ids.now.items (chosen (g.C.CopyLookup.facts c.args.copies.now) c.args.choice c.next.new.self) (chosen (g.C.CopyLookup.facts c.args.copies.now) c.args.choice c.args.candidates) front behind c.in-Some-2.count (omega (arith, above, c.loop-id.invariant.low)) needed
 
 pub returns-in-Some-2-clause-within : goal.returns-in-Some-2-clause-within
 returns-in-Some-2-clause-within g c =
@@ -55,7 +55,7 @@ loop-id-preserved-then-left-eq0 g c =
       few = ap (fits_without c.args.window.now (g.C.CopyLookup.facts c.args.copies.now) c.args.len) (take_all c.len-few.result c.push.new.self.items (omega (arith, c.len-few.ensures))) ∙ none;
       left = omega (arith, c.len-few.ensures, c.len-always.ensures, longer, c.loop-id.invariant.low, c.loop-id.invariant.within);
       front = front-pushed c.args.ids.now.items c.loop-id.ids.items c.push.new.self.items c.in-Some.id c.in_ok-push.ensures.items (omega (arith, c.loop-id.invariant.low, c.loop-id.invariant.within)) c.loop-id.invariant.front;
-      behind = behind-pushed c.args.ids.now.items c.loop-id.ids.items c.push.new.self.items c.in-Some.id c.in_ok-push.ensures.items (omega (arith, c.loop-id.invariant.low, c.loop-id.invariant.within)) (g.C.CopyLookup.facts c.args.copies.now) c.args.choice c.loop-id.id-iterator c.next.new.self (chosen (g.C.CopyLookup.facts c.args.copies.now) c.args.choice c.args.order) c.in-Some.ensures.steps (sym c.if-not-chooses.ensures) c.loop-id.invariant.behind;
+      behind = behind-pushed c.args.ids.now.items c.loop-id.ids.items c.push.new.self.items c.in-Some.id c.in_ok-push.ensures.items (omega (arith, c.loop-id.invariant.low, c.loop-id.invariant.within)) (g.C.CopyLookup.facts c.args.copies.now) c.args.choice c.loop-id.id-iterator c.next.new.self (chosen (g.C.CopyLookup.facts c.args.copies.now) c.args.choice c.args.candidates) c.in-Some.ensures.steps (sym c.if-not-chooses.ensures) c.loop-id.invariant.behind;
     }
 
 pub loop-id-preserved : goal.loop-id-preserved
@@ -67,17 +67,17 @@ loop-id-preserved g c =
       few = ap (fits_without c.args.window.now (g.C.CopyLookup.facts c.args.copies.now) c.args.len) (take-pushed c.args.ids.now.items c.loop-id.ids.items c.push.new.self.items c.in-Some.id c.in_ok-push.ensures.items (omega (arith, c.loop-id.invariant.low, c.loop-id.invariant.within)) c.loop-id.few c.loop-id.invariant.within) ∙ c.loop-id.invariant.few;
       left = omega (arith, c.loop-id.invariant.left, c.if-left-eq0.false);
       front = front-pushed c.args.ids.now.items c.loop-id.ids.items c.push.new.self.items c.in-Some.id c.in_ok-push.ensures.items (omega (arith, c.loop-id.invariant.low, c.loop-id.invariant.within)) c.loop-id.invariant.front;
-      behind = behind-pushed c.args.ids.now.items c.loop-id.ids.items c.push.new.self.items c.in-Some.id c.in_ok-push.ensures.items (omega (arith, c.loop-id.invariant.low, c.loop-id.invariant.within)) (g.C.CopyLookup.facts c.args.copies.now) c.args.choice c.loop-id.id-iterator c.next.new.self (chosen (g.C.CopyLookup.facts c.args.copies.now) c.args.choice c.args.order) c.in-Some.ensures.steps (sym c.if-not-chooses.ensures) c.loop-id.invariant.behind;
+      behind = behind-pushed c.args.ids.now.items c.loop-id.ids.items c.push.new.self.items c.in-Some.id c.in_ok-push.ensures.items (omega (arith, c.loop-id.invariant.low, c.loop-id.invariant.within)) (g.C.CopyLookup.facts c.args.copies.now) c.args.choice c.loop-id.id-iterator c.next.new.self (chosen (g.C.CopyLookup.facts c.args.copies.now) c.args.choice c.args.candidates) c.in-Some.ensures.steps (sym c.if-not-chooses.ensures) c.loop-id.invariant.behind;
     }
 
 pub returns-clause-found : goal.returns-clause-found
 returns-clause-found g c =
-    found-last c.args.window.now (g.C.CopyLookup.facts c.args.copies.now) c.args.len c.args.ids.now.items c.loop-id.ids.items (chosen (g.C.CopyLookup.facts c.args.copies.now) c.args.choice c.loop-id.id-iterator) (chosen (g.C.CopyLookup.facts c.args.copies.now) c.args.choice c.args.order) c.loop-id.invariant.front c.loop-id.invariant.behind c.loop-id.few c.loop-id.invariant.low c.loop-id.invariant.few c.in_ok-count-2.count c.in_ok-count-2.ensures.found c.in_ok-count-2.ensures.none (ap (λ xs. chosen (g.C.CopyLookup.facts c.args.copies.now) c.args.choice xs) c.in-None.ensures.steps.0)
+    found-last c.args.window.now (g.C.CopyLookup.facts c.args.copies.now) c.args.len c.args.ids.now.items c.loop-id.ids.items (chosen (g.C.CopyLookup.facts c.args.copies.now) c.args.choice c.loop-id.id-iterator) (chosen (g.C.CopyLookup.facts c.args.copies.now) c.args.choice c.args.candidates) c.loop-id.invariant.front c.loop-id.invariant.behind c.loop-id.few c.loop-id.invariant.low c.loop-id.invariant.few c.in_ok-count-2.count c.in_ok-count-2.ensures.found c.in_ok-count-2.ensures.none (ap (λ xs. chosen (g.C.CopyLookup.facts c.args.copies.now) c.args.choice xs) c.in-None.ensures.steps.0)
 
 pub returns-clause-within : goal.returns-clause-within
 returns-clause-within g c =
-    within-last c.args.window.now (g.C.CopyLookup.facts c.args.copies.now) c.args.len c.args.ids.now.items c.loop-id.ids.items (chosen (g.C.CopyLookup.facts c.args.copies.now) c.args.choice c.loop-id.id-iterator) (chosen (g.C.CopyLookup.facts c.args.copies.now) c.args.choice c.args.order) c.loop-id.invariant.front c.loop-id.invariant.behind c.loop-id.few c.loop-id.invariant.low c.loop-id.invariant.few c.in_ok-count-2.count c.in_ok-count-2.ensures.found
+    within-last c.args.window.now (g.C.CopyLookup.facts c.args.copies.now) c.args.len c.args.ids.now.items c.loop-id.ids.items (chosen (g.C.CopyLookup.facts c.args.copies.now) c.args.choice c.loop-id.id-iterator) (chosen (g.C.CopyLookup.facts c.args.copies.now) c.args.choice c.args.candidates) c.loop-id.invariant.front c.loop-id.invariant.behind c.loop-id.few c.loop-id.invariant.low c.loop-id.invariant.few c.in_ok-count-2.count c.in_ok-count-2.ensures.found
 
 pub returns-clause-all : goal.returns-clause-all
 returns-clause-all g c =
-    all-last c.args.window.now (g.C.CopyLookup.facts c.args.copies.now) c.args.len c.args.ids.now.items c.loop-id.ids.items (chosen (g.C.CopyLookup.facts c.args.copies.now) c.args.choice c.loop-id.id-iterator) (chosen (g.C.CopyLookup.facts c.args.copies.now) c.args.choice c.args.order) c.loop-id.invariant.front c.loop-id.invariant.behind c.in_ok-count-2.count (ap (λ xs. chosen (g.C.CopyLookup.facts c.args.copies.now) c.args.choice xs) c.in-None.ensures.steps.0)
+    all-last c.args.window.now (g.C.CopyLookup.facts c.args.copies.now) c.args.len c.args.ids.now.items c.loop-id.ids.items (chosen (g.C.CopyLookup.facts c.args.copies.now) c.args.choice c.loop-id.id-iterator) (chosen (g.C.CopyLookup.facts c.args.copies.now) c.args.choice c.args.candidates) c.loop-id.invariant.front c.loop-id.invariant.behind c.in_ok-count-2.count (ap (λ xs. chosen (g.C.CopyLookup.facts c.args.copies.now) c.args.choice xs) c.in-None.ensures.steps.0)

@@ -9,5 +9,5 @@ invariant-loop-id g l = record {
   few : fits_without l.window (g.C.CopyLookup.facts l.copies) l.len (take l.few l.ids.items) ≡ false;
   left : 0 < l.left;
   front : take (length l.fn.ids.items) l.ids.items ≡ l.fn.ids.items;
-  behind : drop (length l.fn.ids.items) l.ids.items ++ chosen (g.C.CopyLookup.facts l.copies) l.choice l.id-iterator ≡ chosen (g.C.CopyLookup.facts l.copies) l.choice l.fn.order;
+  behind : drop (length l.fn.ids.items) l.ids.items ++ chosen (g.C.CopyLookup.facts l.copies) l.choice l.id-iterator ≡ chosen (g.C.CopyLookup.facts l.copies) l.choice l.fn.candidates;
 }

@@ -1,11 +1,42 @@
-use Rattle.std.proofs.Common.{reverse, ap, ◌∙◌}
+use Rattle.std.proofs.Common.{sym, ap, subst, ◌∙◌, reverse}
 use Rattle.std.specs.Map.{keys_of}
-use Rattle.lru_evictor.specs.Orders.{without_id}
+use Rattle.lru_evictor.specs.Indexed.{IsIndexed}
+use Rattle.lru_evictor.specs.Orders.{ids_of, without_id, AllPass, OthersPass}
 use Rattle.lru_evictor.proofs.CacheOrders.{order-removed}
+use Rattle.lru_evictor.proofs.Uses.{shown, order-shown, none-removed, removed-passes}
 use Rattle.lru_evictor.proofs.job_order.JobOrder.forget.Goals as goal
 
-pub returns : goal.returns
-returns c =
-    ap (λ a. reverse (keys_of a.entries)) c.pop.ensures.entries
+pub invariant_of-self : goal.invariant_of-self
+invariant_of-self c =
+    let same = none-removed c.args.id.now c.self.inside.cache.entries (sym c.pop.ensures.value ∙ c.in_default.is) in
+    (ap (λ a. a.cap) c.pop.ensures.entries ∙ c.self.invariant.0, subst (IsIndexed c.self.inside.index) (sym (ap (λ a. a.entries) c.pop.ensures.entries ∙ same)) c.self.invariant.1)
+
+pub invariant_of-self-2 : goal.invariant_of-self-2
+invariant_of-self-2 c = (
+  ap (λ a. a.cap) c.pop.ensures.entries ∙ c.self.invariant.0,
+  subst (IsIndexed c.remove_use.new.index) (sym (ap (λ a. a.entries) c.pop.ensures.entries)) (c.remove_use.ensures c.args.id.now c.self.inside.cache.entries (sym c.pop.ensures.value ∙ c.in-Some.is) c.self.invariant.1),
+)
+
+pub returns-in_default-clause-ids : goal.returns-in_default-clause-ids
+returns-in_default-clause-ids c =
+    order-shown c.pop.new.self.entries
+    ∙ ap (λ a. reverse (keys_of a.entries)) c.pop.ensures.entries
     ∙ order-removed c.args.id.now c.self.inside.cache.entries c.len-count.ensures.valid.0
-    ∙ ap (without_id c.args.id.now) c.self.view_is
+    ∙ ap (without_id c.args.id.now) (sym (order-shown c.self.inside.cache.entries) ∙ ap ids_of c.self.view_is)
+
+pub returns-clause-ids : goal.returns-clause-ids
+returns-clause-ids c =
+    order-shown c.pop.new.self.entries
+    ∙ ap (λ a. reverse (keys_of a.entries)) c.pop.ensures.entries
+    ∙ order-removed c.args.id.now c.self.inside.cache.entries c.len-count.ensures.valid.0
+    ∙ ap (without_id c.args.id.now) (sym (order-shown c.self.inside.cache.entries) ∙ ap ids_of c.self.view_is)
+
+pub returns-in_default-clause-choices : goal.returns-in_default-clause-choices
+returns-in_default-clause-choices c f but =
+    subst (λ a. AllPass f (shown a.entries)) (sym c.pop.ensures.entries)
+    (removed-passes c.args.id.now f c.self.inside.cache.entries c.len-count.ensures.valid.0 (subst (OthersPass c.args.id.now f) (sym c.self.view_is) but))
+
+pub returns-clause-choices : goal.returns-clause-choices
+returns-clause-choices c f but =
+    subst (λ a. AllPass f (shown a.entries)) (sym c.pop.ensures.entries)
+    (removed-passes c.args.id.now f c.self.inside.cache.entries c.len-count.ensures.valid.0 (subst (OthersPass c.args.id.now f) (sym c.self.view_is) but))

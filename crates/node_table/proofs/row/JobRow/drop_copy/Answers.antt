@@ -7,21 +7,26 @@ use Rattle.node_table.specs.Kept.{Kept}
 use Rattle.node_table.specs.Row.{Row, place_of, ArePlaced}
 use Rattle.node_table.specs.Dropping.{dropped}
 use Rattle.node_table.proofs.Dropping.{left_placed, slice_is}
+use Rattle.node_table.specs.Followed.{is_followed}
+use Rattle.node_table.proofs.FollowsCopies.{removed_but, others_followed}
 use Rattle.node_table.proofs.row.JobRow.drop_copy.Goals as goal
 
 pub invariant_of-self : goal.invariant_of-self
 invariant_of-self c =
     let gone = slice_is c.place-gone.result c.as_slice.result.now c.as_slice.ensures ∙ ap option_to_list (c.place-gone.ensures ∙ ap (λ (r : Row). place_of r.copies c.args.id.now) (sym c.self.view_is)) in
-    let window = c.give_back_all.ensures ∙ ap (λ gs. record c.self.inside.window { placed = without gs c.self.inside.window.placed }) gone in
-    subst (λ (w : Region). ArePlaced w.placed (place_of c.remove.new.self)) (sym window)
-    (subst (λ t. ArePlaced (without (option_to_list (place_of c.self.inside.copies c.args.id.now)) c.self.inside.window.placed) (place_of t)) (sym c.remove.ensures)
-    (left_placed c.self.inside.window.placed c.self.inside.copies c.self.invariant c.args.id.now))
+    let window = c.give_back_all.ensures ∙ ap (λ gs. record c.self.inside.window { placed = without gs c.self.inside.window.placed }) gone in (
+      subst (λ (w : Region). ArePlaced w.placed (place_of c.remove.new.self)) (sym window)
+          (subst (λ t. ArePlaced (without (option_to_list (place_of c.self.inside.copies c.args.id.now)) c.self.inside.window.placed) (place_of t)) (sym c.remove.ensures)
+          (left_placed c.self.inside.window.placed c.self.inside.copies c.self.invariant.0 c.args.id.now)),
+      c.forget.ensures.choices (is_followed c.remove.new.self)
+          (others_followed c.args.id.now c.self.inside.copies c.remove.new.self (removed_but c.self.inside.copies c.remove.new.self c.args.id.now c.remove.ensures) c.self.inside.order c.self.invariant.1),
+    )
 
 pub returns-clause-row : goal.returns-clause-row
 returns-clause-row c =
     let gone = slice_is c.place-gone.result c.as_slice.result.now c.as_slice.ensures ∙ ap option_to_list (c.place-gone.ensures ∙ ap (λ (r : Row). place_of r.copies c.args.id.now) (sym c.self.view_is)) in
     let window = c.give_back_all.ensures ∙ ap (λ gs. record c.self.inside.window { placed = without gs c.self.inside.window.placed }) gone in
-    (λ i. row_of (window i) (c.remove.ensures i) (c.forget.ensures i)) ∙ ap (λ r. dropped r c.args.id.now) c.self.view_is
+    (λ i. row_of (window i) (c.remove.ensures i) (c.forget.ensures.ids i)) ∙ ap (λ r. dropped r c.args.id.now) c.self.view_is
   where
     row_of : Region → ById Kept → List ObjectId → Row
     row_of window copies order = record { job = c.self.inside.job.0; window = window; device = c.self.inside.device; copies = copies; order = order; fetches_begun = c.self.inside.fetches_begun; spill_failed = c.self.inside.spill_failed; ended_tasks = c.self.inside.ended_tasks.keys }

@@ -3,29 +3,39 @@ use Rattle.obj_id.specs.declared.ids.ObjectId.{ObjectId}
 use Rattle.private_store.specs.Tables.{ById, at, with_entry, without_entry}
 use Rattle.node_table.specs.Kept.{Kept, fetched_kept}
 use Rattle.node_table.specs.Row.{Row, place_of, ArePlaced}
-use Rattle.node_table.proofs.Changes.{put_back, of_err}
+use Rattle.node_table.proofs.Changes.{put_back, of_err, of_ok}
 use Rattle.node_table.proofs.Places.{entered_placed}
+use Rattle.lru_evictor.specs.Orders.{ids_of}
+use Rattle.node_table.specs.Followed.{is_followed, AreFollowed}
+use Rattle.node_table.proofs.FollowsCopies.{put_but, others_followed, is_followed-itself}
 use Rattle.node_table.proofs.row.JobRow.enter_fetch.Goals as goal
 
 pub invariant_of-self-then-is_err : goal.invariant_of-self-then-is_err
 invariant_of-self-then-is_err c =
     let none : at c.self.inside.copies c.args.id.now ≡ None = ap (λ r. at r.copies c.args.id.now) c.self.view_is ∙ c.requires in
-    let back = c.remove.ensures ∙ ap (λ t. without_entry t c.args.id.now) c.in_ok-insert.ensures.ok ∙ put_back c.args.id.now c.self.inside.copies _ none in
-    subst (λ t. ArePlaced c.self.inside.window.placed (place_of t)) (sym back) c.self.invariant
+    let back = c.remove.ensures ∙ ap (λ t. without_entry t c.args.id.now) c.in_ok-insert.ensures.ok ∙ put_back c.args.id.now c.self.inside.copies _ none in (
+      subst (λ t. ArePlaced c.self.inside.window.placed (place_of t)) (sym back) c.self.invariant.0,
+      subst (λ t. AreFollowed t c.enter.new.self) (sym back)
+          (subst (AreFollowed c.self.inside.copies) (sym (of_err c.enter.result c.enter.ensures.err (sym c.is_err.ensures.value ∙ c.if-is_err.true))) c.self.invariant.1),
+    )
 
 pub invariant_of-self-2 : goal.invariant_of-self-2
 invariant_of-self-2 c =
-    let none : at c.self.inside.copies c.args.id.now ≡ None = ap (λ r. at r.copies c.args.id.now) c.self.view_is ∙ c.requires in
-    entered_placed c.self.inside.window.placed c.self.inside.copies c.args.id.now (fetched_kept c.args.number) c.insert.new.self none refl
-    (c.in_ok-insert.ensures.ok ∙ ap (with_entry c.self.inside.copies c.args.id.now) c.fetching.ensures) c.self.invariant
+    let none : at c.self.inside.copies c.args.id.now ≡ None = ap (λ r. at r.copies c.args.id.now) c.self.view_is ∙ c.requires in (
+      entered_placed c.self.inside.window.placed c.self.inside.copies c.args.id.now (fetched_kept c.args.number) c.insert.new.self none refl
+          (c.in_ok-insert.ensures.ok ∙ ap (with_entry c.self.inside.copies c.args.id.now) c.fetching.ensures) c.self.invariant.0,
+      of_ok c.enter.result c.enter.ensures.choices (sym c.is_err.ensures.value ∙ c.if-is_err.false) (is_followed c.insert.new.self)
+          (others_followed c.args.id.now c.self.inside.copies c.insert.new.self (put_but c.self.inside.copies c.insert.new.self c.args.id.now _ c.in_ok-insert.ensures.ok) c.self.inside.order c.self.invariant.1)
+          (is_followed-itself c.insert.new.self c.args.id.now c.choices-choices.result c.choices-choices.ensures),
+    )
 
 pub returns-then-is_err-clause-err : goal.returns-then-is_err-clause-err
 returns-then-is_err-clause-err c =
     let none : at c.self.inside.copies c.args.id.now ≡ None = ap (λ r. at r.copies c.args.id.now) c.self.view_is ∙ c.requires in
     let back = c.remove.ensures ∙ ap (λ t. without_entry t c.args.id.now) c.in_ok-insert.ensures.ok ∙ put_back c.args.id.now c.self.inside.copies _ none in
     let undone = of_err c.enter.result c.enter.ensures.err (sym c.is_err.ensures.value ∙ c.if-is_err.true) in
-    ap (λ (t : ById Kept). row_of t c.enter.new.self) back
-    ∙ ap (row_of c.self.inside.copies) undone ∙ c.self.view_is
+    ap (λ (t : ById Kept). row_of t (ids_of c.enter.new.self)) back
+    ∙ ap (λ o. row_of c.self.inside.copies (ids_of o)) undone ∙ c.self.view_is
   where
     row_of : ById Kept → List ObjectId → Row
     row_of copies order = record { job = c.self.inside.job.0; window = c.self.inside.window; device = c.self.inside.device; copies = copies; order = order; fetches_begun = c.self.inside.fetches_begun; spill_failed = c.self.inside.spill_failed; ended_tasks = c.self.inside.ended_tasks.keys }

@@ -1,14 +1,18 @@
+use Rattle.node_table.specs.Kept.{lost}
 use Rattle.std.proofs.Common.{sym, ap, subst, ◌∙◌}
 use Rattle.std.specs.Prelude.{option_to_list}
 use Rattle.job_region.specs.Region.{Region, without}
 use Rattle.node_table.specs.Row.{Row, place_of, ArePlaced}
 use Rattle.node_table.proofs.Dropping.{lost_placed, slice_is}
+use Rattle.node_table.proofs.FollowsCopies.{changed_but}
 use Rattle.node_table.proofs.row.JobRow.lose.Goals as goal
 
 pub invariant_of-self : goal.invariant_of-self
 invariant_of-self c =
     let gone = slice_is c.place-gone.result c.as_slice.result.now c.as_slice.ensures ∙ ap option_to_list (c.place-gone.ensures ∙ ap (λ (r : Row). place_of r.copies c.args.id.now) (sym c.self.view_is)) in
-    let window = c.give_back_all.ensures ∙ ap (λ gs. record c.self.inside.window { placed = without gs c.self.inside.window.placed }) gone in
-    subst (λ (w : Region). ArePlaced w.placed (place_of c.lose.new.self)) (sym window)
-    (subst (λ t. ArePlaced (without (option_to_list (place_of c.self.inside.copies c.args.id.now)) c.self.inside.window.placed) (place_of t)) (sym c.lose.ensures)
-    (lost_placed c.self.inside.window.placed c.self.inside.copies c.self.invariant c.args.id.now c.args.fault))
+    let window = c.give_back_all.ensures ∙ ap (λ gs. record c.self.inside.window { placed = without gs c.self.inside.window.placed }) gone in (
+      subst (λ (w : Region). ArePlaced w.placed (place_of c.lose.new.self)) (sym window)
+          (subst (λ t. ArePlaced (without (option_to_list (place_of c.self.inside.copies c.args.id.now)) c.self.inside.window.placed) (place_of t)) (sym c.lose.ensures)
+          (lost_placed c.self.inside.window.placed c.self.inside.copies c.self.invariant.0 c.args.id.now c.args.fault)),
+      c.follow.ensures.choices c.self.inside.copies (changed_but (lost c.args.fault) c.self.inside.copies c.lose.new.self c.args.id.now c.lose.ensures) c.self.invariant.1,
+    )

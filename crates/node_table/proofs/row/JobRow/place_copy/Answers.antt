@@ -1,3 +1,4 @@
+use Rattle.lru_evictor.specs.Orders.{ids_of}
 use Rattle.std.proofs.Common.{ℕ, nat_eq, false, replicate, List, None, sym, ap, subst, ◌∙◌}
 use Rattle.std.specs.Map.{lookup}
 use Rattle.std.specs.Option.{option_map_or}
@@ -11,6 +12,7 @@ use Rattle.node_table.specs.Row.{Row, place_of, ArePlaced}
 use Rattle.node_table.proofs.Changes.{changed-found}
 use Rattle.node_table.proofs.Replacing.{left_sorted, replaced_placed}
 use Rattle.node_table.proofs.Pulling.{waiting, unused, placed_lies, stays_of}
+use Rattle.node_table.proofs.FollowsCopies.{changed_but, evicted_but}
 use Rattle.node_table.proofs.row.JobRow.place_copy.Goals as goal
 
 pub take_place-requires : goal.take_place-requires
@@ -23,11 +25,15 @@ invariant_of-self-in-Ok-1 c =
     let copies = c.evict_all.ensures ∙ ap (all_evicted c.args.victims.now) (c.take_place.ensures ∙ changed-found (placed_for c.args.awaited c.in-Ok.extent.offset) c.args.id.now c.self.inside.copies w.k w.found) in
     let placed = ap (λ (w : Region). w.placed) c.in-Ok.ensures.placed
     ∙ (λ i. put_in (c.in-Ok.extent.offset, replicate (c.in-Ok.ensures.length i) 0) (left i)) in
-    let fresh = ap (lookup (nat_eq c.in-Ok.extent.offset)) (sym left) ∙ c.in-Ok.ensures.fresh in
-    subst (λ t. ArePlaced c.replace.new.self.placed (place_of t)) (sym copies)
-    (subst (λ ps. ArePlaced ps (place_of (all_evicted c.args.victims.now (with_entry c.self.inside.copies c.args.id.now (placed_for c.args.awaited c.in-Ok.extent.offset w.k))))) (sym placed)
-    (replaced_placed c.self.inside.copies c.self.inside.window.placed c.self.invariant c.args.victims.now c.args.id.now (placed_for c.args.awaited c.in-Ok.extent.offset w.k) c.args.len c.in-Ok.extent.offset w.nowhere (stays_of c.args.self.now c.args.id.now c.args.len c.args.victims.now c.requires.fits)
-    (placed_lies c.args.awaited c.in-Ok.extent.offset w.k c.args.len w.long) fresh))
+    let fresh = ap (lookup (nat_eq c.in-Ok.extent.offset)) (sym left) ∙ c.in-Ok.ensures.fresh in (
+      subst (λ t. ArePlaced c.replace.new.self.placed (place_of t)) (sym copies)
+          (subst (λ ps. ArePlaced ps (place_of (all_evicted c.args.victims.now (with_entry c.self.inside.copies c.args.id.now (placed_for c.args.awaited c.in-Ok.extent.offset w.k))))) (sym placed)
+          (replaced_placed c.self.inside.copies c.self.inside.window.placed c.self.invariant.0 c.args.victims.now c.args.id.now (placed_for c.args.awaited c.in-Ok.extent.offset w.k) c.args.len c.in-Ok.extent.offset w.nowhere (stays_of c.args.self.now c.args.id.now c.args.len c.args.victims.now c.requires.fits)
+          (placed_lies c.args.awaited c.in-Ok.extent.offset w.k c.args.len w.long) fresh)),
+      c.forget_missing.ensures.choices
+          (c.follow_each.ensures.choices c.take_place.new.self (evicted_but c.args.victims.now c.take_place.new.self c.evict_all.new.self c.evict_all.ensures)
+          (c.follow.ensures.choices c.self.inside.copies (changed_but (placed_for c.args.awaited c.in-Ok.extent.offset) c.self.inside.copies c.take_place.new.self c.args.id.now c.take_place.ensures) c.self.invariant.1)),
+    )
 
 pub returns-in-Ok-clause-ok : goal.returns-in-Ok-clause-ok
 returns-in-Ok-clause-ok c k found =
@@ -36,7 +42,7 @@ returns-in-Ok-clause-ok c k found =
     let copies = c.evict_all.ensures ∙ ap (all_evicted c.args.victims.now) (c.take_place.ensures ∙ changed-found (placed_for c.args.awaited c.in-Ok.extent.offset) c.args.id.now c.self.inside.copies k there) in
     let window = c.in-Ok.ensures.placed
     ∙ (λ i. region (put_in (c.in-Ok.extent.offset, replicate (c.in-Ok.ensures.length i) 0) (left i))) in
-    let order = c.forget_missing.ensures ∙ (λ i. without_missing (copies i) c.args.victims.now (unused c.self.inside.order i)) in
+    let order = c.forget_missing.ensures.ids ∙ (λ i. without_missing (copies i) c.args.victims.now ((c.follow_each.ensures.ids ∙ c.follow.ensures.ids ∙ unused (ids_of c.self.inside.order)) i)) in
     record {
       least = ap (λ (r : Row). first (extents_of (placed_without r c.args.victims.now)) r.window.quota c.args.len) (sym c.self.view_is)
           ∙ ap (λ ps. first (extents_of ps) c.self.inside.window.quota c.args.len) (sym left) ∙ c.in-Ok.ensures.least;

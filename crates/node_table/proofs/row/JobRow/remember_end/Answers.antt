@@ -7,9 +7,11 @@ use Rattle.node_table.proofs.EndingTasks.{ended_placed}
 use Rattle.node_table.proofs.row.JobRow.remember_end.Goals as goal
 
 pub invariant_of-self-2 : goal.invariant_of-self-2
-invariant_of-self-2 c =
-    subst (λ t. ArePlaced c.self.inside.window.placed (place_of t)) (sym c.end_hands.ensures)
-    (ended_placed c.args.task c.self.inside.window.placed c.self.inside.copies c.self.invariant)
+invariant_of-self-2 c = (
+  subst (λ t. ArePlaced c.self.inside.window.placed (place_of t)) (sym c.end_hands.ensures)
+      (ended_placed c.args.task c.self.inside.window.placed c.self.inside.copies c.self.invariant.0),
+  c.follow_all.ensures.choices,
+)
 
 pub returns-clause-ok : goal.returns-clause-ok
 returns-clause-ok c =
@@ -20,7 +22,7 @@ returns-clause-ok c =
       window = c.self.inside.window;
       device = c.self.inside.device;
       copies = c.end_hands.ensures i;
-      order = c.self.inside.order;
+      order = c.follow_all.ensures.ids i;
       fetches_begun = c.self.inside.fetches_begun;
       spill_failed = c.self.inside.spill_failed;
       ended_tasks = keys i;

@@ -7,13 +7,15 @@ use Rattle.private_store.specs.Tables.{ById, at, with_entry, without_entry, is_a
 use Rattle.private_store.specs.Extents.{first}
 use Rattle.private_store.proofs.Tests.{some_value, true_false}
 use Rattle.job_region.specs.Region.{Region, extents_of, put_in}
-use Rattle.lru_evictor.specs.Orders.{without_id}
+use Rattle.lru_evictor.specs.Orders.{ids_of, without_id}
 use Rattle.node_table.specs.Evicting.{all_evicted, placed_without, replaced, without_missing}
 use Rattle.node_table.specs.Kept.{Kept, new_kept}
 use Rattle.node_table.specs.Row.{Row, place_of, ArePlaced}
 use Rattle.node_table.proofs.Changes.{put_back, of_err, of_ok}
 use Rattle.node_table.proofs.Pulling.{stays_of, place_there}
 use Rattle.node_table.proofs.Replacing.{left_sorted, forgotten, replaced_placed}
+use Rattle.node_table.specs.Followed.{is_followed, AreFollowed}
+use Rattle.node_table.proofs.FollowsCopies.{put_but, removed_but, evicted_but, others_followed, is_followed-itself}
 use Rattle.node_table.proofs.row.JobRow.replace_copies.Goals as goal
 
 pub unreachable-requires : goal.unreachable-requires
@@ -27,16 +29,19 @@ unreachable-requires c =
 pub invariant_of-self-then-is_err : goal.invariant_of-self-then-is_err
 invariant_of-self-then-is_err c =
     let none : at c.self.inside.copies c.args.id.now ≡ None = ap (λ r. at r.copies c.args.id.now) c.self.view_is ∙ c.requires.absent in
-    let back = c.remove.ensures ∙ ap (λ t. without_entry t c.args.id.now) c.in_ok-insert.ensures.ok ∙ put_back c.args.id.now c.self.inside.copies _ none in
-    subst (λ t. ArePlaced c.self.inside.window.placed (place_of t)) (sym back) c.self.invariant
+    let back = c.remove.ensures ∙ ap (λ t. without_entry t c.args.id.now) c.in_ok-insert.ensures.ok ∙ put_back c.args.id.now c.self.inside.copies _ none in (
+      subst (λ t. ArePlaced c.self.inside.window.placed (place_of t)) (sym back) c.self.invariant.0,
+      subst (λ t. AreFollowed t c.enter.new.self) (sym back)
+          (subst (AreFollowed c.self.inside.copies) (sym (of_err c.enter.result c.enter.ensures.err (sym c.is_err.ensures.value ∙ c.if-is_err.true))) c.self.invariant.1),
+    )
 
 pub returns-then-is_err-clause-err : goal.returns-then-is_err-clause-err
 returns-then-is_err-clause-err c =
     let none : at c.self.inside.copies c.args.id.now ≡ None = ap (λ r. at r.copies c.args.id.now) c.self.view_is ∙ c.requires.absent in
     let back = c.remove.ensures ∙ ap (λ t. without_entry t c.args.id.now) c.in_ok-insert.ensures.ok ∙ put_back c.args.id.now c.self.inside.copies _ none in
     let undone = of_err c.enter.result c.enter.ensures.err (sym c.is_err.ensures.value ∙ c.if-is_err.true) in
-    ap (λ (t : ById Kept). row_of t c.enter.new.self) back
-    ∙ ap (row_of c.self.inside.copies) undone ∙ c.self.view_is
+    ap (λ (t : ById Kept). row_of t (ids_of c.enter.new.self)) back
+    ∙ ap (λ o. row_of c.self.inside.copies (ids_of o)) undone ∙ c.self.view_is
   where
     row_of : ById Kept → List ObjectId → Row
     row_of copies order = record { job = c.self.inside.job.0; window = c.self.inside.window; device = c.self.inside.device; copies = copies; order = order; fetches_begun = c.self.inside.fetches_begun; spill_failed = c.self.inside.spill_failed; ended_tasks = c.self.inside.ended_tasks.keys }
@@ -44,16 +49,22 @@ returns-then-is_err-clause-err c =
 pub invariant_of-self-in-Err : goal.invariant_of-self-in-Err
 invariant_of-self-in-Err c =
     let none : at c.self.inside.copies c.args.id.now ≡ None = ap (λ r. at r.copies c.args.id.now) c.self.view_is ∙ c.requires.absent in
-    let back = c.remove-in-Err.ensures ∙ ap (λ t. without_entry t c.args.id.now) c.in_ok-insert.ensures.ok ∙ put_back c.args.id.now c.self.inside.copies _ none in
-    subst (λ (w : Region). ArePlaced w.placed (place_of c.remove-in-Err.new.self)) (sym c.in-Err.ensures.err) (subst (λ t. ArePlaced c.self.inside.window.placed (place_of t)) (sym back) c.self.invariant)
+    let back = c.remove-in-Err.ensures ∙ ap (λ t. without_entry t c.args.id.now) c.in_ok-insert.ensures.ok ∙ put_back c.args.id.now c.self.inside.copies _ none in (
+      subst (λ (w : Region). ArePlaced w.placed (place_of c.remove-in-Err.new.self)) (sym c.in-Err.ensures.err) (subst (λ t. ArePlaced c.self.inside.window.placed (place_of t)) (sym back) c.self.invariant.0),
+      c.forget.ensures.choices (is_followed c.remove-in-Err.new.self)
+          (others_followed c.args.id.now c.insert.new.self c.remove-in-Err.new.self (removed_but c.insert.new.self c.remove-in-Err.new.self c.args.id.now c.remove-in-Err.ensures) c.enter.new.self
+          (of_ok c.enter.result c.enter.ensures.choices (sym c.is_err.ensures.value ∙ c.if-is_err.false) (is_followed c.insert.new.self)
+          (others_followed c.args.id.now c.self.inside.copies c.insert.new.self (put_but c.self.inside.copies c.insert.new.self c.args.id.now _ c.in_ok-insert.ensures.ok) c.self.inside.order c.self.invariant.1)
+          (is_followed-itself c.insert.new.self c.args.id.now c.choices-choices.result c.choices-choices.ensures))),
+    )
 
 pub returns-in-Err-clause-err : goal.returns-in-Err-clause-err
 returns-in-Err-clause-err c =
     let none : at c.self.inside.copies c.args.id.now ≡ None = ap (λ r. at r.copies c.args.id.now) c.self.view_is ∙ c.requires.absent in
     let back = c.remove-in-Err.ensures ∙ ap (λ t. without_entry t c.args.id.now) c.in_ok-insert.ensures.ok ∙ put_back c.args.id.now c.self.inside.copies _ none in
-    let entered = of_ok c.enter.result c.enter.ensures.ok (sym c.is_err.ensures.value ∙ c.if-is_err.false) in
-    let unlisted : is_among c.self.inside.order c.args.id.now ≡ false = ap (λ r. is_among r.order c.args.id.now) c.self.view_is ∙ c.requires.unlisted in
-    let order = c.forget.ensures ∙ ap (without_id c.args.id.now) entered ∙ forgotten c.args.id.now c.self.inside.order unlisted in
+    let entered = of_ok c.enter.result c.enter.ensures.ids (sym c.is_err.ensures.value ∙ c.if-is_err.false) in
+    let unlisted : is_among (ids_of c.self.inside.order) c.args.id.now ≡ false = ap (λ r. is_among r.order c.args.id.now) c.self.view_is ∙ c.requires.unlisted in
+    let order = c.forget.ensures.ids ∙ ap (without_id c.args.id.now) entered ∙ forgotten c.args.id.now (ids_of c.self.inside.order) unlisted in
     (λ i. row_of (c.in-Err.ensures.err i) (back i) (order i)) ∙ c.self.view_is
   where
     row_of : Region → ById Kept → List ObjectId → Row
@@ -69,11 +80,17 @@ invariant_of-self-in-Ok c =
     let copies = c.evict_all.ensures ∙ ap (all_evicted c.args.victims.now) (c.in_ok-insert.ensures.ok ∙ ap (with_entry c.self.inside.copies c.args.id.now) (c.created.ensures ∙ ap (new_kept c.args.kind c.args.len) offset)) in
     let placed = ap (λ (w : Region). w.placed) c.in-Ok.ensures.placed
     ∙ (λ i. put_in (c.in-Ok.extent.offset, replicate (c.in-Ok.ensures.length i) 0) (left_then i)) in
-    let fresh = ap (lookup (nat_eq c.in-Ok.extent.offset)) (sym left_then) ∙ c.in-Ok.ensures.fresh in
-    subst (λ t. ArePlaced c.replace.new.self.placed (place_of t)) (sym copies)
-    (subst (λ ps. ArePlaced ps (place_of (all_evicted c.args.victims.now (with_entry c.self.inside.copies c.args.id.now (new_kept c.args.kind c.args.len c.in-Ok.extent.offset))))) (sym placed)
-    (replaced_placed c.self.inside.copies c.self.inside.window.placed c.self.invariant c.args.victims.now c.args.id.now (new_kept c.args.kind c.args.len c.in-Ok.extent.offset) c.args.len c.in-Ok.extent.offset
-    (ap (option_and_then (λ (k : Kept). extent_of k.copy)) none) (stays_of c.args.self.now c.args.id.now c.args.len c.args.victims.now c.requires.fits) refl fresh))
+    let fresh = ap (lookup (nat_eq c.in-Ok.extent.offset)) (sym left_then) ∙ c.in-Ok.ensures.fresh in (
+      subst (λ t. ArePlaced c.replace.new.self.placed (place_of t)) (sym copies)
+          (subst (λ ps. ArePlaced ps (place_of (all_evicted c.args.victims.now (with_entry c.self.inside.copies c.args.id.now (new_kept c.args.kind c.args.len c.in-Ok.extent.offset))))) (sym placed)
+          (replaced_placed c.self.inside.copies c.self.inside.window.placed c.self.invariant.0 c.args.victims.now c.args.id.now (new_kept c.args.kind c.args.len c.in-Ok.extent.offset) c.args.len c.in-Ok.extent.offset
+          (ap (option_and_then (λ (k : Kept). extent_of k.copy)) none) (stays_of c.args.self.now c.args.id.now c.args.len c.args.victims.now c.requires.fits) refl fresh)),
+      c.forget_missing.ensures.choices
+          (c.follow_each.ensures.choices c.insert.new.self (evicted_but c.args.victims.now c.insert.new.self c.evict_all.new.self c.evict_all.ensures)
+          (of_ok c.enter.result c.enter.ensures.choices (sym c.is_err.ensures.value ∙ c.if-is_err.false) (is_followed c.insert.new.self)
+          (others_followed c.args.id.now c.self.inside.copies c.insert.new.self (put_but c.self.inside.copies c.insert.new.self c.args.id.now _ c.in_ok-insert.ensures.ok) c.self.inside.order c.self.invariant.1)
+          (is_followed-itself c.insert.new.self c.args.id.now c.choices-choices.result c.choices-choices.ensures))),
+    )
 
 pub returns-clause-ok : goal.returns-clause-ok
 returns-clause-ok c =
@@ -84,8 +101,8 @@ returns-clause-ok c =
     let copies = c.evict_all.ensures ∙ ap (all_evicted c.args.victims.now) (c.in_ok-insert.ensures.ok ∙ ap (with_entry c.self.inside.copies c.args.id.now) (c.created.ensures ∙ ap (new_kept c.args.kind c.args.len) offset)) in
     let window = c.in-Ok.ensures.placed
     ∙ (λ i. region (put_in (c.in-Ok.extent.offset, replicate (c.in-Ok.ensures.length i) 0) (left_then i))) in
-    let entered = of_ok c.enter.result c.enter.ensures.ok (sym c.is_err.ensures.value ∙ c.if-is_err.false) in
-    let order = c.forget_missing.ensures ∙ (λ i. without_missing (copies i) c.args.victims.now (entered i)) in
+    let entered = of_ok c.enter.result c.enter.ensures.ids (sym c.is_err.ensures.value ∙ c.if-is_err.false) in
+    let order = c.forget_missing.ensures.ids ∙ (λ i. without_missing (copies i) c.args.victims.now ((c.follow_each.ensures.ids ∙ entered) i)) in
     record {
       least = ap (λ (r : Row). first (extents_of (placed_without r c.args.victims.now)) r.window.quota c.args.len) (sym c.self.view_is)
           ∙ ap (λ ps. first (extents_of ps) c.self.inside.window.quota c.args.len) (sym left_then) ∙ c.in-Ok.ensures.least;

@@ -1,0 +1,7 @@
+use Rattle.std.proofs.Common.{[], sym, ap, subst, ◌∙◌}
+use Rattle.std.specs.Option.{unwrap_or}
+use Rattle.lru_evictor.specs.Orders.{OthersPass}
+use Rattle.lru_evictor.proofs.use_order.UseOrder.touch.Goals as goal
+
+pub returns-clause-choices : goal.returns-clause-choices
+returns-clause-choices c f but here = c.touch.ensures.choices f (subst (OthersPass c.args.id f) (sym c.self.view_is ∙ ap (λ o. unwrap_or o []) c.in-Some.is) but) here
