@@ -73,13 +73,6 @@ module _ (low high : ℕ) (y : Use) (lm rm : Choices) (l r : Tree) (old : NodeAt
     abbrev back : AllUses (λ z. x.turn < z.turn) (uses r)
     back = all_back (λ z. x.turn < z.turn) (uses l) (uses r) first.1
 
-    pub push_left : (l2 : Tree) (m : Choices) → IsTree (low + 1) (middle low high) l2 → uses l2 ≡ y ∷ uses l → AreOf m (uses l2)
-        → NodeAt low high x m rm l2 r × (x ∷ (uses l2 ++ uses r) ≡ x ∷ (y ∷ (uses l ++ uses r)))
-    push_left l2 m tree is of = (
-      (from, omega (arith, first.0, old.1), subst (AllUses (λ z. x.turn < z.turn)) (sym is) (first.0, front), back, of, old.5, tree, old.7),
-      ap (λ (zs : List Use). x ∷ (zs ++ uses r)) is,
-    )
-
     pub push_right : (r2 : Tree) (m : Choices) → middle low high ≤ y.turn → IsTree (middle low high) high r2 → uses r2 ≡ y ∷ uses r → AreOf m (uses r2)
         → NodeAt low high x lm m l r2 × (x ∷ (uses l ++ uses r2) ≡ x ∷ (y ∷ (uses l ++ uses r)))
     push_right r2 m le tree is of =
