@@ -14,6 +14,7 @@ use Rattle.std.specs.FinMap.Entries.{by_order}
 use Rattle.obj_id.proofs.SameIds.{same_id-itself}
 use Rattle.private_store.specs.Tables.{ById, at, with_entry, without_entry}
 use Rattle.private_store.proofs.ObjectMaps.{at-lookup, without_entry-absent}
+use Rattle.private_store.proofs.Rows.{at-put_here}
 use Rattle.node_table.specs.Entries.{by_rising_id, changed}
 use Rattle.node_table.proofs.Rising.{at-rising, set-rising}
 
@@ -24,6 +25,10 @@ module _ {X : Type 0} (f : X → X) (id : ObjectId) (es : ById X) where
 
   pub changed-absent : at es id ≡ None → changed f es id ≡ es
   changed-absent none = ap (λ o. option_map_or (λ y. with_entry es id (f y)) o es) none
+
+-- the entry after its change
+pub at-changed_here : {X : Type 0} (f : X → X) (id : ObjectId) (es : ById X) (x : X) → at es id ≡ Some x → at (changed f es id) id ≡ Some (f x)
+at-changed_here f id es x found = ap (λ t. at t id) (changed-found f id es x found) ∙ at-put_here es id (f x)
 
 -- what is written through a loan of the entry is the table changed, as its holder sees it
 module _ {X : Type 0} (f : X → X) (id : ObjectId) (es : List (ObjectId × X)) (now : ById X) (seen : by_rising_id es ≡ now) where

@@ -1,5 +1,6 @@
 -- A row takes Release.
-use Rattle.std.proofs.Common.{◌≡◌, ℕ, ◌-◌, true, cond, ◌==◌, [], Some, None, option_map, refl, sym, ap, ◌∙◌}
+use Rattle.std.proofs.Common.{◌≡◌, ℕ, ◌-◌, true, false, cond, ◌==◌, [], Option, Some, None, option_map, refl, sym, ap, ◌∙◌}
+use Rattle.std.specs.Prelude.{option_to_list}
 use Rattle.std.specs.Option.{option_map_or}
 use Rattle.obj_id.specs.declared.ids.ObjectId.{ObjectId}
 use Rattle.obj_id.specs.declared.refusals.Refusal.{Refusal}
@@ -14,10 +15,11 @@ use Rattle.private_store.specs.Room.{set_copy}
 use Rattle.private_store.specs.Change.{refused, done, erasing, settled}
 use Rattle.private_store.specs.Commands.{release, holds_of, with_holds}
 use Rattle.private_store.specs.Contents.{Contents}
+use Rattle.private_store.specs.Private.{key_of}
 use Rattle.private_store.proofs.Checks.{checked-nil}
 use Rattle.node_table.specs.Kept.{Kept, released}
 use Rattle.node_table.specs.Row.{Row, Beside, shape_of, place_of, ArePlaced}
-use Rattle.node_table.specs.Dropping.{settled_row, keys_settled}
+use Rattle.node_table.specs.Dropping.{dropped, is_over, is_over_at, settled_row, keys_settled}
 use Rattle.node_table.specs.Checks.{release_check}
 use Rattle.node_table.specs.Shown.{IsShown, only, TakesStep}
 use Rattle.node_table.proofs.ByChecks.{unless_refused, first-check, in_table, called, own}
@@ -79,3 +81,18 @@ module _ (node : ℕ) (row : Row) (beside : Beside) (contents : Contents) (sessi
   release_done_so passed placed =
       let k = there (λ k. cond (holds_of k.copy session == 0) (Some NotHeld) None) Absent (at row.copies id) passed in
       released_there k.0 k.1 passed placed
+
+-- what something keeps stays as it is looked at
+pub row_kept : (row : Row) (id : ObjectId) → is_over_at row.copies id ≡ false → settled_row row id ≡ row
+row_kept row id kept = by (at row.copies id) kept
+  where
+    by : (o : Option Kept) → option_map_or is_over o false ≡ false → option_map_or (λ k. cond (is_over k) (dropped row id) row) o row ≡ row
+    by None h = refl
+    by (Some k) h = ap (λ b. cond b (dropped row id) row) h
+
+pub keys_kept : (row : Row) (id : ObjectId) → is_over_at row.copies id ≡ false → keys_settled row id ≡ []
+keys_kept row id kept = by (at row.copies id) kept
+  where
+    by : (o : Option Kept) → option_map_or is_over o false ≡ false → option_map_or (λ k. cond (is_over k) (option_to_list (option_map (key_of row.job) k.copy.backed)) []) o [] ≡ []
+    by None h = refl
+    by (Some k) h = ap (λ b. cond b (option_to_list (option_map (key_of row.job) k.copy.backed)) []) h

@@ -1,15 +1,17 @@
 -- A row without one of its copies, and a copy that nothing keeps any more.
-use Rattle.std.specs.Prelude.{ℕ, Bool, ◌&&◌, if◌then◌else◌, List, [], ◌∷◌, ◌++◌, option_to_list}
+use Rattle.std.specs.Prelude.{ℕ, Bool, false, ◌&&◌, if◌then◌else◌, List, [], ◌∷◌, ◌++◌, option_to_list}
 use Rattle.std.specs.Option.{option_map, option_map_or}
 use Rattle.obj_id.specs.declared.ids.ObjectId.{ObjectId}
 use Rattle.obj_id.specs.declared.works.DeviceKey.{DeviceKey}
-use Rattle.private_store.specs.Tables.{at, without_entry}
+use Rattle.private_store.specs.Tables.{ById, at, without_entry}
 use Rattle.private_store.specs.Private.{key_of}
 use Rattle.job_region.specs.Region.{without}
+use Rattle.lru_evictor.specs.Facts.{choices_of}
 use Rattle.lru_evictor.specs.Orders.{without_id}
+use Rattle.node_table.specs.declared.copy.Released.{Released}
 use Rattle.node_table.specs.Entries.{changed}
 use Rattle.node_table.specs.Kept.{Kept, left}
-use Rattle.node_table.specs.RoomPlans.{is_idle}
+use Rattle.node_table.specs.RoomPlans.{is_idle, facts_of}
 use Rattle.node_table.specs.Row.{Row, place_of}
 
 -- the copy is removed, and its place is free
@@ -24,6 +26,14 @@ dropped row id =
 -- whether a copy is removed as soon as it is looked at: it is doomed, and nothing keeps it
 abbrev pub is_over : Kept → Bool
 is_over kept = kept.copy.doomed && is_idle kept
+
+-- whether the copy of an id is; not if there is none
+abbrev pub is_over_at : ById Kept → ObjectId → Bool
+is_over_at copies id = option_map_or is_over (at copies id) false
+
+-- what is told of a copy once a hold of it was given up
+abbrev pub released_of : Kept → Released
+released_of kept = record { choices = choices_of (facts_of kept); over = is_over kept }
 
 -- the row after the copy was looked at
 abbrev pub settled_row : Row → ObjectId → Row

@@ -76,7 +76,7 @@ impl RowCopy {
         None
     }
 
-    /// Why it can't be granted, where this is what the table of hands says: `Absent`, `NotResident` unless it is a
+    /// Why it can't be granted, if this is what the table of hands says: `Absent`, `NotResident` unless it is a
     /// sealed primary, or that.
     pub fn grant_check(&self, table: Option<Refusal>) -> Option<Refusal>
         ensures { result ≡ grant_check_of self.now table }

@@ -11,6 +11,7 @@ ghost use Rattle.node_table.specs.Evicting.{has_secondary, evicted_one, all_evic
 ghost use Rattle.obj_id.specs.declared.refusals.Refusal.{Refusal};
 ghost use Rattle.obj_id.specs.declared.refusals.Refusal.TheVariants.{NoMemory};
 ghost use Rattle.node_table.specs.Checks.{release_check, borrow_check};
+ghost use Rattle.node_table.specs.Dropping.{is_over_at};
 ghost use Rattle.node_table.specs.Scope.{farewell as farewell_of};
 ghost use Rattle.node_table.specs.EndingTasks.{hands_ended, is_doomed_at, borrows_at};
 ghost use Rattle.node_table.specs.Holding.{IsHeldAt, IsUnreadyAt, IsHoldRefusedAt};
@@ -23,7 +24,7 @@ ghost use Rattle.lru_evictor.specs.Facts.{choices_at};
 ghost use Rattle.lru_evictor.specs.Orders.{ids_of};
 ghost use Rattle.node_table.specs.Arriving.{located, asks, fills, lacks_only, gap_closed, brought, unfetched};
 
-use crate::copy::{Awaited, RowCopy};
+use crate::copy::{Awaited, Released, RowCopy};
 use crate::taken::{Taken, to_u64};
 use indexmap::IndexMap;
 use lru_evictor::{Choices, UseOrder};
@@ -257,10 +258,12 @@ impl Copies {
         copy.hold(session)
     }
 
-    /// One hold of the session on the copy less. `Absent`, `NotHeld` if it has none; a refusal changes
-    /// nothing. Takes no memory.
-    pub fn release(&mut self, id: &ObjectId, session: u32) -> Result<(), Refusal>
+    /// One hold of the session on the copy less, and what the copy is then. `Absent`, `NotHeld` if it has none; a refusal
+    /// changes nothing. Takes no memory.
+    pub fn release(&mut self, id: &ObjectId, session: u32) -> Result<Released, Refusal>
         ensures ok { OnOk result (self.new ≡ changed (released session) self.old id.now) }
+        ensures choices { IfOk result (λ r. r.choices ≡ choices_at (facts_in (changed (released session) self.old id.now)) id.now) }
+        ensures over { IfOk result (λ r. r.over ≡ is_over_at (changed (released session) self.old id.now) id.now) }
         ensures passed { IsOk result → release_check self.old session id.now ≡ None }
         ensures refused { (r : Refusal) → IsErrOf result r → release_check self.old session id.now ≡ Some r }
         ensures err { OnErr result (self.new ≡ self.old) }

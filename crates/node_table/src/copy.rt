@@ -19,13 +19,13 @@ ghost use Rattle.node_table.specs.Scope.{farewell as farewell_of};
 ghost use Rattle.private_store.specs.Contents.{is_sized};
 ghost use Rattle.node_table.specs.Holding.{IsHeld, IsUnready, IsHoldRefused};
 ghost use Rattle.node_table.specs.Usages.{is_spilling as is_spilling_lem};
-ghost use Rattle.node_table.specs.Dropping.{is_over as is_over_lem};
+ghost use Rattle.node_table.specs.Dropping.{is_over as is_over_lem, released_of};
 ghost use Rattle.private_store.specs.Kept.{is_fetching};
 ghost use Rattle.node_table.specs.Serving.{was_sealed_with as was_sealed_with_lem};
 ghost use Rattle.node_table.specs.Arriving.{awaits_source, located, asks, fills, lacks_only, gap_closed, brought, unfetched};
 
 use fetch_core::{FetchIn, Stage};
-use lru_evictor::CopyFacts;
+use lru_evictor::{Choices, CopyFacts};
 use obj_id::{
     CopyState, Digest, DirectoryMessage, Extent, Kind, Location, ObjectId, Refusal, TaskNo,
     WorkKind,
@@ -67,6 +67,15 @@ impl Model for RowCopy {
     ghost view = { λ c. kept_of c.marks c.pins c.offset c.fetch c.granted };
 
     ghost invariant = { λ c. Agrees c.marks c.pins c.offset c.fetch };
+}
+
+/// A copy after a hold of it was given up.
+#[derive(Clone, Copy, Drop)]
+pub struct Released {
+    /// The walks for room that choose it now.
+    pub choices: Choices,
+    /// Whether nothing keeps it any more: it is doomed, and neither held nor granted nor working.
+    pub over: bool,
 }
 
 impl RowCopy {
@@ -297,14 +306,20 @@ impl RowCopy {
         Ok(Some(self.length()))
     }
 
-    /// One hold of the session less. `NotHeld` if it has none, and then nothing changes. Takes no memory.
-    pub fn release(&mut self, session: u32) -> Result<(), Refusal>
+    /// One hold of the session less, and what the copy is then. `NotHeld` if it has none, and then nothing changes. Takes
+    /// no memory.
+    pub fn release(&mut self, session: u32) -> Result<Released, Refusal>
         ensures ok { OnOk result (self.new ≡ released session self.old) }
+        ensures after { IfOk result (λ r. r ≡ released_of (released session self.old)) }
         ensures passed { IsOk result → release_check self.old session ≡ None }
         ensures refused { (r : Refusal) → IsErrOf result r → release_check self.old session ≡ Some r }
         ensures err { OnErr result (self.new ≡ self.old) }
     {
-        self.pins.release(session)
+        self.pins.release(session)?;
+        Ok(Released {
+            choices: self.facts().choices(),
+            over: self.is_over(),
+        })
     }
 
     /// No hold of the session. Takes no memory.
@@ -602,7 +617,7 @@ impl RowCopy {
         matches!(self.state(), CopyState::Fetching)
     }
 
-    /// A write of it is in flight, where it is a sealed primary that isn't on the device and has no work.
+    /// A write of it is in flight, if it is a sealed primary that isn't on the device and has no work.
     pub fn begin_spill_if(&mut self)
         ensures { self.new ≡ spilling_if self.old }
     {

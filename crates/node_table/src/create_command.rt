@@ -29,7 +29,7 @@ use spill_work::Works;
 use std::alloc::{AllocError, Global};
 
 impl JobRow {
-    /// Create: a copy of zeros to be written, of `len` bytes, where the window has room or room is made:
+    /// Create: a copy of zeros to be written, of `len` bytes, if the window has room or room is made:
     /// by evicting the job's least recently used copies that may go, and otherwise by asking for the writes of
     /// those that may be spilled, which is answered `Pending`. `BadSize`, `Gone`, `Exists`, `TooMany`,
     /// `Pending`, `Full`, `Busy`, and once after a spill failed `DeviceFailed`. The error is out of memory, and then nothing has changed. The works that it asks for come

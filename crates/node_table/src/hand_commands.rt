@@ -23,7 +23,7 @@ use obj_id::{Items, JobNo, ObjectId, Refusal, Reply};
 use std::alloc::Global;
 
 impl JobRow {
-    /// Why the job's own object can't be granted to the target, where this is what the table of hands says: `BadId`,
+    /// Why the job's own object can't be granted to the target, if this is what the table of hands says: `BadId`,
     /// `Gone` if the object's task has ended, `Absent`, `NotResident` unless it is a sealed primary, or that.
     pub fn grant_check(
         &self,
@@ -45,7 +45,7 @@ impl JobRow {
         }
     }
 
-    /// Grant of the job's own object, where this is what the table of hands says of it: the copy stays in memory from
+    /// Grant of the job's own object, if this is what the table of hands says of it: the copy stays in memory from
     /// now on, and the step is whole once the table has the hand. Refused as `grant_check` says, and then nothing has
     /// changed. Takes no memory.
     pub fn grant(

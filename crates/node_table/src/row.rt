@@ -23,7 +23,7 @@ ghost use Rattle.node_table.specs.Quotas.{requoted};
 ghost use Rattle.node_table.specs.Scope.{with_copy};
 ghost use Rattle.node_table.specs.Row.{Row, new_row, place_of, ArePlaced};
 ghost use Rattle.node_table.specs.EndingTasks.{task_row};
-ghost use Rattle.node_table.specs.Dropping.{dropped, settled_row, keys_settled, unheld_row};
+ghost use Rattle.node_table.specs.Dropping.{dropped, is_over_at, settled_row, keys_settled, unheld_row};
 ghost use Rattle.node_table.specs.Holding.{IsUnreadyAt, IsHoldRefusedAt, IsRowHeld};
 ghost use Rattle.node_table.specs.Evicting.{fits_without, without_missing, IsReplaced};
 ghost use Rattle.private_store.specs.Kept.{is_fetching};
@@ -34,7 +34,7 @@ use crate::copy::{Awaited, RowCopy};
 use crate::following::{follow, follow_each, forget_missing};
 use indexmap::IndexSet;
 use job_region::Window;
-use lru_evictor::{UseOrder, extents_by_offset};
+use lru_evictor::{Choices, UseOrder, extents_by_offset};
 use obj_id::{
     DeviceKey, Digest, Extent, Items, JobNo, Kind, Location, ObjectId, Quota, Refusal, TaskNo,
 };
@@ -187,7 +187,7 @@ impl JobRow {
         let Some(copy) = self.copies.get(id) else {
             return &[];
         };
-        let Some(extent) = self.place(id) else {
+        let Some(extent) = copy.extent() else {
             return &[];
         };
         first_bytes(self.window.bytes_of(&extent), copy.length())
@@ -222,7 +222,8 @@ impl JobRow {
     {
         let held = self.copies.hold(id, session)?;
         if held.is_some() {
-            self.order.touch(*id, self.copies.choices(id));
+            // no walk chooses what is held
+            self.order.touch(*id, Choices::none());
         }
         Ok(held)
     }
@@ -294,7 +295,7 @@ impl JobRow {
         Ok(())
     }
 
-    /// A copy that is on its way, under this number, and the most recently used. The error is want of
+    /// A copy that is on its way, under this number, and the most recently used. The error is out of
     /// memory, and then nothing has changed.
     pub(crate) fn enter_fetch(
         &mut self,
@@ -487,17 +488,19 @@ impl JobRow {
         follow(&mut self.order, &self.copies, id);
     }
 
-    /// One hold of the session on the copy less. `Absent`, `NotHeld` if it has none; a refusal changes
-    /// nothing. Takes no memory.
-    pub(crate) fn release_copy(&mut self, id: &ObjectId, session: u32) -> Result<(), Refusal>
+    /// One hold of the session on the copy less, and whether nothing keeps the copy any more. `Absent`, `NotHeld` if it has
+    /// none; a refusal changes nothing. Looks the copy up once, and takes no memory.
+    pub(crate) fn release_copy(&mut self, id: &ObjectId, session: u32) -> Result<bool, Refusal>
         ensures ok { OnOk result (self.new ≡ record self.old { copies = changed (released session) self.old.copies id.now }) }
+        ensures over { IfOk result (λ over. over ≡ is_over_at self.new.copies id.now) }
+        ensures placed { ArePlaced self.new.window.placed (place_of self.new.copies) }
         ensures passed { IsOk result → release_check self.old.copies session id.now ≡ None }
         ensures refused { (r : Refusal) → IsErrOf result r → release_check self.old.copies session id.now ≡ Some r }
         ensures err { OnErr result (self.new ≡ self.old) }
     {
-        self.copies.release(id, session)?;
-        follow(&mut self.order, &self.copies, id);
-        Ok(())
+        let released = self.copies.release(id, session)?;
+        self.order.choose(id, released.choices);
+        Ok(released.over)
     }
 
     /// The copy is removed, and its place is free. Takes no memory.

@@ -99,7 +99,7 @@ impl JobRow {
 
     /// A Pull: a node asks, for its fetch of this number, for chunks of the object of this length and digest. The chunks
     /// that there are of those asked for are sent to it, in the order asked. `NotHere` is sent if no copy is shown that
-    /// was sealed with that length and digest, or where it is away with a fault; nothing, while it is being read back. A
+    /// was sealed with that length and digest, or if it is away with a fault; nothing, while it is being read back. A
     /// copy that is away without a fault is read back as by Get, but nobody is told of a spill that failed.
     ///
     /// The reply is Ok. The error is out of memory, and then nothing has changed. The works that it asks for come last in
