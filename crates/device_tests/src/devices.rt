@@ -272,7 +272,7 @@ fn a_short_or_longer_file_fails(rt: HostRuntime) -> Result<(), Fail> {
     Ok(())
 }
 
-/// Writes where the temporary file can't be made, and where the folder itself is lost.
+/// Writes if the temporary file can't be made, and if the folder itself is lost.
 fn fail_to_write<R: Files + Abort, D: SpillDevice>(
     rt: &R,
     device: &mut D,

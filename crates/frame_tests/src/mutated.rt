@@ -181,7 +181,7 @@ fn is_read_alike(
     Ok(alike && !before && behind == whole.faulty)
 }
 
-/// Adds a frame with a body of ones, and a payload of random bytes where it is a write.
+/// Adds a frame with a body of ones, and a payload of random bytes if it is a write.
 fn add_frame(random: &mut Random, stream: &mut Vec<u8>) -> Result<(), AllocError> {
     let (kind, body) = KINDS[random.next() as usize % KINDS.len()];
     let payload = if kind == 0x03 { random.below(2_000) } else { 0 };

@@ -93,7 +93,7 @@ impl Node {
     }
 }
 
-/// Why the job of this row can't grant the object to the target, where this is what the table of hands says. Of another
+/// Why the job of this row can't grant the object to the target, if this is what the table of hands says. Of another
 /// job's object the table alone decides.
 fn grant_refusal(
     row: &JobRow,

@@ -48,7 +48,7 @@ impl<R: Files + AllocGlobal + Drop> Model for FileDevice<R> {
 }
 
 impl<R: Files + AllocGlobal + Drop> FileDevice<R> {
-    /// A device in the folder, which is made where it isn't there, and its parents with it. Files of
+    /// A device in the folder, which is made if it isn't there, and its parents with it. Files of
     /// an earlier device that are left in it are read as if they were this one's.
     pub fn new(rt: R, folder: &str) -> Result<FileDevice<R>, FolderFault>
         ensures { IfOk result (λ device. device ≡ record { name = folder.now; failures = 0 }) }

@@ -163,7 +163,7 @@ fn read_behind(
 }
 
 /// Adds to a part of a frame what the frame lacks of the piece: first what its length lacks, which says how long it
-/// is. How many bytes of the piece were taken: all, where the frame isn't whole then.
+/// is. How many bytes of the piece were taken: all, if the frame isn't whole then.
 fn complete(kept: &mut BytesMut, piece: &[u8]) -> Result<usize, AllocError>
     requires { IsPart kept.old.items }
     ensures ok { IfOk result (λ taken. IsCompleted kept.old.items piece.now taken kept.new.items) }
