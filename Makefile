@@ -1,11 +1,14 @@
 # The gate: every proof from nothing, the must-fail edits, the tests, and the programs with what they print. A crate has no
-# links, so the examples and the frames lie twice; that they are the same is looked at first.
+# links, so the examples and the frames lie twice; that they are the same is looked at first. Checks run side by side, one for each
+# processor if there are 4.5 GB for each. By itself rt ci goes by how much it thinks a crate may need, thrice what node_table takes, so
+# that crate, on which most others stand, would wait until hardly anything else runs.
+CHECKS = $(shell awk -v most=$$(nproc) '/^MemAvailable/ { n = int($$2 / 4500000); print n < 1 ? 1 : n < most ? n : most }' /proc/meminfo)
 test:
 	diff -r -x pipeline.py examples crates/schedules/data/examples
 	cmp examples/first.schedule crates/store_server/stdin
 	cmp examples/first.expected crates/store_server/stdout
 	cmp docs/rules/frames.vectors crates/schedules/data/frames/frames.vectors
-	rt ci
+	RT_JOBS=$(CHECKS) rt ci
 
 # Proves what changed, lowest crates first, over what earlier checks kept.
 check:
@@ -32,6 +35,10 @@ faults:
 	    (cd crates/$$crate && rt try --test --fail-alloc $$n $$only > faults.log 2>&1) || { cat crates/$$crate/faults.log; exit 1; }; \
 	    grep "^test result" crates/$$crate/faults.log; rm crates/$$crate/faults.log; \
 	done; done
+
+# The must-fail edits that the gate doesn't try, of crates that it would have to prove once more for them.
+edits:
+	tests/edits/try
 
 # Sessions of two jobs over the sockets of a built program.
 sessions: build
@@ -74,4 +81,4 @@ picture:
 	bench/picture docs/pictures/spilling.log -o docs/pictures/spilling.svg
 	rm docs/pictures/spilling.log
 
-.PHONY: test check build run sessions attack soak client-test try-built pipeline model faults bench picture
+.PHONY: test check build run edits sessions attack soak client-test try-built pipeline model faults bench picture
