@@ -1,0 +1,2 @@
+pub mod Residents
+pub mod Shape
