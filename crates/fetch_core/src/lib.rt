@@ -38,7 +38,6 @@ pub enum Stage {
 }
 
 /// A fetch at the node that fetches.
-#[derive(Drop)]
 pub struct FetchIn {
     number: u64,
     stage: Stage,
@@ -46,6 +45,19 @@ pub struct FetchIn {
     digest: Option<Digest>,
     // counts while it is Pulling: at most 256 indexes, rising
     missing: Vec<u32>,
+}
+
+// By hand, so that it is proved here and not in each crate above.
+impl Drop for FetchIn {
+    fn drop(self) {
+        let FetchIn {
+            number: _number,
+            stage: _stage,
+            length: _length,
+            digest: _digest,
+            missing: _missing,
+        } = self;
+    }
 }
 
 impl Model for FetchIn {

@@ -33,11 +33,20 @@ use std::alloc::{AllocError, Global};
 use std::marker::Model;
 
 /// The standing hands of a node.
-#[derive(Drop)]
 pub struct Grants {
     alloc: Global,
     // oldest first
     hands: Vec<Hand>,
+}
+
+// By hand, so that it is proved here and not in each crate above.
+impl Drop for Grants {
+    fn drop(self) {
+        let Grants {
+            alloc: _alloc,
+            hands: _hands,
+        } = self;
+    }
 }
 
 impl Model for Grants {

@@ -41,9 +41,15 @@ struct Node {
 }
 
 /// Room for one hole, so that putting it in its place takes no memory.
-#[derive(Drop)]
 pub struct Room {
     node: Box<Node>,
+}
+
+// By hand, so that it is proved here and not in each crate above.
+impl Drop for Room {
+    fn drop(self) {
+        let Room { node: _node } = self;
+    }
 }
 
 impl Room {
@@ -63,12 +69,24 @@ impl Room {
             node: Box::new(alloc, node)?,
         })
     }
+
+    /// The memory.
+    fn into_node(self) -> Box<Node> {
+        let Room { node } = self;
+        node
+    }
 }
 
 /// Holes by rising offset.
-#[derive(Drop)]
 pub struct Holes {
     tree: Tree,
+}
+
+// By hand, so that it is proved here and not in each crate above.
+impl Drop for Holes {
+    fn drop(self) {
+        let Holes { tree: _tree } = self;
+    }
 }
 
 impl Model for Holes {
@@ -97,7 +115,7 @@ impl Holes {
         requires { hole.offset < 2 ^ 29 }
         ensures { self.new ≡ put_hole hole self.old }
     {
-        put(&mut self.tree, room.node, hole, 0, END);
+        put(&mut self.tree, room.into_node(), hole, 0, END);
     }
 
     /// Takes out the hole at an offset, if there is one, and gives the room that it leaves. Takes no memory.

@@ -45,11 +45,21 @@ impl Live {
 }
 
 /// The live jobs of a node, and the bytes of its memory.
-#[derive(Drop)]
 pub struct Admission {
     memory: u64,
     greatest: u32,
     live: IndexMap<JobNo, Live>,
+}
+
+// By hand, so that it is proved here and not in each crate above.
+impl Drop for Admission {
+    fn drop(self) {
+        let Admission {
+            memory: _memory,
+            greatest: _greatest,
+            live: _live,
+        } = self;
+    }
 }
 
 impl Model for Admission {

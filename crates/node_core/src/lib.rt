@@ -54,7 +54,6 @@ use std::alloc::Global;
 use std::marker::Model;
 
 /// A node of a cluster.
-#[derive(Drop)]
 pub struct Node {
     alloc: Global,
     number: u32,
@@ -64,6 +63,20 @@ pub struct Node {
     hands: Grants,
     // of the live jobs
     rows: IndexMap<JobNo, JobRow>,
+}
+
+// By hand, so that it is proved here and not in each crate above.
+impl Drop for Node {
+    fn drop(self) {
+        let Node {
+            alloc: _alloc,
+            number: _number,
+            admission: _admission,
+            works: _works,
+            hands: _hands,
+            rows: _rows,
+        } = self;
+    }
 }
 
 impl Model for Node {

@@ -34,10 +34,19 @@ pub enum DirectoryReply {
 }
 
 /// The locations of all jobs.
-#[derive(Drop)]
 pub struct Directory {
     alloc: Global,
     rows: IndexMap<JobNo, Row>,
+}
+
+// By hand, so that it is proved here and not in each crate above.
+impl Drop for Directory {
+    fn drop(self) {
+        let Directory {
+            alloc: _alloc,
+            rows: _rows,
+        } = self;
+    }
 }
 
 impl Model for Directory {

@@ -20,12 +20,23 @@ use std::alloc::{AllocError, Global};
 use std::marker::Model;
 
 /// Pin, borrowers and holds of one copy.
-#[derive(Drop)]
 pub struct Pins {
     kind: Kind,
     pinned: bool,
     borrowers: Borrowers,
     holds: Holds,
+}
+
+// By hand, so that it is proved here and not in each crate above.
+impl Drop for Pins {
+    fn drop(self) {
+        let Pins {
+            kind: _kind,
+            pinned: _pinned,
+            borrowers: _borrowers,
+            holds: _holds,
+        } = self;
+    }
 }
 
 impl Model for Pins {

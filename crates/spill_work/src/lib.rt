@@ -24,11 +24,20 @@ use std::alloc::{AllocError, Global};
 use std::marker::Model;
 
 /// The works in flight of all jobs.
-#[derive(Drop)]
 pub struct Works {
     line: ByJob,
     // the last number that a work of the job had
     used: IndexMap<JobNo, u64>,
+}
+
+// By hand, so that it is proved here and not in each crate above.
+impl Drop for Works {
+    fn drop(self) {
+        let Works {
+            line: _line,
+            used: _used,
+        } = self;
+    }
 }
 
 impl Model for Works {

@@ -40,12 +40,23 @@ pub struct Shape {
 }
 
 /// Nodes, the directory, and all messages that were sent.
-#[derive(Drop)]
 pub struct World {
     alloc: Global,
     nodes: Vec<Node>,
     directory: Directory,
     messages: Messages,
+}
+
+// By hand, so that it is proved here and not in each crate above.
+impl Drop for World {
+    fn drop(self) {
+        let World {
+            alloc: _alloc,
+            nodes: _nodes,
+            directory: _directory,
+            messages: _messages,
+        } = self;
+    }
 }
 
 impl Model for World {
