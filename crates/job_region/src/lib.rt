@@ -26,7 +26,6 @@ use std::alloc::{AllocError, Global};
 use std::marker::Model;
 
 /// A job's window of so many bytes, and its extents.
-#[derive(Drop)]
 pub struct Window {
     quota: u64,
     // By rising offset.
@@ -38,6 +37,20 @@ pub struct Window {
     // Room for the hole that giving an extent back may make: one for each extent, so that it takes no memory.
     rooms: Vec<Room>,
     alloc: Global,
+}
+
+// By hand, so that it is proved here and not in each crate above.
+impl Drop for Window {
+    fn drop(self) {
+        let Window {
+            quota: _quota,
+            extents: _extents,
+            memory: _memory,
+            holes: _holes,
+            rooms: _rooms,
+            alloc: _alloc,
+        } = self;
+    }
 }
 
 impl Model for Window {
@@ -83,9 +96,10 @@ impl Window {
         })
     }
 
-    /// Its bytes.
+    /// Its bytes. The extents lie within these, apart and in whole units of 16.
     pub fn quota(&self) -> u64
-        ensures { result ≡ self.now.quota }
+        ensures quota { result ≡ self.now.quota }
+        ensures laid { LaidFrom self.now.quota 0 (extents_of self.now.placed) }
     {
         self.quota
     }

@@ -1,9 +1,10 @@
 //! The order of use, and plans that take memory. Which copies go, and when none does, is a matter of contracts, and of
 //! worked schedules.
 use assertions::holds;
+use extent_tree::{Resident, Room};
 use indexmap::IndexMap;
 use job_region::Window;
-use lru_evictor::{Choices, CopyFacts, CopyLookup, DeviceRoom, Plan, UseOrder};
+use lru_evictor::{CopyFacts, CopyLookup, DeviceRoom, Plan, UseOrder};
 use obj_id::{JobNo, ObjectId, Refusal, TaskNo};
 use std::alloc::Global;
 use std::test::Fail;
@@ -77,16 +78,26 @@ impl Store {
     }
 
     /// A copy at the first place that is free, used last.
-    fn add(&mut self, index: u32, len: u32, facts: CopyFacts) -> Result<(), Refusal> {
+    fn add(
+        &mut self,
+        alloc: Global,
+        index: u32,
+        len: u32,
+        facts: CopyFacts,
+    ) -> Result<(), Refusal> {
         let id = object(index)?;
+        let room = Room::new(alloc)?;
         let extent = self.window.place(len)?;
         let facts = CopyFacts {
             extent: Some(extent),
             bytes: extent.length,
             ..facts
         };
+        let choices = facts.standing().choices;
         self.copies.by_id.insert(id, facts)?;
-        self.order.enter(id, facts.choices())
+        self.order.enter(id)?;
+        self.order.settle(room, &id, Resident { extent, choices });
+        Ok(())
     }
 
     fn plan(&self, alloc: Global, len: u32, device: DeviceRoom) -> Result<Plan, Refusal> {
@@ -136,11 +147,11 @@ fn stands(order: &UseOrder, indexes: &[u32]) -> bool {
 /// Enters the id, once more if memory ran out: nothing has changed then.
 fn enter(order: &mut UseOrder, index: u32, before: &[u32]) -> Result<bool, Refusal> {
     let id = object(index)?;
-    match order.enter(id, Choices::none()) {
+    match order.enter(id) {
         Ok(()) => Ok(true),
         Err(_) => {
             let kept = stands(order, before);
-            order.enter(id, Choices::none())?;
+            order.enter(id)?;
             Ok(kept)
         }
     }
@@ -178,7 +189,7 @@ fn planned(
     let mut store = Store::new(alloc, window)?;
     let mut index = 1;
     for (bytes, facts) in copies {
-        store.add(index, *bytes, *facts)?;
+        store.add(alloc, index, *bytes, *facts)?;
         index = index.saturating_add(1);
     }
     store.plan(alloc, len, device)

@@ -31,21 +31,21 @@ use Rattle.lru_evictor.specs.Plans.{IsDescribed, facts_of, extents_in}
 use Rattle.lru_evictor.proofs.Free.{goes, all-left, first-same}
 
 -- tests that imply each other give the same answer
-both_ways : (a b : Bool) → (a ≡ true → b ≡ true) → (b ≡ true → a ≡ true) → a ≡ b
+pub both_ways : (a b : Bool) → (a ≡ true → b ≡ true) → (b ≡ true → a ≡ true) → a ≡ b
 both_ways true b f g = sym (f refl)
 both_ways false true f g = sym (sym (g refl))
 both_ways false false f g = refl
 
 -- lists of the same items pass a test alike
-all_within : {X : Type 0} (p : X → Bool) (xs ys : List X) → ((x : X) → Contains ys x → Contains xs x) → list_all p xs ≡ true → list_all p ys ≡ true
+pub all_within : {X : Type 0} (p : X → Bool) (xs ys : List X) → ((x : X) → Contains ys x → Contains xs x) → list_all p xs ≡ true → list_all p ys ≡ true
 all_within p xs ys sub h = list_all-from_AllPass p ys (λ k d lt. All-contains (λ x. p x ≡ true) xs _ (AllPass-from_list_all p xs h) (sub _ (All-contains_itself ys k d lt)))
 
-all_same : {X : Type 0} (p : X → Bool) (xs ys : List X) → ((x : X) → Contains xs x ↔ Contains ys x) → list_all p xs ≡ list_all p ys
+pub all_same : {X : Type 0} (p : X → Bool) (xs ys : List X) → ((x : X) → Contains xs x ↔ Contains ys x) → list_all p xs ≡ list_all p ys
 all_same p xs ys h = both_ways (list_all p xs) (list_all p ys) (all_within p xs ys (λ x. (h x).1)) (all_within p ys xs (λ x. (h x).0))
 
 -- ---- an entry of a sorted table is found
 
-abbrev IsFound : ById Copy → (ObjectId × Copy) → Type 0
+abbrev pub IsFound : ById Copy → (ObjectId × Copy) → Type 0
 IsFound es e = at es e.0 ≡ Some e.1
 
 two : (a b : Bool) → a && b ≡ true → (a ≡ true) × (b ≡ true)
@@ -63,7 +63,7 @@ later e es (x ∷ xs) below h =
     let here = two (is_lt (id_cmp e.0 x.0)) (below_all id_cmp e.0 xs) below in
     (ap (λ b. cond b (Some e.1) (at es x.0)) (above (id_cmp x.0 e.0) (id_cmp e.0 x.0) (id_cmp-IsTotalOrder.antisymm x.0 e.0) here.0) ∙ h.0, later e es xs here.1 h.1)
 
-each_found : (es : ById Copy) → is_sorted id_cmp es ≡ true → AllByRecursion (IsFound es) es
+pub each_found : (es : ById Copy) → is_sorted id_cmp es ≡ true → AllByRecursion (IsFound es) es
 each_found [] h = tt
 each_found (e ∷ es) h =
     let here = two (below_all id_cmp e.0 es) (is_sorted id_cmp es) h in
@@ -71,7 +71,7 @@ each_found (e ∷ es) h =
 
 -- ---- tests of what is left
 
-all_kept : (test : Extent → Bool) (out : List ObjectId) (es : ById Copy) →
+pub all_kept : (test : Extent → Bool) (out : List ObjectId) (es : ById Copy) →
     list_all test (filter_map (λ e. extent_of e.1) (filter (λ e. not (is_among out e.0)) es)) ≡ list_all (λ e. is_among out e.0 || option_map_or test (extent_of e.1) true) es
 all_kept test out [] = refl
 all_kept test out (e ∷ es) =
@@ -86,7 +86,7 @@ all_kept test out (e ∷ es) =
     tested None h = h
     tested (Some x) h = ap (λ b. test x && b) h
 
-all_of : (test : Extent → Bool) (es : ById Copy) → list_all test (filter_map (λ e. extent_of e.1) es) ≡ list_all (λ e. option_map_or test (extent_of e.1) true) es
+pub all_of : (test : Extent → Bool) (es : ById Copy) → list_all test (filter_map (λ e. extent_of e.1) es) ≡ list_all (λ e. option_map_or test (extent_of e.1) true) es
 all_of test [] = refl
 all_of test (e ∷ es) = by (extent_of e.1) (all_of test es)
   where
@@ -96,11 +96,11 @@ all_of test (e ∷ es) = by (extent_of e.1) (all_of test es)
     by (Some x) h = ap (λ b. test x && b) h
 
 -- tests that agree on each entry
-all_agree : (p q : ObjectId × Copy → Bool) (es : ById Copy) → AllByRecursion (λ e. p e ≡ q e) es → list_all p es ≡ list_all q es
+pub all_agree : (p q : ObjectId × Copy → Bool) (es : ById Copy) → AllByRecursion (λ e. p e ≡ q e) es → list_all p es ≡ list_all q es
 all_agree p q [] h = refl
 all_agree p q (e ∷ es) h = λ i. h.0 i && all_agree p q es h.1 i
 
-each_agrees : {P Q : ObjectId × Copy → Type 0} → ((e : ObjectId × Copy) → P e → Q e) → (es : ById Copy) → AllByRecursion P es → AllByRecursion Q es
+pub each_agrees : {P Q : ObjectId × Copy → Type 0} → ((e : ObjectId × Copy) → P e → Q e) → (es : ById Copy) → AllByRecursion P es → AllByRecursion Q es
 each_agrees f [] h = tt
 each_agrees f (e ∷ es) h = (f e h.0, each_agrees f es h.1)
 
@@ -155,14 +155,14 @@ module _ (store : Shape) (window : Region) (device : DeviceRoom) (facts : Looked
         there t = at_copy (at store.copies x) refl (ap (λ r. option_map_or (λ g. nat_eq g.offset e.offset) (option_and_then (λ c. c.extent) r) false) (sym (described.looked x)) ∙ t)
 
     -- an extent goes exactly with its own copy
-    goes-among : (out : List ObjectId) → goes (gone_of facts out) e.offset ≡ is_among out id
+    pub goes-among : (out : List ObjectId) → goes (gone_of facts out) e.offset ≡ is_among out id
     goes-among [] = refl
     goes-among (x ∷ out) = goes-cons e.offset x out ∙ (λ i. goes_with-same x i || goes-among out i)
 
   -- ---- all that is left
 
   module _ (n : ℕ) (out : List ObjectId) where
-    same_tests : (test : Extent → Bool) → list_all test (extents_of (without (gone_of facts out) window.placed))
+    pub same_tests : (test : Extent → Bool) → list_all test (extents_of (without (gone_of facts out) window.placed))
         ≡ list_all test (filter_map (λ e. extent_of e.1) (filter (λ e. not (is_among out e.0)) store.copies))
     same_tests test =
         all-left test (gone_of facts out) window.placed

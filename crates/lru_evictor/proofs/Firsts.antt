@@ -1,6 +1,6 @@
 -- The first copies of a walk, picked out of the sorted extents of all.
-use Rattle.std.proofs.Common.{◌≡◌, ℕ, zero, suc, ◌+◌, ◌≤◌, Bool, true, false, ◌&&◌, ◌||◌, List, [], ◌∷◌, take, Option, Some, None, refl, sym, ap, ◌∙◌, arith, cond, nat_eq, is_some, map, filter, get_or}
-use Rattle.std.proofs.lemmas.List.{length-map}
+use Rattle.std.proofs.Common.{◌≡◌, ℕ, zero, suc, ◌+◌, ◌≤◌, Bool, true, false, ◌&&◌, ◌||◌, List, [], ◌∷◌, take, length, Option, Some, None, refl, sym, ap, ◌∙◌, arith, cond, nat_eq, map, filter, get_or}
+use Rattle.std.proofs.lemmas.List.{length-map, take_all}
 use Rattle.std.specs.Prelude.{nat_lt}
 use Rattle.std.specs.List.{list_any, cons_option}
 use Rattle.std.specs.List.Sorted.{IsPermutation, IsNonDecreasingBy}
@@ -9,12 +9,12 @@ use Rattle.std.proofs.lemmas.List.Sorted.{list_any-IsPermutation}
 use Rattle.std.proofs.lemmas.List.Kept.{IsNonDecreasingBy-filter}
 use Rattle.obj_id.specs.declared.ids.ObjectId.{ObjectId}
 use Rattle.obj_id.specs.declared.works.Extent.{Extent}
-use Rattle.private_store.specs.Extents.{first}
-use Rattle.job_region.specs.Region.{Region, extents_of}
+use Rattle.lru_evictor.specs.declared.area.Area.{Area}
 use Rattle.lru_evictor.specs.declared.search.Leaving.{Leaving}
-use Rattle.lru_evictor.specs.Facts.{Looked, extent_at, gone_of, fits_without}
+use Rattle.lru_evictor.specs.Facts.{Looked, extent_at, gone_of}
+use Rattle.lru_evictor.specs.Areas.{fits_without}
 use Rattle.lru_evictor.specs.Leavings.{leaving_at, leaving_of, firsts, fits_first}
-use Rattle.lru_evictor.proofs.Free.{goes, without-same}
+use Rattle.lru_evictor.proofs.Free.{goes, fits_in-same}
 
 -- whether it is among the first k, and begins there
 abbrev goes_first : ℕ → ℕ → Leaving → Bool
@@ -53,16 +53,22 @@ module _ (facts : Looked) (k offset : ℕ) where
           ∙ ap (λ b. nat_eq e.offset offset || b) on
 
 -- a test of the first k of the sorted extents is one of the first k ids
-pub fits-first : (window : Region) (facts : Looked) (n : ℕ) (ids : List ObjectId) (leaving : List Leaving) → IsPermutation (leaving_of facts 0 ids) leaving
-    → (k : ℕ) → fits_first window n leaving k ≡ fits_without window facts n (take k ids)
-fits-first window facts n ids leaving moved k =
-    ap (λ ps. is_some (first (extents_of ps) window.quota n)) (without-same (firsts k leaving) (gone_of facts (take k ids)) same window.placed)
+pub fits-first : (area : Area) (facts : Looked) (n : ℕ) (ids : List ObjectId) (leaving : List Leaving) → IsPermutation (leaving_of facts 0 ids) leaving
+    → (k : ℕ) → fits_first area n leaving k ≡ fits_without area facts n (take k ids)
+fits-first area facts n ids leaving moved k = fits_in-same area n (firsts k leaving) (gone_of facts (take k ids)) same
   where
     same : (offset : ℕ) → goes (firsts k leaving) offset ≡ goes (gone_of facts (take k ids)) offset
     same offset =
         firsts-any k offset leaving
         ∙ sym (list_any-IsPermutation (goes_first k offset) (leaving_of facts 0 ids) leaving moved)
         ∙ first-any facts k offset k 0 ids (omega arith)
+
+-- and a test of them all is one of all ids
+pub fits-all : (area : Area) (facts : Looked) (n : ℕ) (ids : List ObjectId) (leaving : List Leaving) → IsPermutation (leaving_of facts 0 ids) leaving
+    → (fits : Bool) → fits ≡ fits_first area n leaving (length ids) → fits_without area facts n ids ≡ fits
+fits-all area facts n ids leaving moved fits is =
+    let whole : take (length ids) ids ≡ ids = take_all (length ids) ids (omega arith) in
+    sym (is ∙ fits-first area facts n ids leaving moved (length ids) ∙ ap (fits_without area facts n) whole)
 
 -- picked out, they rise as all do
 get-extent : (i : ℕ) (leaving : List Leaving) (d : Leaving) → get_or (map (λ (l : Leaving). l.extent) leaving) i d.extent ≡ (get_or leaving i d).extent

@@ -1,9 +1,13 @@
 pub mod CacheOrders
 pub mod Reorders
 pub mod Free
+pub mod Lists
+pub mod Spread
+pub mod Gaps
 pub mod Shortest
 pub mod Needed
 pub mod Described
+pub mod Agreeing
 pub mod Planned
 pub mod Rooms
 pub mod Firsts

@@ -1,62 +1,36 @@
 -- The searches' answers are the plan of the rule of room.
-use Rattle.std.proofs.Common.{◌≡◌, ℕ, ◌+◌, ◌-◌, ◌==◌, List, [], ◌∷◌, ◌++◌, Bool, Option, Some, None, true, false, not, ◌&&◌, ◌||◌, refl, sym, ap, ◌∙◌, is_some, take, drop, length}
-use Rattle.std.specs.Option.{option_map, option_map_or}
-use Rattle.std.specs.Prelude.{nat_lt, if◌then◌else◌}
+use Rattle.std.proofs.Common.{◌≡◌, ℕ, zero, suc, ◌+◌, ◌-◌, ◌/◌, ◌==◌, ◌<◌, ◌&&◌, ◌||◌, List, [], ◌∷◌, ◌++◌, Bool, Option, Some, None, true, false, refl, sym, ap, subst, ◌∙◌, is_some, take, arith, append_assoc, append-nil}
+use Rattle.std.specs.Prelude.{nat_lt, nat_le, if◌then◌else◌}
+use Rattle.std.specs.List.{list_all}
+use Rattle.std.proofs.lemmas.Bool.Decides.{nat_tests}
 use Rattle.obj_id.specs.declared.ids.ObjectId.{ObjectId}
+use Rattle.obj_id.specs.declared.works.Extent.{Extent}
 use Rattle.private_store.specs.Limits.{most_works}
+use Rattle.private_store.specs.Tables.{is_among}
+use Rattle.private_store.specs.Extents.{rounded, is_apart, is_free, first, first_from}
 use Rattle.private_store.specs.Shape.{Shape}
 use Rattle.private_store.specs.Copies.{is_spillable}
 use Rattle.private_store.specs.Room.{Plan, fits, wait, full, busy, evict, spill, plan, victims, spilled, spill_plan, shortest, offset_without, in_order}
-use Rattle.job_region.specs.Region.{Region}
-use Rattle.lru_evictor.specs.declared.facts.DeviceRoom.{DeviceRoom}
-use Rattle.use_tree.specs.declared.choices.Choice.TheVariants.{Evictable, Passing, Spillable}
-use Rattle.lru_evictor.specs.declared.facts.CopyFacts.{CopyFacts}
-use Rattle.use_tree.specs.Choices.{has}
-use Rattle.use_tree.specs.declared.choices.Choices.{Choices}
-use Rattle.lru_evictor.specs.Orders.{covers}
+use Rattle.job_region.specs.Region.{Region, extents_of, without, place_for}
+use Rattle.job_region.specs.Layout.{LaidFrom}
 use Rattle.use_tree.specs.declared.choices.Choice.{Choice}
-use Rattle.lru_evictor.specs.Facts.{Looked, passes, passes_at, choices_of, choices_at, chosen, fits_without}
-use Rattle.lru_evictor.specs.Plans.{IsDescribed, evict_here, spill_here}
+use Rattle.use_tree.specs.declared.choices.Choice.TheVariants.{Evictable, Passing, Spillable}
+use Rattle.use_tree.specs.Choices.{has}
+use Rattle.use_tree.specs.Uses.{AllUses}
+use Rattle.extent_tree.specs.Residents.{staying, remaining, span_of, has_gap}
+use Rattle.extent_tree.proofs.Gone.{remaining_all}
+use Rattle.lru_evictor.specs.declared.facts.DeviceRoom.{DeviceRoom}
+use Rattle.lru_evictor.specs.declared.facts.Standing.{Standing}
+use Rattle.lru_evictor.specs.Areas.{AreMore}
+use Rattle.lru_evictor.specs.Facts.{Looked, passes_at, standing_at, chosen, gone_of, fits_without}
+use Rattle.lru_evictor.specs.Indexed.{Listed, HasIndex, chosen_ids, shown}
+use Rattle.lru_evictor.specs.Orders.{ids_of, AllPass, same_standing}
+use Rattle.lru_evictor.specs.Plans.{IsDescribed, IsOfCopies, evict_here, spill_here}
+use Rattle.lru_evictor.proofs.Agreeing.{same_standing-equal, passes-standing, base, fits-agree}
 use Rattle.lru_evictor.proofs.Described.{fits-described, chosen-evictable, chosen-passing, chosen-spillable, device_bytes-described}
-
--- what a walk chooses is chosen by the choices of the facts
-passes-choices : (facts : Looked) (k : Choice) (id : ObjectId) → has k (choices_at facts id) ≡ passes_at facts k id
-passes-choices facts k id = by k (facts id)
-  where
-    by : (k : Choice) (o : Option CopyFacts) → has k (option_map_or choices_of o (record { evictable = false; passing = false; spillable = false })) ≡ option_map_or (passes k) o false
-    by Evictable None = refl
-    by Evictable (Some copy) = refl
-    by Passing None = refl
-    by Passing (Some copy) = refl
-    by Spillable None = refl
-    by Spillable (Some copy) = refl
-
--- what a walk chooses is among the choices of its copy
-pub chosen-covered : (facts : Looked) (k : Choice) (x : ObjectId) (c : Choices) → covers c (choices_at facts x) ≡ true → passes_at facts k x ≡ true → has k c ≡ true
-chosen-covered facts k x c h is = by k (choices_at facts x) h (passes-choices facts k x ∙ is)
-  where
-    first : (a b d : Bool) → (not a || b) && d ≡ true → a ≡ true → b ≡ true
-    first true true d h e = refl
-    first true false d h e = cc
-    first false b d h e = cc
-
-    second : (a b d : Bool) → a && (b && d) ≡ true → b && d ≡ true
-    second true b d h = h
-    second false b d h = cc
-
-    third : (a b : Bool) → not a || b ≡ true → a ≡ true → b ≡ true
-    third true b h e = h
-    third false b h e = cc
-
-    last : (a b d : Bool) → a && (b && d) ≡ true → d ≡ true
-    last true true d h = h
-    last true false d h = cc
-    last false b d h = cc
-
-    by : (k : Choice) (d : Choices) → covers c d ≡ true → has k d ≡ true → has k c ≡ true
-    by Evictable d h e = first d.evictable c.evictable ((not d.passing || c.passing) && (not d.spillable || c.spillable)) h e
-    by Passing d h e = first d.passing c.passing (not d.spillable || c.spillable) (second (not d.evictable || c.evictable) (not d.passing || c.passing) (not d.spillable || c.spillable) h) e
-    by Spillable d h e = third d.spillable c.spillable (last (not d.evictable || c.evictable) (not d.passing || c.passing) (not d.spillable || c.spillable) h) e
+use Rattle.lru_evictor.proofs.Free.{fits-more}
+use Rattle.lru_evictor.proofs.Needed.{found_at_once, too_few}
+use Rattle.lru_evictor.proofs.Uses.{candidates-kept}
 
 -- the plan, where it is known what may be evicted and what may be spilled
 abbrev planned : Shape → Option (List ObjectId) → Option (List ObjectId) → Plan
@@ -72,69 +46,171 @@ planned store gone asked =
     ]
 
 module _ (store : Shape) (window : Region) (device : DeviceRoom) (facts : Looked) (described : IsDescribed store window device facts) (n : ℕ) (order : List ObjectId) where
+  -- the shortest beginning beside those that go in any case
   abbrev pub searched : List ObjectId → List ObjectId → Option (List ObjectId)
   searched base may = shortest (λ out. fits_without window facts n (base ++ out)) may
 
-  victims-searched : searched [] (chosen facts Evictable order) ≡ victims order store n
+  pub victims-searched : searched [] (chosen facts Evictable order) ≡ victims order store n
   victims-searched = λ i. shortest (λ out. fits-described store window device facts described n out i) (chosen-evictable store window device facts described order i)
 
-  spilled-searched : (base : List ObjectId) → base ≡ chosen facts Evictable order ++ chosen facts Passing order → searched base (chosen facts Spillable order) ≡ spilled order store n
-  spilled-searched base is =
-      (λ i. shortest (λ out. fits-described store window device facts described n (is i ++ out) i) (chosen-spillable store window device facts described order i))
+  pub spilled-searched : searched (chosen facts Evictable order ++ chosen facts Passing order) (chosen facts Spillable order) ≡ spilled order store n
+  spilled-searched =
+      (λ i. shortest (λ out. fits-described store window device facts described n ((chosen facts Evictable order ++ chosen facts Passing order) ++ out) i) (chosen-spillable store window device facts described order i))
       ∙ (λ i. shortest (λ out. is_some (offset_without store n ((chosen-evictable store window device facts described order i ++ chosen-passing store window device facts described order i) ++ out))) (in_order store order (is_spillable store)))
 
-  pub plan-evicts : (ids : List ObjectId) → Some ids ≡ searched [] (chosen facts Evictable order) → evict_here ids ≡ plan order store n
-  plan-evicts ids found = by ids (found ∙ victims-searched)
-    where
-      by : (xs : List ObjectId) → Some xs ≡ victims order store n → evict_here xs ≡ plan order store n
-      by [] e = ap (λ v. planned store v (spilled order store n)) e
-      by (x ∷ xs) e = ap (λ v. planned store v (spilled order store n)) e
+  -- ---- the plan, by what is to be evicted and what is to be spilled
 
-  module _ (none : None ≡ searched [] (chosen facts Evictable order)) (base : List ObjectId) (is : base ≡ chosen facts Evictable order ++ chosen facts Passing order) where
-    without_victims : None ≡ victims order store n
-    without_victims = none ∙ victims-searched
+  pub plan-evicts : (ids : List ObjectId) → Some ids ≡ victims order store n → evict_here ids ≡ plan order store n
+  plan-evicts [] e = ap (λ v. planned store v (spilled order store n)) e
+  plan-evicts (x ∷ xs) e = ap (λ v. planned store v (spilled order store n)) e
 
-    pub plan-full : None ≡ searched base (chosen facts Spillable order) → full ≡ plan order store n
-    plan-full found = λ i. planned store (without_victims i) ((found ∙ spilled-searched base is) i)
+  module _ (none : None ≡ victims order store n) where
+    pub plan-full : None ≡ spilled order store n → full ≡ plan order store n
+    plan-full e = λ i. planned store (none i) (e i)
 
     spill_plan-here : (x : ObjectId) (xs : List ObjectId) → spill_here device facts (x ∷ xs) ≡ spill_plan store (x ∷ xs)
     spill_plan-here x xs = λ i.
         if nat_lt (described.device_quota i) (described.used i + device_bytes-described store window device facts described (x ∷ xs) i) then full else
         (if most_works - described.works i == 0 then busy else spill (take (most_works - described.works i) (x ∷ xs)))
 
-    pub plan-spills : (ids : List ObjectId) → Some ids ≡ searched base (chosen facts Spillable order) → spill_here device facts ids ≡ plan order store n
-    plan-spills ids found = by ids (found ∙ spilled-searched base is)
+    pub plan-spills : (ids : List ObjectId) → Some ids ≡ spilled order store n → spill_here device facts ids ≡ plan order store n
+    plan-spills [] e = λ i. planned store (none i) (e i)
+    plan-spills (x ∷ xs) e = spill_plan-here x xs ∙ (λ i. planned store (none i) (e i))
+
+-- ---- an index tells what is to be evicted and what is to be spilled
+
+module _ (store : Shape) (window : Region) (device : DeviceRoom) (facts : Looked) (described : IsDescribed store window device facts) (index : Listed) (order : List (ObjectId × Standing)) (of : HasIndex index order) (known : IsOfCopies order facts)
+    (laid : LaidFrom window.quota 0 (extents_of window.placed)) (n : ℕ) (some : 0 < n) where
+  -- whether there is room without all that the walk and those before it choose
+  abbrev pub level_room : Choice → Bool
+  level_room k = has_gap window.quota (rounded n) (span_of (staying k index.2))
+
+  -- the same without these copies
+  abbrev pub gap_without : Choice → List ObjectId → Bool
+  gap_without k out = has_gap window.quota (rounded n) (span_of (staying k (remaining (gone_of facts out) index.2)))
+
+  -- all that a walk and those before it choose among these ids
+  abbrev base_among : List ObjectId → Choice → List ObjectId
+  base_among ids Evictable = chosen facts Evictable ids
+  base_among ids Passing = chosen facts Evictable ids ++ chosen facts Passing ids
+  base_among ids Spillable = (chosen facts Evictable ids ++ chosen facts Passing ids) ++ chosen facts Spillable ids
+
+  none_gone : (k : Choice) → gap_without k [] ≡ level_room k
+  none_gone k = ap (λ xs. has_gap window.quota (rounded n) (span_of (staying k xs))) (remaining_all index.2)
+
+  same_ids : ids_of (shown of.entries) ≡ ids_of order
+  same_ids = ap ids_of of.is
+
+  told : AllPass (λ id s. same_standing s (standing_at facts id)) (shown of.entries)
+  told = subst (AllPass (λ id s. same_standing s (standing_at facts id))) (sym of.is) known.standings
+
+  -- in the window as in the index, over the ids of the index's entries
+  agrees : (k : Choice) (out : List ObjectId) → fits_without window facts n (base_among (ids_of (shown of.entries)) k ++ out) ≡ gap_without k out
+  agrees k out =
+      sides k
+      ∙ fits-agree store window device facts described of.entries of.index_of.apart told (λ id h. ap (λ o. is_among (ids_of o) id) of.is ∙ known.listed id h) laid n some k out
+      ∙ ap (λ xs. has_gap window.quota (rounded n) (span_of (staying k (remaining (gone_of facts out) xs)))) (sym of.index_of.residents)
+    where
+      sides : (k : Choice) → fits_without window facts n (base_among (ids_of (shown of.entries)) k ++ out) ≡ fits_without window facts n (base store window device facts described of.entries of.index_of.apart told (λ id h. ap (λ o. is_among (ids_of o) id) of.is ∙ known.listed id h) k ++ out)
+      sides Evictable = refl
+      sides Passing = refl
+      sides Spillable = refl
+
+  -- over those of the order
+  agree : (k : Choice) (out : List ObjectId) → fits_without window facts n (base_among (ids_of order) k ++ out) ≡ gap_without k out
+  agree k out = subst (λ ids. fits_without window facts n (base_among ids k ++ out) ≡ gap_without k out) same_ids (agrees k out)
+
+  agree_all : (k : Choice) → fits_without window facts n (base_among (ids_of order) k) ≡ level_room k
+  agree_all k = ap (fits_without window facts n) (sym (append-nil (base_among (ids_of order) k))) ∙ agree k [] ∙ none_gone k
+
+  module _ (candidates : List ObjectId) (k : Choice) (is : candidates ≡ chosen_ids k 4611686018427387904 index.0) (below : AllUses (λ u. u.turn < 4611686018427387904) index.0) where
+    same_chosen : chosen facts k candidates ≡ chosen facts k (ids_of order)
+    same_chosen =
+        ap (chosen facts k) (is ∙ ap (chosen_ids k 4611686018427387904) of.index_of.uses)
+        ∙ candidates-kept k (λ id s. same_standing s (standing_at facts id)) (passes_at facts k) covered 4611686018427387904 of.entries told (subst (AllUses (λ u. u.turn < 4611686018427387904)) of.index_of.uses below)
+        ∙ ap (chosen facts k) same_ids
       where
-        by : (xs : List ObjectId) → Some xs ≡ spilled order store n → spill_here device facts xs ≡ plan order store n
-        by [] e = λ i. planned store (without_victims i) (e i)
-        by (x ∷ xs) e = spill_plan-here x xs ∙ (λ i. planned store (without_victims i) (e i))
+        covered : (id : ObjectId) (s : Standing) → same_standing s (standing_at facts id) ≡ true → passes_at facts k id ≡ true → has k s.choices ≡ true
+        covered id s same passes = ap (λ (t : Standing). has k t.choices) (same_standing-equal s (standing_at facts id) same) ∙ passes-standing facts k id ∙ passes
 
-  -- ---- the exits of the plan
+  pub victims-none : (says : Bool) → says ≡ level_room Evictable → says ≡ false → None ≡ victims (ids_of order) store n
+  victims-none says is bad =
+      too_few (fits_without window facts n) (fits-more window facts n) (chosen facts Evictable (ids_of order)) (agree_all Evictable ∙ sym is ∙ bad)
+      ∙ victims-searched store window device facts described n (ids_of order)
 
-  module _ (start first_order : List ObjectId) (empty : start ≡ []) (same_order : chosen facts Evictable first_order ≡ chosen facts Evictable order) (ids : List ObjectId) (r : Option ℕ)
-      (found : option_map (λ k. drop (length start) (take k ids)) r ≡ searched start (chosen facts Evictable first_order)) where
-    first_searched : option_map (λ k. drop (length start) (take k ids)) r ≡ searched [] (chosen facts Evictable order)
-    first_searched = found ∙ (λ i. searched (empty i) (same_order i))
+  pub victims-found : (candidates : List ObjectId) → candidates ≡ chosen_ids Evictable 4611686018427387904 index.0 → AllUses (λ u. u.turn < 4611686018427387904) index.0
+      → (r : Option (List ObjectId)) → r ≡ shortest (fits_without window facts n) (chosen facts Evictable candidates) → r ≡ victims (ids_of order) store n
+  victims-found candidates is below r found = found ∙ ap (shortest (fits_without window facts n)) (same_chosen candidates Evictable is below) ∙ victims-searched store window device facts described n (ids_of order)
 
-    pub evict-exit : (count : ℕ) (cut : List ObjectId) (told : Plan) → r ≡ Some count → cut ≡ take count ids → told ≡ evict_here cut → told ≡ plan order store n
-    evict-exit count cut told is first says =
-        says ∙ plan-evicts cut (ap Some first ∙ (λ i. Some (drop (length (sym empty i)) (take count ids))) ∙ ap (option_map (λ k. drop (length start) (take k ids))) (sym is) ∙ first_searched)
+  -- beside all that may be evicted or passes
+  abbrev fits_beside : List ObjectId → Bool
+  fits_beside out = fits_without window facts n (base_among (ids_of order) Passing ++ out)
 
-    module _ (none : r ≡ None) (all : ids ≡ start ++ chosen facts Evictable first_order) (second_order : List ObjectId) (same_second : chosen facts Passing second_order ≡ chosen facts Passing order) (base : List ObjectId) (gathered : base ≡ ids ++ chosen facts Passing second_order) where
-      nothing : None ≡ searched [] (chosen facts Evictable order)
-      nothing = ap (option_map (λ k. drop (length start) (take k ids))) (sym none) ∙ first_searched
+  beside_more : AreMore fits_beside
+  beside_more out more h = ap (fits_without window facts n) (sym (append_assoc (base_among (ids_of order) Passing) out more)) ∙ fits-more window facts n (base_among (ids_of order) Passing ++ out) more h
 
-      base_is : base ≡ chosen facts Evictable order ++ chosen facts Passing order
-      base_is = gathered ∙ (λ i. (all ∙ (λ j. empty j ++ same_order j)) i ++ same_second i)
+  pub spilled-waits : (says : Bool) → says ≡ level_room Passing → says ≡ true → Some [] ≡ spilled (ids_of order) store n
+  spilled-waits says is good =
+      found_at_once fits_beside (chosen facts Spillable (ids_of order)) says (is ∙ sym (none_gone Passing) ∙ sym (agree Passing [])) good
+      ∙ spilled-searched store window device facts described n (ids_of order)
 
-      module _ (third_order : List ObjectId) (same_third : chosen facts Spillable third_order ≡ chosen facts Spillable order) (after : List ObjectId) (t : Option ℕ)
-          (searching : option_map (λ k. drop (length base) (take k after)) t ≡ searched base (chosen facts Spillable third_order)) where
-        then_searched : option_map (λ k. drop (length base) (take k after)) t ≡ searched base (chosen facts Spillable order)
-        then_searched = searching ∙ ap (searched base) same_third
+  pub spilled-none : (says : Bool) → says ≡ level_room Spillable → says ≡ false → None ≡ spilled (ids_of order) store n
+  spilled-none says is bad =
+      too_few fits_beside beside_more (chosen facts Spillable (ids_of order)) (agree_all Spillable ∙ sym is ∙ bad)
+      ∙ spilled-searched store window device facts described n (ids_of order)
 
-        pub full-exit : t ≡ None → full ≡ plan order store n
-        full-exit is = plan-full nothing base base_is (ap (option_map (λ k. drop (length base) (take k after))) (sym is) ∙ then_searched)
+  pub spilled-found : (candidates : List ObjectId) → candidates ≡ chosen_ids Spillable 4611686018427387904 index.0 → AllUses (λ u. u.turn < 4611686018427387904) index.0
+      → (test : List ObjectId → Bool) → ((out : List ObjectId) → test out ≡ gap_without Passing out)
+      → (r : Option (List ObjectId)) → (AreMore test → r ≡ shortest test (chosen facts Spillable candidates)) → r ≡ spilled (ids_of order) store n
+  spilled-found candidates is below test same r found =
+      let both : (out : List ObjectId) → test out ≡ fits_beside out = λ out. same out ∙ sym (agree Passing out) in
+      let more : AreMore test = λ out further h. both (out ++ further) ∙ beside_more out further (sym (both out) ∙ h) in
+      found more
+      ∙ (λ i. shortest (λ out. both out i) (same_chosen candidates Spillable is below i))
+      ∙ spilled-searched store window device facts described n (ids_of order)
 
-        pub spill-exit : (count passing : ℕ) (cut spilled : List ObjectId) (told : Plan) → t ≡ Some count → passing ≡ length base → cut ≡ take count after → spilled ≡ drop passing cut → told ≡ spill_here device facts spilled → told ≡ plan order store n
-        spill-exit count passing cut spilled told is long first rest says =
-            says ∙ plan-spills nothing base base_is spilled (ap Some (rest ∙ (λ i. drop (long i) (first i))) ∙ ap (option_map (λ k. drop (length base) (take k after))) (sym is) ∙ then_searched)
+-- ---- a plan before any search of the index
+
+without_none : (placed : List (ℕ × List ℕ)) → without [] placed ≡ placed
+without_none [] = refl
+without_none (p ∷ ps) = ap (λ qs. p ∷ qs) (without_none ps)
+
+-- there is a place as it is if there is one without none
+pub fits-now : (window : Region) (facts : Looked) (n : ℕ) → is_some (place_for window n) ≡ fits_without window facts n []
+fits-now window facts n = ap (λ ps. is_some (first (extents_of ps) window.quota n)) (sym (without_none window.placed))
+
+-- no bytes fit anywhere
+zero_free : (es : List Extent) (q : ℕ) → is_free es q 0 0 ≡ true
+zero_free es q =
+    let begins : nat_le 0 q ≡ true = grind (arith, nat_tests) in
+    ap (λ b. b && list_all (is_apart (record { offset = 0; length = 0 })) es) begins ∙ each es
+  where
+    each : (xs : List Extent) → list_all (is_apart (record { offset = 0; length = 0 })) xs ≡ true
+    each [] = refl
+    each (x ∷ xs) = let past : nat_le 0 x.offset ≡ true = grind (arith, nat_tests) in ap (λ b. (b || nat_le (x.offset + x.length) 0) && list_all (is_apart (record { offset = 0; length = 0 })) xs) past ∙ each xs
+
+zero_found : (es : List Extent) (q k : ℕ) → 0 < k → is_some (first_from es q 0 0 k) ≡ true
+zero_found es q zero lt = absurd (omega (arith, lt))
+zero_found es q (suc k) lt = ap (λ b. is_some (elim b [ true ↦ Some 0 | false ↦ first_from es q 0 16 k ])) (zero_free es q)
+
+-- so what doesn't fit has bytes
+pub has-bytes : (window : Region) (n : ℕ) (says : Bool) → says ≡ is_some (place_for window n) → says ≡ false → 0 < n
+has-bytes window zero says is bad = absurd (differ (sym (zero_found (extents_of window.placed) window.quota (window.quota / 16 + 1) (omega arith)) ∙ sym is ∙ bad))
+  where
+    differ : true ≡ false → ⊥
+    differ h = cc
+has-bytes window (suc n) says is bad = omega arith
+
+module _ (store : Shape) (window : Region) (device : DeviceRoom) (facts : Looked) (described : IsDescribed store window device facts) (n : ℕ) (says : Bool) (is : says ≡ is_some (place_for window n)) where
+  pub plan-fits : (order : List ObjectId) → says ≡ true → fits ≡ plan order store n
+  plan-fits order good =
+      plan-evicts store window device facts described n order []
+      (found_at_once (fits_without window facts n) (chosen facts Evictable order) says (is ∙ fits-now window facts n) good ∙ victims-searched store window device facts described n order)
+
+  -- a job without copies has nothing that could go
+  pub plan-nothing : says ≡ false → full ≡ plan [] store n
+  plan-nothing bad =
+      let none = sym (is ∙ fits-now window facts n) ∙ bad in
+      plan-full store window device facts described n []
+      (too_few (fits_without window facts n) (fits-more window facts n) [] none ∙ victims-searched store window device facts described n [])
+      (too_few (fits_without window facts n) (fits-more window facts n) [] none ∙ spilled-searched store window device facts described n [])

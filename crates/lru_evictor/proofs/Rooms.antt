@@ -1,7 +1,7 @@
 -- A plan that places the object at once makes room for it.
-use Rattle.std.proofs.Common.{◌≡◌, ℕ, ◌+◌, ◌-◌, ◌==◌, Bool, true, false, List, [], ◌∷◌, ◌++◌, Option, Some, None, refl, sym, ap, ◌∙◌, take, drop, length}
+use Rattle.std.proofs.Common.{◌≡◌, ℕ, ◌+◌, ◌-◌, ◌==◌, Bool, true, false, List, [], ◌∷◌, ◌++◌, Option, Some, None, refl, sym, ap, ◌∙◌, take}
+use Rattle.std.specs.Prelude.{nat_lt, if◌then◌else◌, unwrap_or, IfSome, IfOk, Result, Ok, Err}
 use Rattle.std.specs.Option.{option_map}
-use Rattle.std.specs.Prelude.{nat_lt, if◌then◌else◌, unwrap_or}
 use Rattle.obj_id.specs.declared.ids.ObjectId.{ObjectId}
 use Rattle.private_store.specs.Limits.{most_works}
 use Rattle.private_store.specs.Room.{Plan, full, busy, spill, shortest_from, shortest}
@@ -9,6 +9,16 @@ use Rattle.job_region.specs.Region.{Region}
 use Rattle.lru_evictor.specs.declared.facts.DeviceRoom.{DeviceRoom}
 use Rattle.lru_evictor.specs.Facts.{Looked, fits_without, device_bytes}
 use Rattle.lru_evictor.specs.Plans.{evict_here, spill_here, makes_room}
+
+-- what follows from a value that was found
+pub ok_then : {X E : Type 0} {P Q : X → Type 0} → ((x : X) → P x → Q x) → (r : Result X E) → IfOk r P → IfOk r Q
+ok_then f (Ok x) h = f x h
+ok_then f (Err e) h = tt
+
+-- of the ids, and of the list that holds them
+pub each_of : {X Y : Type 0} (f : X → Y) (P : Y → Type 0) (r : Option X) → IfSome (option_map f r) P → IfSome r (λ x. P (f x))
+each_of f P None h = h
+each_of f P (Some x) h = h
 
 module _ {X : Type 0} (test : List X → Bool) where
   passes-from : (taken xs ys : List X) → shortest_from test taken xs ≡ Some ys → test ys ≡ true
@@ -32,17 +42,13 @@ module _ (window : Region) (facts : Looked) (n : ℕ) where
   made [] fits = fits
   made (id ∷ ids) fits = fits
 
-  pub evicts_room : (start ids may : List ObjectId) → start ≡ [] → (r : Option ℕ)
-      → option_map (λ k. drop (length start) (take k ids)) r ≡ shortest (λ out. fits_without window facts n (start ++ out)) may
-      → (count : ℕ) (cut : List ObjectId) (told : Plan) → r ≡ Some count → cut ≡ take count ids → told ≡ evict_here cut → makes_room window facts n told ≡ true
-  evicts_room start ids may empty r found count cut told is first says =
-      let all = take count ids in
-      let some : shortest (λ out. fits_without window facts n (start ++ out)) may ≡ Some (drop (length start) all) = sym found ∙ ap (option_map (λ k. drop (length start) (take k ids))) is in
-      let fits : fits_without window facts n cut ≡ true =
-      ap (fits_without window facts n) first
-      ∙ (λ i. fits_without window facts n (sym empty i ++ drop (length (sym empty i)) all))
-      ∙ passes (λ out. fits_without window facts n (start ++ out)) may (drop (length start) all) some in
-      ap (makes_room window facts n) says ∙ made cut fits
+  pub evicts_room : (ids : List ObjectId) (told : Plan) → told ≡ evict_here ids → fits_without window facts n ids ≡ true → makes_room window facts n told ≡ true
+  evicts_room ids told says fits = ap (makes_room window facts n) says ∙ made ids fits
+
+  -- the copies that are found make room
+  pub victims_room : (may : List ObjectId) (r : Option (List ObjectId)) → r ≡ shortest (fits_without window facts n) may → IfSome r (λ ids. fits_without window facts n ids ≡ true)
+  victims_room may None found = tt
+  victims_room may (Some ids) found = passes (fits_without window facts n) may ids (sym found)
 
   pub spills_room : (device : DeviceRoom) (ids : List ObjectId) (told : Plan) → told ≡ spill_here device facts ids → makes_room window facts n told ≡ true
   spills_room device [] told says = ap (makes_room window facts n) says

@@ -13,17 +13,14 @@ use Rattle.obj_id.specs.Ids.{id_eq, same_id}
 use Rattle.obj_id.specs.declared.ids.ObjectId.{ObjectId}
 use Rattle.obj_id.proofs.SameIds.{same_id-id_eq, id_eq-equal, id_eq-itself}
 use Rattle.use_tree.specs.declared.choices.Choice.{Choice}
-use Rattle.use_tree.specs.declared.choices.Choices.{Choices}
+use Rattle.lru_evictor.specs.declared.facts.Standing.{Standing}
 use Rattle.use_tree.specs.declared.uses.Use.{Use}
 use Rattle.use_tree.specs.Choices.{has}
 use Rattle.use_tree.specs.Uses.{AllUses, IsRising, take_use, choose_use, either, last_chosen}
 use Rattle.lru_evictor.specs.declared.index.Place.{Place}
 use Rattle.lru_evictor.specs.Orders.{AllPass, OthersPass}
-use Rattle.lru_evictor.specs.Indexed.{use_of, chosen_ids}
+use Rattle.lru_evictor.specs.Indexed.{use_of, chosen_ids, shown}
 use Rattle.lru_evictor.proofs.CacheOrders.{filter-reverse, order-has}
-
-abbrev pub shown : List (ObjectId × Place) → List (ObjectId × Choices)
-shown es = map (λ e. (e.0, e.1.choices)) es
 
 pub keys-shown : (es : List (ObjectId × Place)) → keys_of (shown es) ≡ keys_of es
 keys-shown [] = refl
@@ -99,23 +96,23 @@ module _ (id : ObjectId) (p : Place) where
             rw t (ap (λ us. use_of e ∷ us) (use-taken es r.1 h))
       ]) h
 
-  pub use-chosen : (c : Choices) (es : List (ObjectId × Place)) → IsRising (map use_of es) → lookup (id_eq id) es ≡ Some p
-      → choose_use p.turn c (map use_of es) ≡ map use_of (set_value (id_eq id) es (record { turn = p.turn; choices = c }))
-  use-chosen c [] r h = cc
-  use-chosen c (e ∷ es) r h = (elim (id_eq id e.0) as (λ b. cond b (Some e.1) (lookup (id_eq id) es) ≡ Some p
-      → (if nat_eq p.turn e.1.turn then record (use_of e) { choices = c } ∷ map use_of es else use_of e ∷ choose_use p.turn c (map use_of es))
-      ≡ map use_of (cond b ((e.0, record { turn = p.turn; choices = c }) ∷ es) (e ∷ set_value (id_eq id) es (record { turn = p.turn; choices = c })))) [
+  pub use-chosen : (s : Standing) (es : List (ObjectId × Place)) → IsRising (map use_of es) → lookup (id_eq id) es ≡ Some p
+      → choose_use p.turn s.choices (map use_of es) ≡ map use_of (set_value (id_eq id) es (record { turn = p.turn; standing = s }))
+  use-chosen s [] r h = cc
+  use-chosen s (e ∷ es) r h = (elim (id_eq id e.0) as (λ b. cond b (Some e.1) (lookup (id_eq id) es) ≡ Some p
+      → (if nat_eq p.turn e.1.turn then record (use_of e) { choices = s.choices } ∷ map use_of es else use_of e ∷ choose_use p.turn s.choices (map use_of es))
+      ≡ map use_of (cond b ((e.0, record { turn = p.turn; standing = s }) ∷ es) (e ∷ set_value (id_eq id) es (record { turn = p.turn; standing = s })))) [
         | true ↦ λ h.
             let same = ap (λ (q : Place). q.turn) (some_is e.1 p h) in
             let t : nat_eq p.turn e.1.turn ≡ true = grind (arith, nat_tests, same) in
-            rw t (ap (λ (n : ℕ). record { turn = n; id = e.0; choices = c } ∷ map use_of es) same)
+            rw t (ap (λ (n : ℕ). record { turn = n; id = e.0; choices = s.choices } ∷ map use_of es) same)
         | false ↦ λ h.
             let lt = above_found e.1.turn es r.0 h in
             let t : nat_eq p.turn e.1.turn ≡ false = grind (arith, nat_tests, lt) in
-            rw t (ap (λ us. use_of e ∷ us) (use-chosen c es r.1 h))
+            rw t (ap (λ us. use_of e ∷ us) (use-chosen s es r.1 h))
       ]) h
 
-module _ (id : ObjectId) (test : ObjectId → Choices → Bool) where
+module _ (id : ObjectId) (test : ObjectId → Standing → Bool) where
   -- ---- what the choices of the copies pass
 
   by_eq : (x : ObjectId) → id_eq id x ≡ false → same_id id x ≡ false
@@ -142,10 +139,10 @@ module _ (id : ObjectId) (test : ObjectId → Choices → Bool) where
     | false ↦ λ t a. (h.0 (by_eq e.0 t), absent-passes es a h.1)
   ]) refl a
 
-  pub set-passes : (es : List (ObjectId × Place)) (q : Place) → IsDistinct id_eq (keys_of es) → OthersPass id test (shown es) → test id q.choices ≡ true → AllPass test (shown (set_value (id_eq id) es q))
+  pub set-passes : (es : List (ObjectId × Place)) (q : Place) → IsDistinct id_eq (keys_of es) → OthersPass id test (shown es) → test id q.standing ≡ true → AllPass test (shown (set_value (id_eq id) es q))
   set-passes [] q d h is = tt
   set-passes (e ∷ es) q d h is = (elim (id_eq id e.0) as (λ b. id_eq id e.0 ≡ b → AllPass test (shown (cond b ((e.0, q) ∷ es) (e ∷ set_value (id_eq id) es q)))) [
-    | true ↦ λ t. (ap (λ x. test x q.choices) (sym (id_eq-equal id e.0 t)) ∙ is, others-pass es (here_others e es d t) h.1)
+    | true ↦ λ t. (ap (λ x. test x q.standing) (sym (id_eq-equal id e.0 t)) ∙ is, others-pass es (here_others e es d t) h.1)
     | false ↦ λ t. (h.0 (by_eq e.0 t), set-passes es q (IsDistinct-tail id_eq e.0 (keys_of es) d) h.1 is)
   ]) refl
 
@@ -230,17 +227,17 @@ module _ (k : Choice) where
   walk-goes-on b us u r h = ap reverse (split b us u r h) ∙ reverse-append (ids_below u.turn us) (u.id ∷ [])
 
   -- all that a walk chooses are candidates
-  module _ (test : ObjectId → Choices → Bool) (chosen : ObjectId → Bool) (covered : (x : ObjectId) (c : Choices) → test x c ≡ true → chosen x ≡ true → has k c ≡ true) where
+  module _ (test : ObjectId → Standing → Bool) (chosen : ObjectId → Bool) (covered : (x : ObjectId) (c : Standing) → test x c ≡ true → chosen x ≡ true → has k c.choices ≡ true) where
     kept : (b : ℕ) (es : List (ObjectId × Place)) → AllPass test (shown es) → AllUses (λ u. u.turn < b) (map use_of es) → filter chosen (ids_below b (map use_of es)) ≡ filter chosen (keys_of (shown es))
     kept b [] c a = refl
     kept b (e ∷ es) c a =
         let t : nat_lt e.1.turn b ≡ true = grind (arith, nat_tests, a.0) in
-        rw t (by (kept b es c.1 a.1) (has k e.1.choices) refl (chosen e.0) refl)
+        rw t (by (kept b es c.1 a.1) (has k e.1.standing.choices) refl (chosen e.0) refl)
       where
-        by : filter chosen (ids_below b (map use_of es)) ≡ filter chosen (keys_of (shown es)) → (m : Bool) → has k e.1.choices ≡ m → (n : Bool) → chosen e.0 ≡ n
+        by : filter chosen (ids_below b (map use_of es)) ≡ filter chosen (keys_of (shown es)) → (m : Bool) → has k e.1.standing.choices ≡ m → (n : Bool) → chosen e.0 ≡ n
             → filter chosen (map (λ u. u.id) (cond m (use_of e ∷ filter (λ u. nat_lt u.turn b && has k u.choices) (map use_of es)) (filter (λ u. nat_lt u.turn b && has k u.choices) (map use_of es)))) ≡ filter chosen (e.0 ∷ keys_of (shown es))
         by rest true h n is = ap (λ ys. cond (chosen e.0) (e.0 ∷ ys) ys) rest
-        by rest false h true is = let no = sym h ∙ covered e.0 e.1.choices c.0 is in cc
+        by rest false h true is = let no = sym h ∙ covered e.0 e.1.standing c.0 is in cc
         by rest false h false is = rw is rest
 
     pub candidates-kept : (b : ℕ) (es : List (ObjectId × Place)) → AllPass test (shown es) → AllUses (λ u. u.turn < b) (map use_of es) → filter chosen (chosen_ids k b (map use_of es)) ≡ filter chosen (reverse (keys_of (shown es)))

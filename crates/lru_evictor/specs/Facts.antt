@@ -1,11 +1,12 @@
 -- What a plan reads of the copies, and what it makes of that.
-use Rattle.std.specs.Prelude.{◌≡◌, ℕ, ◌<◌, ◌≤◌, Bool, true, false, List, length, take, map, filter, filter_map, sum, Option, is_some}
+use Rattle.std.specs.Prelude.{ℕ, Bool, false, List, map, filter, filter_map, sum, Option, None, is_some}
 use Rattle.std.specs.Option.{option_map_or, option_and_then}
 use Rattle.obj_id.specs.declared.ids.ObjectId.{ObjectId}
 use Rattle.obj_id.specs.declared.works.Extent.{Extent}
 use Rattle.private_store.specs.Extents.{first}
 use Rattle.job_region.specs.Region.{Region, extents_of, without}
 use Rattle.lru_evictor.specs.declared.facts.CopyFacts.{CopyFacts}
+use Rattle.lru_evictor.specs.declared.facts.Standing.{Standing}
 use Rattle.use_tree.specs.declared.choices.Choice.{Choice}
 use Rattle.use_tree.specs.declared.choices.Choice.TheVariants.{Evictable, Passing, Spillable}
 use Rattle.use_tree.specs.declared.choices.Choices.{Choices}
@@ -26,9 +27,17 @@ passes_at facts choice id = option_map_or (passes choice) (facts id) false
 abbrev pub choices_of : CopyFacts → Choices
 choices_of copy = record { evictable = copy.evictable; passing = copy.passing; spillable = copy.spillable }
 
--- those that choose the copy of an id
-abbrev pub choices_at : Looked → ObjectId → Choices
-choices_at facts id = option_map_or choices_of (facts id) (record { evictable = false; passing = false; spillable = false })
+-- where a copy lies, and the walks that choose it
+abbrev pub standing_of : CopyFacts → Standing
+standing_of copy = record { extent = copy.extent; choices = choices_of copy }
+
+-- where a copy lies that isn't resident and that no walk chooses
+abbrev pub nowhere : Standing
+nowhere = record { extent = None; choices = record { evictable = false; passing = false; spillable = false } }
+
+-- that of the copy of an id
+abbrev pub standing_at : Looked → ObjectId → Standing
+standing_at facts id = option_map_or standing_of (facts id) nowhere
 
 -- the ids of an order that are chosen
 abbrev pub chosen : Looked → Choice → List ObjectId → List ObjectId
@@ -53,9 +62,3 @@ bytes_at facts id = option_map_or (λ copy. copy.bytes) (facts id) 0
 -- those that spilling these copies takes
 abbrev pub device_bytes : Looked → List ObjectId → ℕ
 device_bytes facts ids = sum (map (bytes_at facts) ids)
-
--- the first k of these copies have to go for n bytes to fit, and no more of them
-pub record AreNeeded (window : Region) (facts : Looked) (n : ℕ) (ids : List ObjectId) (k : ℕ) : Type 0 where
-  pub within : k ≤ length ids
-  pub enough : fits_without window facts n (take k ids) ≡ true
-  pub fewer : (j : ℕ) → j < k → fits_without window facts n (take j ids) ≡ false

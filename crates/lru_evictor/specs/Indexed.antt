@@ -1,27 +1,70 @@
--- The index of the uses of copies.
-use Rattle.std.specs.Prelude.{◌≡◌, ℕ, ◌&&◌, nat_lt, List, map, filter, reverse, Option, Some, None}
+-- The index of copies: their uses, and where they lie.
+use Rattle.std.specs.Prelude.{◌≡◌, ℕ, ◌&&◌, not, nat_lt, Bool, true, List, [], ◌∷◌, map, filter, reverse, Option, Some, None}
+use Rattle.std.specs.Option.{option_map_or}
+use Rattle.std.specs.Map.{lookup, set_value}
 use Rattle.obj_id.specs.declared.ids.ObjectId.{ObjectId}
+use Rattle.obj_id.specs.Ids.{id_eq}
 use Rattle.use_tree.specs.declared.uses.Use.{Use}
 use Rattle.use_tree.specs.declared.choices.Choice.{Choice}
 use Rattle.use_tree.specs.Choices.{has}
+use Rattle.extent_tree.specs.declared.residents.Resident.{Resident}
+use Rattle.extent_tree.specs.Residents.{put_resident, has_resident}
+use Rattle.lru_evictor.specs.declared.facts.Standing.{Standing}
 use Rattle.lru_evictor.specs.declared.index.Place.{Place}
-use Rattle.lru_evictor.specs.declared.candidates.Found.{Found}
-use Rattle.lru_evictor.specs.declared.candidates.Found.TheVariants.{Indexed, All}
 
 -- the last use of a copy
 abbrev pub use_of : ObjectId × Place → Use
-use_of e = record { turn = e.1.turn; id = e.0; choices = e.1.choices }
+use_of e = record { turn = e.1.turn; id = e.0; choices = e.1.standing.choices }
 
--- an index, if there is one, has the uses of all copies
-abbrev pub IsIndexed : Option (List Use × ℕ) → List (ObjectId × Place) → Type 0
+-- with a copy where it lies, if it is resident
+abbrev pub spread_one : Standing → List Resident → List Resident
+spread_one s xs = option_map_or (λ e. put_resident (record { extent = e; choices = s.choices }) xs) s.extent xs
+
+-- resident copies by rising offset
+abbrev pub spread : List (ObjectId × Place) → List Resident
+spread [] = []
+spread (e ∷ es) = spread_one e.1.standing (spread es)
+
+-- whether nothing lies where the copy begins
+abbrev pub is_clear : Standing → List Resident → Bool
+is_clear s xs = option_map_or (λ e. not (has_resident e.offset xs)) s.extent true
+
+-- no two copies begin at one offset
+abbrev pub AreApart : List (ObjectId × Place) → Type 0
+AreApart [] = Unit {0}
+AreApart (e ∷ es) = (is_clear e.1.standing (spread es) ≡ true) × AreApart es
+
+-- the residents of copies of which one that stood so stands so now
+abbrev pub Stands : Standing → Standing → List Resident → List Resident → Type 0
+Stands before after old new = (id : ObjectId) (turn next : ℕ) (es : List (ObjectId × Place)) → lookup (id_eq id) es ≡ Some (record { turn = turn; standing = before })
+    → old ≡ spread es → AreApart es
+    → (new ≡ spread (set_value (id_eq id) es (record { turn = next; standing = after }))) × AreApart (set_value (id_eq id) es (record { turn = next; standing = after }))
+
+-- what an index shows: uses by rising turn, how many turns are left, and residents by rising offset
+abbrev pub Listed : Type 0
+Listed = List Use × ℕ × List Resident
+
+-- an index has the uses of all copies, and where each lies
+pub record IsOf (es : List (ObjectId × Place)) (index : Listed) : Type 0 where
+  pub uses : index.0 ≡ map use_of es
+  pub residents : index.2 ≡ spread es
+  pub apart : AreApart es
+
+-- an index, if there is one
+abbrev pub IsIndexed : Option Listed → List (ObjectId × Place) → Type 0
 IsIndexed None es = Unit {0}
-IsIndexed (Some p) es = p.0 ≡ map use_of es
+IsIndexed (Some index) es = IsOf es index
 
 -- the ids of the uses of turns below b whose copies a walk chooses, the latest last
 abbrev pub chosen_ids : Choice → ℕ → List Use → List ObjectId
 chosen_ids k b us = reverse (map (λ u. u.id) (filter (λ u. nat_lt u.turn b && has k u.choices) us))
 
--- the ids that are left of a walk's candidates
-abbrev pub candidates_left : Found → List ObjectId
-candidates_left (Indexed index choice below) = chosen_ids choice below index.now.0
-candidates_left (All order) = order
+-- ids with their standings, as an order shows them
+abbrev pub shown : List (ObjectId × Place) → List (ObjectId × Standing)
+shown es = map (λ e. (e.0, e.1.standing)) es
+
+-- an index is that of an order
+pub record HasIndex (index : Listed) (order : List (ObjectId × Standing)) : Type 0 where
+  pub entries : List (ObjectId × Place)
+  pub is : shown entries ≡ order
+  pub index_of : IsOf entries index

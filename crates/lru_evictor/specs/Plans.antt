@@ -1,12 +1,12 @@
 -- The plan for room, and the stores that a caller's window, device and copies describe.
-use Rattle.std.specs.Prelude.{◌≡◌, ◌↔◌, ℕ, ◌+◌, ◌-◌, ◌==◌, nat_lt, Bool, true, if◌then◌else◌, IsTrue, List, [], ◌∷◌, length, take, filter_map, Contains, Some}
+use Rattle.std.specs.Prelude.{◌≡◌, ◌↔◌, ℕ, ◌+◌, ◌-◌, ◌==◌, nat_lt, Bool, true, if◌then◌else◌, IsTrue, List, [], ◌∷◌, length, take, filter_map, Contains, Some, is_some}
 use Rattle.std.specs.Option.{option_map}
 use Rattle.std.specs.FinMap.{is_sorted}
 use Rattle.obj_id.specs.declared.ids.ObjectId.{ObjectId}
 use Rattle.obj_id.specs.declared.works.Extent.{Extent}
 use Rattle.obj_id.specs.Ids.{id_cmp}
 use Rattle.private_store.specs.Limits.{most_works}
-use Rattle.private_store.specs.Tables.{at}
+use Rattle.private_store.specs.Tables.{at, is_among}
 use Rattle.private_store.specs.Extents.{rounded}
 use Rattle.private_store.specs.Shape.{Copy, Shape}
 use Rattle.private_store.specs.Copies.{extent_of, is_evictable, is_passing, is_spillable, device_used}
@@ -21,7 +21,9 @@ use Rattle.lru_evictor.specs.declared.facts.Plan.TheVariants as found
 use Rattle.lru_evictor.specs.declared.facts.RoomFound.{RoomFound}
 use Rattle.lru_evictor.specs.declared.facts.RoomFound.TheVariants as room
 use Rattle.lru_evictor.specs.declared.facts.Vacancy.{Vacancy}
-use Rattle.lru_evictor.specs.Facts.{Looked, device_bytes, gone_of, fits_without}
+use Rattle.lru_evictor.specs.declared.facts.Standing.{Standing}
+use Rattle.lru_evictor.specs.Facts.{Looked, standing_at, device_bytes, gone_of, fits_without}
+use Rattle.lru_evictor.specs.Orders.{ids_of, AllPass, same_standing}
 
 -- the plan as the rule of room has it
 abbrev pub shown : Found → Plan
@@ -59,6 +61,11 @@ pub record IsDescribed (store : Shape) (window : Region) (device : DeviceRoom) (
   pub device_quota : device.quota ≡ store.quota.device
   pub used : device.used ≡ device_used store
   pub works : device.works ≡ length store.works
+
+-- an order has each copy that there is, with its standing
+pub record IsOfCopies (order : List (ObjectId × Standing)) (facts : Looked) : Type 0 where
+  pub standings : AllPass (λ id s. same_standing s (standing_at facts id)) order
+  pub listed : (id : ObjectId) → is_some (facts id) ≡ true → is_among (ids_of order) id ≡ true
 
 -- the plan that evicts these copies, if there are any
 abbrev pub evict_here : List ObjectId → Plan

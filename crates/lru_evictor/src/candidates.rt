@@ -5,61 +5,39 @@ ghost use Rattle.std.specs.Map.Iter.{TakesFirst};
 ghost use Rattle.lru_evictor.specs.Indexed.{chosen_ids};
 
 use crate::index::Index;
-use crate::use_order::Order;
 use obj_id::ObjectId;
 use std::marker::Model;
 use use_tree::Choice;
 
-/// How a walk's candidates are found.
-#[derive(Drop)]
-enum Found<'a> {
-    /// By the index: those whose copies the walk chooses and that have a turn below this one.
-    Indexed {
-        index: &'a Index,
-        choice: Choice,
-        below: u64,
-    },
-    /// All are.
-    All(Order<'a>),
-}
-
-/// The ids that a walk for room goes over, from the least recently used on. A contract sees those that are left.
+/// The ids whose copies a walk for room chooses, from the least recently used on. A contract sees those that are left.
 #[derive(Drop)]
 pub(crate) struct Candidates<'a> {
-    found: Found<'a>,
+    index: &'a Index,
+    choice: Choice,
+    // they have a turn below this one
+    below: u64,
 }
 
 impl<'a> Model for Candidates<'a> {
     ghost use Rattle.std.specs.Prelude.{List};
     ghost use Rattle.obj_id.specs.declared.ids.ObjectId.{ObjectId};
-    ghost use Rattle.lru_evictor.specs.Indexed.{candidates_left};
+    ghost use Rattle.lru_evictor.specs.Indexed.{chosen_ids};
 
     ghost Value = { List ObjectId };
 
-    ghost view = { λ c. candidates_left c.found };
+    ghost view = { λ c. chosen_ids c.choice c.below c.index.now.0 };
 }
 
 impl<'a> Candidates<'a> {
-    /// Those of the index whose copies the walk chooses.
+    /// Those of the index.
     pub(crate) fn chosen(index: &'a Index, choice: Choice) -> Candidates<'a>
         ensures ids { result ≡ chosen_ids choice 4611686018427387904 index.now.0 }
         ensures all { AllUses (λ u. u.turn < 4611686018427387904) index.now.0 }
     {
         Candidates {
-            found: Found::Indexed {
-                index,
-                choice,
-                below: index.end(),
-            },
-        }
-    }
-
-    /// All of the order.
-    pub(crate) fn all(order: Order<'a>) -> Candidates<'a>
-        ensures { result ≡ order.entry }
-    {
-        Candidates {
-            found: Found::All(order),
+            index,
+            choice,
+            below: index.end(),
         }
     }
 }
@@ -76,14 +54,7 @@ impl<'a> Iterator for Candidates<'a> {
     ghost remaining = { λ s. at_most (length s) };
 
     fn next(&mut self) -> Option<ObjectId> {
-        match &mut self.found {
-            Found::Indexed {
-                index,
-                choice,
-                below,
-            } => next_chosen(index, *choice, below),
-            Found::All(order) => order.next(),
-        }
+        next_chosen(self.index, self.choice, &mut self.below)
     }
 }
 

@@ -1,10 +1,31 @@
 //! What a plan for room reads, and what it may be.
-ghost use Rattle.std.specs.Prelude.{◌≡◌, Option};
+ghost use Rattle.std.specs.Prelude.{◌≡◌, Option, None, true, false};
 ghost use Rattle.obj_id.specs.declared.ids.ObjectId.{ObjectId};
-ghost use Rattle.lru_evictor.specs.Facts.{passes, choices_of};
+ghost use Rattle.lru_evictor.specs.Facts.{passes, standing_of};
 
 use obj_id::{Extent, Items, ObjectId};
 use use_tree::{Choice, Choices};
+
+/// Where a copy lies, and the walks for room that choose it.
+#[derive(Clone, Copy, Debug, PartialEq, Eq)]
+pub struct Standing {
+    /// Where it lies in the window, if it is resident.
+    pub extent: Option<Extent>,
+    /// The walks that choose it.
+    pub choices: Choices,
+}
+
+impl Standing {
+    /// That of a copy that lies nowhere, and that no walk chooses.
+    pub fn nowhere() -> Standing
+        ensures { result ≡ record { extent = None; choices = record { evictable = false; passing = false; spillable = false } } }
+    {
+        Standing {
+            extent: None,
+            choices: Choices::none(),
+        }
+    }
+}
 
 /// What the plan reads of a copy.
 #[derive(Clone, Copy, Debug)]
@@ -22,14 +43,17 @@ pub struct CopyFacts {
 }
 
 impl CopyFacts {
-    /// The walks for room that choose the copy.
-    pub fn choices(self) -> Choices
-        ensures { result ≡ choices_of self }
+    /// Where the copy lies, and the walks for room that choose it.
+    pub fn standing(self) -> Standing
+        ensures { result ≡ standing_of self }
     {
-        Choices {
-            evictable: self.evictable,
-            passing: self.passing,
-            spillable: self.spillable,
+        Standing {
+            extent: self.extent,
+            choices: Choices {
+                evictable: self.evictable,
+                passing: self.passing,
+                spillable: self.spillable,
+            },
         }
     }
 }
@@ -108,4 +132,18 @@ pub(crate) fn is_chosen(choice: Choice, facts: CopyFacts) -> bool
         Choice::Passing => facts.passing,
         Choice::Spillable => facts.spillable,
     }
+}
+
+/// Whether these are the same.
+pub(crate) fn are_same(a: Standing, b: Standing) -> bool
+    ensures { result ≡ true → a ≡ b }
+{
+    a == b
+}
+
+/// Whether these are the same bytes.
+pub(crate) fn is_same_extent(a: Extent, b: Extent) -> bool
+    ensures { result ≡ true → a ≡ b }
+{
+    a == b
 }

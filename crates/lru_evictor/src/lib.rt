@@ -3,6 +3,7 @@
 //! which it looks up one at a time.
 #![tactic(auto)]
 
+mod area;
 mod candidates;
 mod facts;
 mod index;
@@ -12,8 +13,8 @@ mod plans;
 mod search;
 mod use_order;
 
-pub use facts::{CopyFacts, CopyLookup, DeviceRoom, Plan, RoomFound, Vacancy};
+pub use facts::{CopyFacts, CopyLookup, DeviceRoom, Plan, RoomFound, Standing, Vacancy};
 pub use laws::orders_follow_the_steps;
 pub use search::extents_by_offset;
 pub use use_order::{Order, UseOrder};
-pub use use_tree::{Choice, Choices};
+pub use use_tree::Choices;

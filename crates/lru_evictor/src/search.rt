@@ -1,17 +1,18 @@
 //! The shortest beginning of a walk without which the bytes fit.
-ghost use Rattle.std.specs.Prelude.{◌≡◌, ◌+◌, ◌-◌, ◌<◌, ◌≤◌, ◌++◌, take, drop, length, nat_lt, true, false, IfOk, OnOk, IfSome, IfNone};
+ghost use Rattle.std.specs.Prelude.{◌≡◌, ◌-◌, ◌≤◌, take, length, true, false, IfOk, OnOk, IfSome, IfNone};
 ghost use Rattle.std.specs.Option.{option_map};
 ghost use Rattle.std.specs.List.Sorted.{IsPermutation, IsNonDecreasingBy};
 ghost use Rattle.obj_id.specs.declared.works.Extent.{Extent};
 ghost use Rattle.private_store.specs.Room.{shortest as shortest_beginning};
 ghost use Rattle.lru_evictor.specs.declared.search.Leaving.{Leaving};
-ghost use Rattle.lru_evictor.specs.Facts.{chosen, passes_at, extent_at, gone_of, fits_without as is_room_without, device_bytes, AreNeeded};
+ghost use Rattle.lru_evictor.specs.Facts.{chosen, passes_at, extent_at, gone_of};
+ghost use Rattle.lru_evictor.specs.Areas.{fits_without as is_room_without, AreEnough, AreMore};
 ghost use Rattle.lru_evictor.specs.Leavings.{leaving_of as all_leaving, firsts, fits_first as is_room_first};
 
+use crate::area::Area;
 use crate::candidates::Candidates;
-use crate::facts::{CopyLookup, DeviceRoom, is_chosen};
-use job_region::Window;
-use obj_id::{Extent, ObjectId, Refusal};
+use crate::facts::{CopyLookup, is_chosen};
+use obj_id::{Extent, ObjectId};
 use std::alloc::{AllocError, Global};
 use use_tree::Choice;
 
@@ -23,23 +24,6 @@ fn chooses<C: CopyLookup>(choice: Choice, copies: &C, id: &ObjectId) -> bool
         Some(facts) => is_chosen(choice, facts),
         None => false,
     }
-}
-
-/// Adds the ids of a walk that are chosen, in its order.
-pub(crate) fn gather<C: CopyLookup>(
-    candidates: Candidates<'_>,
-    choice: Choice,
-    copies: &C,
-    ids: &mut Vec<ObjectId>,
-) -> Result<(), AllocError>
-    ensures { OnOk result (ids.new.items ≡ ids.old.items ++ chosen (C.facts copies.now) choice candidates.entry) }
-{
-    for id in candidates {
-        if chooses(choice, copies, &id) {
-            ids.push(id)?;
-        }
-    }
-    Ok(())
 }
 
 /// Where the copy of the id lies, if there is one and it is resident.
@@ -87,20 +71,6 @@ fn sort_extents(extents: &mut Vec<Extent>) -> Result<(), AllocError>
 {
     extents.sort_by_key(|e| e.offset)?;
     Ok(())
-}
-
-/// Whether so many bytes would fit if these copies were not there.
-fn fits_without<C: CopyLookup>(
-    alloc: Global,
-    window: &Window,
-    copies: &C,
-    ids: &[ObjectId],
-    len: u32,
-) -> Result<bool, AllocError>
-    ensures { IfOk result (λ b. b ≡ is_room_without window.now (C.facts copies.now) len ids.now) }
-{
-    let gone = extents_by_offset(alloc, copies, ids)?;
-    Ok(window.fits_without(&gone, len).is_some())
 }
 
 /// The extent of a copy that may go, and the copy's place in the order in which they go.
@@ -158,23 +128,23 @@ fn first_extents(
 /// Whether so many bytes would fit if the first `count` copies were not there. Takes no look-up and no sort.
 fn fits_first(
     alloc: Global,
-    window: &Window,
+    area: Area<'_>,
     leaving: &[Leaving],
     count: usize,
     len: u32,
 ) -> Result<bool, AllocError>
     requires { IsNonDecreasingBy (λ (l : Leaving). l.extent.offset) leaving.now }
-    ensures { IfOk result (λ b. b ≡ is_room_first window.now len leaving.now count) }
+    ensures { IfOk result (λ b. b ≡ is_room_first area.entry len leaving.now count) }
 {
     let gone = first_extents(alloc, leaving, count)?;
-    Ok(window.fits_without(&gone, len).is_some())
+    Ok(area.fits_without(&gone, len))
 }
 
 /// How many copies have to go for so many bytes to fit, if the first `few` are too few and the first
 /// `enough` are enough. Takes a test for each time that the distance is halved.
 fn bisect(
     alloc: Global,
-    window: &Window,
+    area: Area<'_>,
     leaving: &[Leaving],
     few: usize,
     enough: usize,
@@ -182,14 +152,14 @@ fn bisect(
 ) -> Result<usize, AllocError>
     requires by_offset { IsNonDecreasingBy (λ (l : Leaving). l.extent.offset) leaving.now }
     requires rising { few ≤ enough }
-    requires few { is_room_first window.now len leaving.now few ≡ false }
-    requires enough { is_room_first window.now len leaving.now enough ≡ true }
-    ensures { IfOk result (λ k. (k ≤ enough) × (is_room_first window.now len leaving.now k ≡ true) × (is_room_first window.now len leaving.now (k - 1) ≡ false)) }
+    requires few { is_room_first area len leaving.now few ≡ false }
+    requires enough { is_room_first area len leaving.now enough ≡ true }
+    ensures { IfOk result (λ k. (k ≤ enough) × (is_room_first area.entry len leaving.now k ≡ true) × (is_room_first area.entry len leaving.now (k - 1) ≡ false)) }
 {
     let (mut few, mut enough) = (few, enough);
     while enough - few > 1 {
         let middle = few + (enough - few) / 2;
-        if fits_first(alloc, window, leaving, middle, len)? {
+        if fits_first(alloc, area, leaving, middle, len)? {
             enough = middle;
         } else {
             few = middle;
@@ -202,31 +172,30 @@ fn bisect(
 /// `None` if all of them are. Takes one look-up for each and one sort, however many tests it takes.
 fn needed<C: CopyLookup>(
     alloc: Global,
-    window: &Window,
+    area: Area<'_>,
     copies: &C,
-    ids: &Vec<ObjectId>,
+    ids: &[ObjectId],
     few: usize,
     len: u32,
 ) -> Result<Option<usize>, AllocError>
-    requires within { few ≤ length ids.now.items }
-    requires few { is_room_without window.now (C.facts copies.now) len (take few ids.now.items) ≡ false }
-    ensures found { IfOk result (λ r. IfSome r (AreNeeded window.now (C.facts copies.now) len ids.now.items)) }
-    ensures none { IfOk result (λ r. IfNone r (is_room_without window.now (C.facts copies.now) len ids.now.items ≡ false)) }
+    requires within { few ≤ length ids.now }
+    requires few { is_room_without area (C.facts copies.now) len (take few ids.now) ≡ false }
+    ensures found { IfOk result (λ r. IfSome r (AreEnough area.entry (C.facts copies.now) len ids.now)) }
+    ensures none { IfOk result (λ r. IfNone r (is_room_without area.entry (C.facts copies.now) len ids.now ≡ false)) }
 {
     let mut leaving = leaving_of(alloc, copies, ids)?;
     sort_leaving(&mut leaving)?;
     let all = ids.len();
-    if fits_first(alloc, window, &leaving, all, len)? {
-        let count = bisect(alloc, window, &leaving, few, all, len)?;
+    if fits_first(alloc, area, &leaving, all, len)? {
+        let count = bisect(alloc, area, &leaving, few, all, len)?;
         Ok(Some(count))
     } else {
         Ok(None)
     }
 }
 
-/// How many of the copies in `ids`, and of those that the walk chooses after them, have to go for so
-/// many bytes to fit, if those in `ids` go in any case; `None` if all of them are too few. The
-/// walk goes as far as it must, and what it chose stands after the others in `ids`.
+/// The shortest beginning of the copies that the walk chooses without which so many bytes fit; `None` if all of them are too
+/// few. It is that if no bytes that fit without some copies fail to fit without more of them.
 ///
 /// Looks at one chosen copy, two, four and so on, each time with one look-up of each and one sort, and if these
 /// are enough finds how many are by bisection, which takes neither.
@@ -234,21 +203,18 @@ pub(crate) fn shortest<C: CopyLookup>(
     alloc: Global,
     candidates: Candidates<'_>,
     choice: Choice,
-    window: &Window,
+    area: Area<'_>,
     copies: &C,
     len: u32,
-    ids: &mut Vec<ObjectId>,
-) -> Result<Option<usize>, AllocError>
-    ensures found { IfOk result (λ r. option_map (λ k. drop (length ids.old.items) (take k ids.new.items)) r
-        ≡ shortest_beginning (λ out. is_room_without window.now (C.facts copies.now) len (ids.old.items ++ out)) (chosen (C.facts copies.now) choice candidates.entry)) }
-    ensures within { IfOk result (λ r. IfSome r (λ k. (length ids.old.items ≤ k) × (k ≤ length ids.new.items))) }
-    ensures all { IfOk result (λ r. IfNone r (ids.new.items ≡ ids.old.items ++ chosen (C.facts copies.now) choice candidates.entry)) }
+) -> Result<Option<Vec<ObjectId>>, AllocError>
+    ensures { IfOk result (λ r. AreMore (is_room_without area.entry (C.facts copies.now) len)
+        → option_map (λ v. v.items) r ≡ shortest_beginning (is_room_without area.entry (C.facts copies.now) len) (chosen (C.facts copies.now) choice candidates.entry)) }
 {
-    let always = ids.len();
-    if fits_without(alloc, window, copies, ids, len)? {
-        return Ok(Some(always));
+    let mut ids = Vec::new(alloc);
+    if area.fits_without(&[], len) {
+        return Ok(Some(ids));
     }
-    let mut few = always;
+    let mut few = 0;
     // How many more are chosen before the next test.
     let mut left = 1;
     for id in candidates {
@@ -258,13 +224,23 @@ pub(crate) fn shortest<C: CopyLookup>(
         ids.push(id)?;
         left -= 1;
         if left == 0 {
-            if let Some(count) = needed(alloc, window, copies, ids, few, len)? {
-                return Ok(Some(count));
+            if let Some(count) = needed(alloc, area, copies, &ids, few, len)? {
+                ids.truncate(count);
+                return Ok(Some(ids));
             }
             few = ids.len();
-            left = few - always;
+            left = few;
         }
     }
-    let count = needed(alloc, window, copies, ids, few, len)?;
-    Ok(count)
+    let count = needed(alloc, area, copies, &ids, few, len)?;
+    Ok(beginning(ids, count))
+}
+
+/// The first so many of these.
+fn beginning(ids: Vec<ObjectId>, count: Option<usize>) -> Option<Vec<ObjectId>>
+    ensures { option_map (λ v. v.items) result ≡ option_map (λ k. take k ids.items) count }
+{
+    let mut ids = ids;
+    ids.truncate(count?);
+    Some(ids)
 }

@@ -1,38 +1,47 @@
 //! The order of use of one job's copies.
-ghost use Rattle.std.specs.Prelude.{◌≡◌, Bool, ◌++◌, ◌∷◌, [], true, filter, IfOk, OnOk, OnErr, IsOk, length, reverse};
+ghost use Rattle.std.specs.Prelude.{◌≡◌, Bool, ◌++◌, ◌∷◌, [], true, Some, IfOk, OnOk, OnErr, IsOk, length, reverse};
 ghost use Rattle.std.specs.Map.{keys_of};
 ghost use Rattle.obj_id.specs.declared.refusals.Refusal.{Refusal};
 ghost use Rattle.obj_id.specs.declared.ids.ObjectId.{ObjectId};
 ghost use Rattle.private_store.specs.Tables.{is_among};
-ghost use Rattle.use_tree.specs.declared.choices.Choices.{Choices};
-ghost use Rattle.use_tree.specs.Choices.{has};
+ghost use Rattle.lru_evictor.specs.declared.facts.Standing.{Standing};
+ghost use Rattle.lru_evictor.specs.Facts.{nowhere};
 ghost use Rattle.lru_evictor.specs.Orders.{ids_of, without_id, last_used, touched, AllPass, OthersPass};
 
-use crate::candidates::Candidates;
+use crate::facts::Standing;
 use crate::index::Place;
 use crate::job_order::JobOrder;
+use extent_tree::{Resident, Room};
 use lru::Iter;
 use obj_id::{ObjectId, Refusal};
 use std::alloc::Global;
 use std::marker::Model;
-use use_tree::{Choice, Choices};
 
-/// The order of use of one job's copies. A contract sees their ids, most recently used first, each with the walks for room
-/// that may choose its copy.
-#[derive(Drop)]
+/// The order of use of one job's copies. A contract sees their ids, most recently used first, each with its copy's standing:
+/// where it lies, and the walks for room that choose it.
 pub struct UseOrder {
     alloc: Global,
     // Made with the job's first copy and dropped with its last: a job without copies takes no memory.
-    cache: Option<JobOrder>,
+    pub(crate) cache: Option<JobOrder>,
+}
+
+// By hand, so that it is proved here and not in each crate above.
+impl Drop for UseOrder {
+    fn drop(self) {
+        let UseOrder {
+            alloc: _alloc,
+            cache: _cache,
+        } = self;
+    }
 }
 
 impl Model for UseOrder {
     ghost use Rattle.std.specs.Prelude.{List, []};
     ghost use Rattle.std.specs.Option.{unwrap_or};
     ghost use Rattle.obj_id.specs.declared.ids.ObjectId.{ObjectId};
-    ghost use Rattle.use_tree.specs.declared.choices.Choices.{Choices};
+    ghost use Rattle.lru_evictor.specs.declared.facts.Standing.{Standing};
 
-    ghost Value = { List (ObjectId × Choices) };
+    ghost Value = { List (ObjectId × Standing) };
 
     ghost view = { λ o. unwrap_or o.cache [] };
 }
@@ -45,51 +54,66 @@ impl UseOrder {
         UseOrder { alloc, cache: None }
     }
 
-    /// Makes the id the most recently used, whether or not it was there; these walks may choose its copy. `NoMemory` alone, and
-    /// then nothing has changed; an id that is there takes no memory.
-    pub fn enter(&mut self, id: ObjectId, choices: Choices) -> Result<(), Refusal>
+    /// Makes the id the most recently used, whether or not it was there; its copy lies nowhere, and no walk chooses it.
+    /// `NoMemory` alone, and then nothing has changed; an id that is there takes no memory.
+    pub fn enter(&mut self, id: ObjectId) -> Result<(), Refusal>
         ensures ids { OnOk result (ids_of self.new ≡ last_used id (ids_of self.old)) }
-        ensures choices { OnOk result ((test : ObjectId → Choices → Bool) → OthersPass id test self.old → test id choices ≡ true → AllPass test self.new) }
+        ensures standings { OnOk result ((test : ObjectId → Standing → Bool) → OthersPass id test self.old → test id nowhere ≡ true → AllPass test self.new) }
         ensures succeeds { is_among (ids_of self.old) id ≡ true → IsOk result }
         ensures err { OnErr result (self.new ≡ self.old) }
         ensures memory { (r : Refusal) → result ≡ Err r → r ≡ Refusal.NoMemory }
     {
         match &mut self.cache {
-            Some(order) => order.enter(self.alloc, id, choices)?,
+            Some(order) => order.enter(self.alloc, id)?,
             None => {
-                let order = JobOrder::first(self.alloc, id, choices)?;
+                let order = JobOrder::first(self.alloc, id)?;
                 self.cache = Some(order);
             }
         }
         Ok(())
     }
 
-    /// Makes the id the most recently used, if it is there; these walks may choose its copy. Takes no memory.
-    pub fn touch(&mut self, id: ObjectId, choices: Choices)
+    /// Makes the id the most recently used, if it is there, with this standing of its copy. Takes no memory.
+    pub fn touch(&mut self, id: ObjectId, standing: Standing)
         ensures ids { ids_of self.new ≡ touched id (ids_of self.old) }
-        ensures choices { (test : ObjectId → Choices → Bool) → OthersPass id test self.old → test id choices ≡ true → AllPass test self.new }
+        ensures standings { (test : ObjectId → Standing → Bool) → OthersPass id test self.old → test id standing ≡ true → AllPass test self.new }
     {
         let Some(order) = &mut self.cache else {
             return;
         };
-        order.touch(id, choices);
+        order.touch(id, standing);
     }
 
-    /// These walks may choose the copy of the id, if it is there. Takes no memory.
-    pub fn choose(&mut self, id: &ObjectId, choices: Choices)
+    /// The copy of the id stands so, if it is in the order: it lies where it lay, or nowhere any more. Takes no memory.
+    ///
+    /// A copy that comes to lie somewhere is told by `settle`. If it is told here, the order can make no plans any more until
+    /// the job has no copy.
+    pub fn choose(&mut self, id: &ObjectId, standing: Standing)
         ensures ids { ids_of self.new ≡ ids_of self.old }
-        ensures choices { (test : ObjectId → Choices → Bool) → OthersPass id.now test self.old → test id.now choices ≡ true → AllPass test self.new }
+        ensures standings { (test : ObjectId → Standing → Bool) → OthersPass id.now test self.old → test id.now standing ≡ true → AllPass test self.new }
     {
         let Some(order) = &mut self.cache else {
             return;
         };
-        order.choose(id, choices);
+        order.choose(id, standing);
+    }
+
+    /// The copy of the id, which lay nowhere, lies there, if it is in the order, and these walks choose it. Uses the room, and
+    /// takes no memory.
+    pub fn settle(&mut self, room: Room, id: &ObjectId, resident: Resident)
+        ensures ids { ids_of self.new ≡ ids_of self.old }
+        ensures standings { (test : ObjectId → Standing → Bool) → OthersPass id.now test self.old → test id.now (record { extent = Some resident.extent; choices = resident.choices }) ≡ true → AllPass test self.new }
+    {
+        let Some(order) = &mut self.cache else {
+            return;
+        };
+        order.settle(room, id, resident);
     }
 
     /// Takes the id out, if it is there. Takes no memory.
     pub fn forget(&mut self, id: ObjectId)
         ensures ids { ids_of self.new ≡ without_id id (ids_of self.old) }
-        ensures choices { (test : ObjectId → Choices → Bool) → OthersPass id test self.old → AllPass test self.new }
+        ensures standings { (test : ObjectId → Standing → Bool) → OthersPass id test self.old → AllPass test self.new }
     {
         let Some(order) = &mut self.cache else {
             return;
@@ -117,16 +141,6 @@ impl UseOrder {
         match &self.cache {
             Some(order) => order.order(),
             None => Order::none(),
-        }
-    }
-
-    /// The ids whose copies the walk may choose, from the least recently used on, and perhaps others between. Takes no memory.
-    pub(crate) fn candidates(&self, choice: Choice) -> Candidates<'_>
-        ensures { (test : ObjectId → Choices → Bool) (chosen : ObjectId → Bool) → AllPass test self.now → ((x : ObjectId) (c : Choices) → test x c ≡ true → chosen x ≡ true → has choice c ≡ true) → filter chosen result ≡ filter chosen (ids_of self.now) }
-    {
-        match &self.cache {
-            Some(order) => order.candidates(choice),
-            None => Candidates::all(Order::none()),
         }
     }
 }

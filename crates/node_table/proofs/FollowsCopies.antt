@@ -1,21 +1,28 @@
 -- What changes of copies leave, and an order of use that follows them.
-use Rattle.std.proofs.Common.{◌≡◌, Bool, true, false, not, ◌&&◌, ◌||◌, List, [], ◌∷◌, Option, Some, None, refl, sym, ap, ◌∙◌, cond}
+use Rattle.std.proofs.Common.{◌≡◌, ℕ, nat_eq, Bool, true, false, not, ◌&&◌, ◌||◌, List, [], ◌∷◌, ◌++◌, Option, Some, None, refl, sym, ap, subst, ◌∙◌, cond, arith}
 use Rattle.std.specs.Prelude.{if◌then◌else◌}
 use Rattle.std.specs.Map.{keys_of}
-use Rattle.std.specs.Option.{option_map, option_map_or}
+use Rattle.std.specs.Option.{option_map, option_map_or, option_and_then}
+use Rattle.std.proofs.lemmas.Bool.Decides.{nat_tests}
+use Rattle.std.proofs.lemmas.List.{append-nil}
+use Rattle.std.proofs.lemmas.List.Folds.{list_any-append}
 use Rattle.obj_id.specs.declared.ids.ObjectId.{ObjectId}
+use Rattle.obj_id.specs.declared.works.Extent.{Extent}
 use Rattle.obj_id.specs.Ids.{same_id}
-use Rattle.obj_id.proofs.SameIds.{same_id-not_back}
+use Rattle.obj_id.proofs.SameIds.{same_id-itself, same_id-not_back}
 use Rattle.private_store.specs.Tables.{ById, at, with_entry, without_entry, is_among}
+use Rattle.private_store.specs.Copies.{extent_of}
 use Rattle.private_store.proofs.Rows.{at-put, at-drop}
-use Rattle.use_tree.specs.declared.choices.Choices.{Choices}
-use Rattle.lru_evictor.specs.Facts.{choices_of, choices_at}
-use Rattle.lru_evictor.specs.Orders.{AllPass, OthersPass, covers}
+use Rattle.private_store.proofs.Tests.{none_some}
+use Rattle.lru_evictor.specs.declared.facts.Standing.{Standing}
+use Rattle.lru_evictor.specs.Facts.{standing_of, nowhere, standing_at}
+use Rattle.lru_evictor.specs.Orders.{AllPass, OthersPass, same_bool, same_extent, same_standing}
 use Rattle.node_table.specs.Kept.{Kept, unplaced}
 use Rattle.node_table.specs.RoomPlans.{facts_of}
 use Rattle.node_table.specs.Entries.{by_rising_id, changed, each_changed}
 use Rattle.node_table.specs.Evicting.{has_secondary, evicted_one, all_evicted}
-use Rattle.node_table.specs.Followed.{facts_in, is_followed, AreFollowed, AreFollowedBut, SameBut, SameButThese}
+use Rattle.node_table.specs.Followed.{facts_in, is_followed, AreFollowed, AreFollowedBut, SameBut, SameButThese, NoneIsGone}
+use Rattle.node_table.specs.Row.{place_of}
 use Rattle.node_table.proofs.Changes.{changed-found, changed-absent}
 
 -- ---- changes of one copy
@@ -68,47 +75,82 @@ evicted_but ids before after is x apart = ap (λ t. at t x) is ∙ by ids before
 
 -- ---- the order after them
 
-covers_itself : (c : Choices) → covers c c ≡ true
-covers_itself c = by c.evictable c.passing c.spillable
-  where
-    either : (a : Bool) → not a || a ≡ true
-    either true = refl
-    either false = refl
+same_number : (n : ℕ) → nat_eq n n ≡ true
+same_number n = grind (arith, nat_tests)
 
-    by : (a b d : Bool) → (not a || a) && ((not b || b) && (not d || d)) ≡ true
-    by a b d = rw (either a, either b, either d) refl
+same_flag : (b : Bool) → same_bool b b ≡ true
+same_flag true = refl
+same_flag false = refl
 
-pub is_followed-itself : (copies : ById Kept) (id : ObjectId) (c : Choices) → c ≡ choices_at (facts_in copies) id → is_followed copies id c ≡ true
-is_followed-itself copies id c is = ap (λ d. covers d (choices_at (facts_in copies) id)) is ∙ covers_itself (choices_at (facts_in copies) id)
+same_place : (o : Option Extent) → same_extent o o ≡ true
+same_place None = refl
+same_place (Some e) = λ i. same_number e.offset i && same_number e.length i
 
-pub same_followed : (before after : ById Kept) (x : ObjectId) (c : Choices) → at after x ≡ at before x → is_followed before x c ≡ true → is_followed after x c ≡ true
-same_followed before after x c same h = ap (λ o. covers c (option_map_or choices_of (option_map facts_of o) (record { evictable = false; passing = false; spillable = false }))) same ∙ h
+same_itself : (s : Standing) → same_standing s s ≡ true
+same_itself s = λ i. same_place s.extent i && (same_flag s.choices.evictable i && (same_flag s.choices.passing i && same_flag s.choices.spillable i))
 
-pub others_followed : (id : ObjectId) (before after : ById Kept) → SameBut id before after → (order : List (ObjectId × Choices)) → AreFollowed before order → OthersPass id (is_followed after) order
-others_followed id before after same [] h = tt
-others_followed id before after same (e ∷ es) h = (λ apart. same_followed before after e.0 e.1 (same e.0 (same_id-not_back id e.0 apart)) h.0, others_followed id before after same es h.1)
+pub standing_found : (copies : ById Kept) (id : ObjectId) (k : Kept) → at copies id ≡ Some k → standing_at (facts_in copies) id ≡ standing_of (facts_of k)
+standing_found copies id k found = ap (λ o. option_map_or standing_of (option_map facts_of o) nowhere) found
+
+pub is_followed-itself : (copies : ById Kept) (id : ObjectId) (s : Standing) → s ≡ standing_at (facts_in copies) id → is_followed copies id s ≡ true
+is_followed-itself copies id s is = ap (λ t. same_standing t (standing_at (facts_in copies) id)) is ∙ same_itself (standing_at (facts_in copies) id)
+
+same_followed : (before after : ById Kept) (x : ObjectId) (s : Standing) → at after x ≡ at before x → is_followed before x s ≡ true → is_followed after x s ≡ true
+same_followed before after x s same h = ap (λ o. same_standing s (option_map_or standing_of (option_map facts_of o) nowhere)) same ∙ h
 
 -- what holds whatever the id
-pub all_others : (id : ObjectId) (test : ObjectId → Choices → Bool) (order : List (ObjectId × Choices)) → AllPass test order → OthersPass id test order
+pub all_others : (id : ObjectId) (test : ObjectId → Standing → Bool) (order : List (ObjectId × Standing)) → AllPass test order → OthersPass id test order
 all_others id test [] h = tt
 all_others id test (e ∷ es) h = (λ apart. h.0, all_others id test es h.1)
 
-pub these_followed : (ids : List ObjectId) (before after : ById Kept) → SameButThese ids before after → (order : List (ObjectId × Choices)) → AreFollowed before order → AreFollowedBut ids after order
-these_followed ids before after same [] h = tt
-these_followed ids before after same (e ∷ es) h = (by (is_among ids e.0) refl, these_followed ids before after same es h.1)
+pub others_still : (id : ObjectId) (before after : ById Kept) → SameBut id before after → (order : List (ObjectId × Standing)) → OthersPass id (is_followed before) order → OthersPass id (is_followed after) order
+others_still id before after same [] h = tt
+others_still id before after same (e ∷ es) h = (λ apart. same_followed before after e.0 e.1 (same e.0 (same_id-not_back id e.0 apart)) (h.0 apart), others_still id before after same es h.1)
+
+pub others_followed : (id : ObjectId) (before after : ById Kept) → SameBut id before after → (order : List (ObjectId × Standing)) → AreFollowed before order → OthersPass id (is_followed after) order
+others_followed id before after same order h = others_still id before after same order (all_others id (is_followed before) order h)
+
+pub these_followed : (ids spared : List ObjectId) (before after : ById Kept) → SameButThese ids before after → (order : List (ObjectId × Standing)) → AreFollowedBut spared before order → AreFollowedBut (ids ++ spared) after order
+these_followed ids spared before after same [] h = tt
+these_followed ids spared before after same (e ∷ es) h =
+    (ap (λ b. b || is_followed after e.0 e.1) (list_any-append (same_id e.0) ids spared) ∙ by (is_among ids e.0) refl (is_among spared e.0) h.0, these_followed ids spared before after same es h.1)
   where
-    by : (b : Bool) → is_among ids e.0 ≡ b → is_among ids e.0 || is_followed after e.0 e.1 ≡ true
-    by true t = ap (λ b. b || is_followed after e.0 e.1) t
-    by false t = ap (λ b. b || is_followed after e.0 e.1) t ∙ same_followed before after e.0 e.1 (same e.0 t) h.0
+    by : (b : Bool) → is_among ids e.0 ≡ b → (s : Bool) → s || is_followed before e.0 e.1 ≡ true → (b || s) || is_followed after e.0 e.1 ≡ true
+    by true t s k = refl
+    by false t true k = refl
+    by false t false k = same_followed before after e.0 e.1 (same e.0 t) k
 
 -- one of them is looked at
-pub next_followed : (id : ObjectId) (ids : List ObjectId) (copies : ById Kept) (order : List (ObjectId × Choices)) → AreFollowedBut (id ∷ ids) copies order → OthersPass id (λ x c. is_among ids x || is_followed copies x c) order
+pub next_followed : (id : ObjectId) (ids : List ObjectId) (copies : ById Kept) (order : List (ObjectId × Standing)) → AreFollowedBut (id ∷ ids) copies order → OthersPass id (λ x s. is_among ids x || is_followed copies x s) order
 next_followed id ids copies [] h = tt
 next_followed id ids copies (e ∷ es) h =
     (λ apart. ap (λ b. (b || is_among ids e.0) || is_followed copies e.0 e.1) (sym (same_id-not_back id e.0 apart)) ∙ h.0, next_followed id ids copies es h.1)
 
-pub here_followed : (ids : List ObjectId) (copies : ById Kept) (id : ObjectId) (c : Choices) → c ≡ choices_at (facts_in copies) id → is_among ids id || is_followed copies id c ≡ true
-here_followed ids copies id c is = elim (is_among ids id) as (λ b. b || is_followed copies id c ≡ true) [ true ↦ refl | false ↦ is_followed-itself copies id c is ]
+pub here_followed : (ids : List ObjectId) (copies : ById Kept) (id : ObjectId) (s : Standing) → s ≡ standing_at (facts_in copies) id → is_among ids id || is_followed copies id s ≡ true
+here_followed ids copies id s is = elim (is_among ids id) as (λ b. b || is_followed copies id s ≡ true) [ true ↦ refl | false ↦ is_followed-itself copies id s is ]
+
+-- ---- one copy that the order isn't told of yet
+
+pub one_followed : (id : ObjectId) (before after : ById Kept) → SameBut id before after → (order : List (ObjectId × Standing)) → AreFollowed before order → AreFollowedBut (id ∷ []) after order
+one_followed id before after same order h = these_followed (id ∷ []) [] before after (λ x apart. same x (more (same_id x id) false apart).0) order h
+
+-- it was used, and lies nowhere as far as the order knows
+pub entered_followed : (id : ObjectId) (before after : ById Kept) → SameBut id before after → (order new : List (ObjectId × Standing))
+    → ((test : ObjectId → Standing → Bool) → OthersPass id test order → test id nowhere ≡ true → AllPass test new) → AreFollowed before order → AreFollowedBut (id ∷ []) after new
+entered_followed id before after same order new entered h =
+    entered (λ x s. is_among (id ∷ []) x || is_followed after x s) (all_others id (λ x s. is_among (id ∷ []) x || is_followed after x s) order (one_followed id before after same order h))
+    (ap (λ b. (b || false) || is_followed after id nowhere) (same_id-itself id))
+
+extent_there : (copies : ById Kept) (id : ObjectId) → (standing_at (facts_in copies) id).extent ≡ place_of copies id
+extent_there copies id = by (at copies id)
+  where
+    by : (o : Option Kept) → (option_map_or standing_of (option_map facts_of o) nowhere).extent ≡ option_and_then (λ kept. extent_of kept.copy) o
+    by None = refl
+    by (Some k) = refl
+
+-- it is told now
+pub placed_followed : (copies : ById Kept) (id : ObjectId) (e : Extent) (s : Standing) → s ≡ standing_at (facts_in copies) id → place_of copies id ≡ Some e → is_followed copies id (record { extent = Some e; choices = s.choices }) ≡ true
+placed_followed copies id e s is lies = is_followed-itself copies id (record { extent = Some e; choices = s.choices }) (λ i. record { extent = (sym lies ∙ sym (extent_there copies id)) i; choices = (is i).choices })
 
 -- ---- all copies
 
@@ -118,10 +160,17 @@ absent (e ∷ es) x h =
     let both = more (same_id x e.0) (is_among (keys_of es) x) h in
     at-put (by_rising_id es) e.0 e.1 x ∙ ap (λ b. cond b (Some e.1) (at (by_rising_id es) x)) both.0 ∙ absent es x both.1
 
-pub all_followed : (es : List (ObjectId × Kept)) (order : List (ObjectId × Choices)) → AreFollowedBut (keys_of es) (by_rising_id es) order
-all_followed es [] = tt
-all_followed es (e ∷ rest) = (by (is_among (keys_of es) e.0) refl, all_followed es rest)
+pub all_followed : (es : List (ObjectId × Kept)) (before now : ById Kept) → by_rising_id es ≡ now → NoneIsGone before now → (order : List (ObjectId × Standing)) → AreFollowed before order → AreFollowedBut (keys_of es) now order
+all_followed es before now seen none order h =
+    subst (λ ids. AreFollowedBut ids now order) (append-nil (keys_of es)) (these_followed (keys_of es) [] before now same order h)
   where
-    by : (b : Bool) → is_among (keys_of es) e.0 ≡ b → is_among (keys_of es) e.0 || is_followed (by_rising_id es) e.0 e.1 ≡ true
-    by true t = ap (λ b. b || is_followed (by_rising_id es) e.0 e.1) t
-    by false t = ap (λ b. b || is_followed (by_rising_id es) e.0 e.1) t ∙ ap (λ o. covers e.1 (option_map_or choices_of (option_map facts_of o) (record { evictable = false; passing = false; spillable = false }))) (absent es e.0 t)
+    same : SameButThese (keys_of es) before now
+    same x apart = let gone : at now x ≡ None = ap (λ t. at t x) (sym seen) ∙ absent es x apart in gone ∙ sym (none x gone)
+
+-- where each was changed
+pub none_gone : (f : ObjectId → Kept → Kept) (before after : ById Kept) → ((x : ObjectId) → at after x ≡ option_map (f x) (at before x)) → NoneIsGone before after
+none_gone f before after is x gone = by (at before x) (sym (is x) ∙ gone)
+  where
+    by : (o : Option Kept) → option_map (f x) o ≡ None → o ≡ None
+    by None e = refl
+    by (Some k) e = none_some (f x k) (sym e)

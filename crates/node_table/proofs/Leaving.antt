@@ -84,7 +84,7 @@ module _ {X : Type 0} (f : X → X) where
       ∙ turns-above (ids_of es) (e.0, f e.1) es (below-ids e.0 es (and_left (below_all id_cmp e.0 es) _ h))
       ∙ ap (λ t. (e.0, f e.1) ∷ t) (turns-all es (and_right (below_all id_cmp e.0 es) _ h))
 
-  at-all : (es : ById X) (q : ObjectId) → at (all_changed f es) q ≡ option_map f (at es q)
+  pub at-all : (es : ById X) (q : ObjectId) → at (all_changed f es) q ≡ option_map f (at es q)
   at-all [] q = refl
   at-all (e ∷ es) q = by (same_id q e.0) (at-all es q)
     where

@@ -1,5 +1,5 @@
 -- The plan for room in a row's window, from the plan of the rule of room.
-use Rattle.std.proofs.Common.{◌≡◌, ℕ, ◌+◌, ◌<◌, ◌≤◌, Bool, true, false, not, cond, ◌==◌, List, [], ◌∷◌, ◌++◌, fold, length, take, Option, Some, None, is_some, refl, sym, ap, subst, ◌∙◌, arith}
+use Rattle.std.proofs.Common.{◌≡◌, ℕ, ◌+◌, ◌<◌, ◌≤◌, Bool, true, false, not, cond, ◌==◌, List, [], ◌∷◌, ◌++◌, fold, length, take, Option, Some, None, option_map, is_some, refl, sym, ap, subst, ◌∙◌, arith}
 use Rattle.std.specs.Prelude.{nat_lt}
 use Rattle.std.specs.List.{list_all}
 use Rattle.std.proofs.lemmas.Bool.Decides.{nat_tests}
@@ -11,7 +11,7 @@ use Rattle.obj_id.specs.declared.refusals.Refusal.TheVariants.{BadSize, Full, Pe
 use Rattle.obj_id.specs.Ids.{same_id}
 use Rattle.obj_id.proofs.SameIds.{same_id-itself}
 use Rattle.private_store.specs.Limits.{has_numbers}
-use Rattle.private_store.specs.Tables.{ById, is_among}
+use Rattle.private_store.specs.Tables.{ById, at, is_among}
 use Rattle.private_store.specs.Extents.{is_size, first}
 use Rattle.private_store.specs.Shape.{Shape}
 use Rattle.private_store.specs.Copies.{is_evictable, is_passing, is_spillable, device_used}
@@ -21,17 +21,20 @@ use Rattle.private_store.specs.Room.{Plan, fits, wait, full, busy, evict, spill,
 use Rattle.private_store.proofs.KeptLists.{count-take}
 use Rattle.private_store.proofs.KeptPlan.{AreChosen, fewer_chosen, shortest_chosen}
 use Rattle.private_store.proofs.RefusingLemmas.{victims_make_room}
-use Rattle.private_store.proofs.Tests.{both, or_left, or_right}
+use Rattle.private_store.proofs.Tests.{both, or_left, or_right, true_false}
 use Rattle.job_region.specs.Region.{Region, extents_of, place_for, place_check, without}
 use Rattle.lru_evictor.specs.declared.facts.DeviceRoom.{DeviceRoom}
 use Rattle.lru_evictor.specs.declared.facts.Plan.{Plan as Found}
-use Rattle.lru_evictor.specs.Plans.{IsDescribed, shown}
+use Rattle.lru_evictor.specs.declared.facts.Standing.{Standing}
+use Rattle.lru_evictor.specs.Orders.{ids_of}
+use Rattle.lru_evictor.specs.Plans.{IsDescribed, IsOfCopies, shown}
 use Rattle.lru_evictor.proofs.Described.{fits-described}
 use Rattle.spill_work.specs.Line.{WorkLine, works_of, in_flight, used_by}
 use Rattle.node_table.specs.Kept.{Kept}
 use Rattle.node_table.specs.Row.{Row, Beside, shape_of, place_of, ArePlaced}
 use Rattle.node_table.specs.Shown.{IsShown}
-use Rattle.node_table.specs.RoomPlans.{IsPlanned, MakesPlace, plan_by}
+use Rattle.node_table.specs.Followed.{AreFollowed}
+use Rattle.node_table.specs.RoomPlans.{IsPlanned, MakesPlace, plan_by, facts_of}
 use Rattle.node_table.specs.Usages.{total, device_bytes}
 use Rattle.node_table.proofs.Telling.{device_is}
 use Rattle.node_table.specs.declared.room.RoomPlan.{RoomPlan}
@@ -137,6 +140,17 @@ module _ (row : Row) (beside : Beside) (contents : Contents) (h : IsShown row be
 
   pub planned : IsPlanned (make_room row.order s n) s n (plan_by s.works_asked s.spill_failed (plan row.order s n))
   planned = plan_done row.order h.kept.order s n
+
+  -- the order of use has each copy as it stands
+  pub of_copies : (copies : ById Kept) → copies ≡ row.copies → (order : List (ObjectId × Standing)) → ids_of order ≡ row.order → AreFollowed row.copies order → IsOfCopies order (facts_at copies)
+  of_copies copies same order own followed = record {
+    standings = subst (λ t. AreFollowed t order) (sym same) followed;
+    listed = λ id some. ap (λ ids. is_among ids id) own ∙ by id (at copies id) (ap (λ t. at t id) (sym same)) some;
+  }
+    where
+      by : (id : ObjectId) (o : Option Kept) → at row.copies id ≡ o → is_some (option_map facts_of o) ≡ true → is_among row.order id ≡ true
+      by id None found some = true_false some
+      by id (Some k) found some = h.listed id k found
 
   pub place_planned : place_check row.window n ≡ None → IsPlanned (make_room row.order s n) s n (Place [])
   place_planned none =

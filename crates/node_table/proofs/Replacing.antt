@@ -233,7 +233,7 @@ module _ (es : ById Kept) (placed : List (ℕ × List ℕ)) (h : ArePlaced place
       by None found lies = none_some e lies
       by (Some y) found lies = of y (stands q y found) lies
 
-  new_lies : place_of es_now id ≡ Some new
+  pub new_lies : place_of es_now id ≡ Some new
   new_lies = ap (option_and_then (λ (k : Kept). extent_of k.copy)) id_now ∙ lies_there
 
   old_lies : (q : ObjectId) (e : Extent) → is_among victims q ≡ false → place_of es q ≡ Some e → place_of es_now q ≡ Some e

@@ -6,7 +6,7 @@ use Rattle.obj_id.specs.declared.works.DeviceKey.{DeviceKey}
 use Rattle.private_store.specs.Tables.{ById, at, without_entry}
 use Rattle.private_store.specs.Private.{key_of}
 use Rattle.job_region.specs.Region.{without}
-use Rattle.lru_evictor.specs.Facts.{choices_of}
+use Rattle.lru_evictor.specs.Facts.{standing_of}
 use Rattle.lru_evictor.specs.Orders.{without_id}
 use Rattle.node_table.specs.declared.copy.Released.{Released}
 use Rattle.node_table.specs.Entries.{changed}
@@ -33,7 +33,7 @@ is_over_at copies id = option_map_or is_over (at copies id) false
 
 -- what is told of a copy once a hold of it was given up
 abbrev pub released_of : Kept → Released
-released_of kept = record { choices = choices_of (facts_of kept); over = is_over kept }
+released_of kept = record { standing = standing_of (facts_of kept); over = is_over kept }
 
 -- the row after the copy was looked at
 abbrev pub settled_row : Row → ObjectId → Row

@@ -5,19 +5,24 @@ use Rattle.obj_id.specs.declared.ids.ObjectId.{ObjectId}
 use Rattle.obj_id.specs.declared.refusals.Refusal.{Refusal}
 use Rattle.obj_id.specs.declared.refusals.Refusal.TheVariants.{NoMemory}
 use Rattle.private_store.specs.Tables.{ById, at}
+use Rattle.lru_evictor.specs.Facts.{standing_of, standing_at}
 use Rattle.lru_evictor.specs.Orders.{touched}
+use Rattle.node_table.specs.declared.copy.Held.{Held}
 use Rattle.node_table.specs.Checks.{hold_check_of}
 use Rattle.node_table.specs.Entries.{changed}
+use Rattle.node_table.specs.Followed.{facts_in}
 use Rattle.node_table.specs.Kept.{Kept, is_ready, held}
+use Rattle.node_table.specs.RoomPlans.{facts_of}
 use Rattle.node_table.specs.Row.{Row}
 
 -- ---- of one copy
 
--- the copy is ready, and has one more hold: n is its length
-pub record IsHeld (old : Kept) (session n : ℕ) (new : Kept) : Type 0 where
+-- the copy is ready, and has one more hold: this is told of it
+pub record IsHeld (old : Kept) (session : ℕ) (told : Held) (new : Kept) : Type 0 where
   pub ready : is_ready old.copy ≡ true
   pub passed : hold_check_of old ≡ None
-  pub length : n ≡ old.copy.length
+  pub length : told.length ≡ old.copy.length
+  pub standing : told.standing ≡ standing_of (facts_of new)
   pub copy : new ≡ held session old
 
 -- it isn't ready
@@ -34,12 +39,13 @@ pub record IsHoldRefused (old : Kept) (r : Refusal) (new : Kept) : Type 0 where
 
 -- ---- of the copies of a job, where the one of an id is meant
 
-pub record IsHeldAt (old : ById Kept) (session : ℕ) (id : ObjectId) (n : ℕ) (new : ById Kept) : Type 0 where
+pub record IsHeldAt (old : ById Kept) (session : ℕ) (id : ObjectId) (told : Held) (new : ById Kept) : Type 0 where
   pub kept : Kept
   pub found : at old id ≡ Some kept
   pub ready : is_ready kept.copy ≡ true
   pub passed : hold_check_of kept ≡ None
-  pub length : n ≡ kept.copy.length
+  pub length : told.length ≡ kept.copy.length
+  pub standing : told.standing ≡ standing_at (facts_in new) id
   pub copies : new ≡ changed (held session) old id
 
 -- it isn't there, or isn't ready
@@ -55,7 +61,7 @@ pub record IsHoldRefusedAt (old : ById Kept) (id : ObjectId) (r : Refusal) (new 
   pub late : r ≡ NoMemory → hold_check_of kept ≡ None
   pub same : new ≡ old
 
--- ---- of a row: the copy is its most recently used one as well
+-- ---- of a row: the copy is its most recently used one as well, and n is its length
 
 pub record IsRowHeld (old : Row) (session : ℕ) (id : ObjectId) (n : ℕ) (new : Row) : Type 0 where
   pub kept : Kept

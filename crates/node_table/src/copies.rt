@@ -1,7 +1,7 @@
 //! The copies of a job, by their ids.
 ghost use Rattle.std.specs.Option.{option_copied, option_map_or, option_and_then};
 ghost use Rattle.std.specs.Borrow.{MutBor};
-ghost use Rattle.private_store.specs.Tables.{at, with_entry, without_entry};
+ghost use Rattle.private_store.specs.Tables.{ById, at, with_entry, without_entry};
 ghost use Rattle.node_table.specs.Entries.{changed, all_changed, each_changed};
 ghost use Rattle.node_table.specs.Kept.{released, left, sealed, spilling_if, unpinned, borrowed, given_up, doomed, marked, Kept, fault_told, unplaced, placed_for, CanAwait, written, restored, lost};
 ghost use Rattle.private_store.specs.Copies.{is_created, in_scope};
@@ -19,15 +19,15 @@ ghost use Rattle.std.specs.Prelude.{◌≡◌, ◌≢◌, ◌<◌, ◌^◌, [], 
 ghost use Rattle.node_table.specs.Usages.{item_of, total, is_spilling, window_bytes as window_bytes_lem, device_bytes as device_bytes_lem, doomed_one};
 ghost use Rattle.private_store.specs.Kept.{is_fetching};
 ghost use Rattle.node_table.specs.Row.{copies_of};
-ghost use Rattle.node_table.specs.Followed.{facts_in, AreFollowed};
-ghost use Rattle.lru_evictor.specs.Facts.{choices_at};
+ghost use Rattle.node_table.specs.Followed.{facts_in, AreFollowed, NoneIsGone};
+ghost use Rattle.lru_evictor.specs.Facts.{standing_at};
 ghost use Rattle.lru_evictor.specs.Orders.{ids_of};
 ghost use Rattle.node_table.specs.Arriving.{located, asks, fills, lacks_only, gap_closed, brought, unfetched};
 
-use crate::copy::{Awaited, Released, RowCopy};
+use crate::copy::{Awaited, Held, Released, RowCopy};
 use crate::taken::{Taken, to_u64};
 use indexmap::IndexMap;
-use lru_evictor::{Choices, UseOrder};
+use lru_evictor::{Standing, UseOrder};
 use obj_id::{Digest, DirectoryMessage, Items, Location, ObjectId, OwnItem, Refusal, TaskNo};
 use plain_store::{PlainCopy, copies_by_id};
 use private_store::{Fault, FetchFault};
@@ -130,23 +130,24 @@ impl Copies {
         to_u64(self.taken.device)
     }
 
-    /// The walks for room that choose the copy of the id; none if there is no copy.
-    pub fn choices(&self, id: &ObjectId) -> Choices
-        ensures { result ≡ choices_at (facts_in self.now) id.now }
+    /// Where the copy of the id lies, and the walks for room that choose it; nowhere and none if there is no copy.
+    pub fn standing(&self, id: &ObjectId) -> Standing
+        ensures { result ≡ standing_at (facts_in self.now) id.now }
     {
         let Some(copy) = self.get(id) else {
-            return Choices::none();
+            return Standing::nowhere();
         };
-        copy.facts().choices()
+        copy.facts().standing()
     }
 
-    /// The order of use has the walks for room that choose each of them. Takes a walk over them, and no memory.
+    /// After changes of any of them, where none is gone, and each lies where it lay, or nowhere any more: the order of use
+    /// follows. Takes a walk over them, and no memory.
     pub fn follow_all(&self, order: &mut UseOrder)
         ensures ids { ids_of order.new ≡ ids_of order.old }
-        ensures choices { AreFollowed self.now order.new }
+        ensures standings { (before : ById Kept) → NoneIsGone before self.now → AreFollowed before order.old → AreFollowed self.now order.new }
     {
         for (id, _) in &self.by_id {
-            order.choose(id, self.choices(id));
+            order.choose(id, self.standing(id));
         }
     }
 
@@ -245,10 +246,10 @@ impl Copies {
         }
     }
 
-    /// One more hold of the session on the copy, if it is there, sealed and not doomed, and its length in bytes. `None`
+    /// One more hold of the session on the copy, if it is there, sealed and not doomed, and what the copy is then. `None`
     /// if it isn't. `TooMany` at 64 holds, `NoMemory` last; a refusal changes nothing.
-    pub fn hold(&mut self, id: &ObjectId, session: u32) -> Result<Option<u32>, Refusal>
-        ensures some { IfOk result (λ o. IfSome o (λ n. IsHeldAt self.old session id.now n self.new)) }
+    pub fn hold(&mut self, id: &ObjectId, session: u32) -> Result<Option<Held>, Refusal>
+        ensures some { IfOk result (λ o. IfSome o (λ held. IsHeldAt self.old session id.now held self.new)) }
         ensures none { IfOk result (λ o. IfNone o (IsUnreadyAt self.old id.now self.new)) }
         ensures refused { IfErr result (λ r. IsHoldRefusedAt self.old id.now r self.new) }
     {
@@ -262,7 +263,7 @@ impl Copies {
     /// changes nothing. Takes no memory.
     pub fn release(&mut self, id: &ObjectId, session: u32) -> Result<Released, Refusal>
         ensures ok { OnOk result (self.new ≡ changed (released session) self.old id.now) }
-        ensures choices { IfOk result (λ r. r.choices ≡ choices_at (facts_in (changed (released session) self.old id.now)) id.now) }
+        ensures standing { IfOk result (λ r. r.standing ≡ standing_at (facts_in (changed (released session) self.old id.now)) id.now) }
         ensures over { IfOk result (λ r. r.over ≡ is_over_at (changed (released session) self.old id.now) id.now) }
         ensures passed { IsOk result → release_check self.old session id.now ≡ None }
         ensures refused { (r : Refusal) → IsErrOf result r → release_check self.old session id.now ≡ Some r }

@@ -25,7 +25,7 @@ ghost use Rattle.node_table.specs.Serving.{was_sealed_with as was_sealed_with_le
 ghost use Rattle.node_table.specs.Arriving.{awaits_source, located, asks, fills, lacks_only, gap_closed, brought, unfetched};
 
 use fetch_core::{FetchIn, Stage};
-use lru_evictor::{Choices, CopyFacts};
+use lru_evictor::{CopyFacts, Standing};
 use obj_id::{
     CopyState, Digest, DirectoryMessage, Extent, Kind, Location, ObjectId, Refusal, TaskNo,
     WorkKind,
@@ -69,11 +69,20 @@ impl Model for RowCopy {
     ghost invariant = { λ c. Agrees c.marks c.pins c.offset c.fetch };
 }
 
+/// A copy after one more hold of it.
+#[derive(Clone, Copy, Drop)]
+pub struct Held {
+    /// The object's bytes.
+    pub length: u32,
+    /// Where it lies, and the walks for room that choose it now.
+    pub standing: Standing,
+}
+
 /// A copy after a hold of it was given up.
 #[derive(Clone, Copy, Drop)]
 pub struct Released {
-    /// The walks for room that choose it now.
-    pub choices: Choices,
+    /// Where it lies, and the walks for room that choose it now.
+    pub standing: Standing,
     /// Whether nothing keeps it any more: it is doomed, and neither held nor granted nor working.
     pub over: bool,
 }
@@ -292,10 +301,10 @@ impl RowCopy {
         self.pins.holds_of(session)
     }
 
-    /// One more hold of the session, if it is sealed and not doomed, and its length in bytes. `None` if it isn't, and
+    /// One more hold of the session, if it is sealed and not doomed, and what the copy is then. `None` if it isn't, and
     /// then nothing changes. `TooMany` at 64 holds of all sessions, `NoMemory` last; a refusal changes nothing.
-    pub fn hold(&mut self, session: u32) -> Result<Option<u32>, Refusal>
-        ensures some { IfOk result (λ o. IfSome o (λ n. IsHeld self.old session n self.new)) }
+    pub fn hold(&mut self, session: u32) -> Result<Option<Held>, Refusal>
+        ensures some { IfOk result (λ o. IfSome o (λ held. IsHeld self.old session held self.new)) }
         ensures none { IfOk result (λ o. IfNone o (IsUnready self.old self.new)) }
         ensures refused { IfErr result (λ r. IsHoldRefused self.old r self.new) }
     {
@@ -303,7 +312,10 @@ impl RowCopy {
             return Ok(None);
         }
         self.pins.hold(session)?;
-        Ok(Some(self.length()))
+        Ok(Some(Held {
+            length: self.length(),
+            standing: self.facts().standing(),
+        }))
     }
 
     /// One hold of the session less, and what the copy is then. `NotHeld` if it has none, and then nothing changes. Takes
@@ -317,7 +329,7 @@ impl RowCopy {
     {
         self.pins.release(session)?;
         Ok(Released {
-            choices: self.facts().choices(),
+            standing: self.facts().standing(),
             over: self.is_over(),
         })
     }

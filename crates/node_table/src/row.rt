@@ -31,10 +31,11 @@ ghost use Rattle.node_table.specs.Arriving.{located, gap_closed, brought, unfetc
 
 use crate::copies::Copies;
 use crate::copy::{Awaited, RowCopy};
-use crate::following::{follow, follow_each, forget_missing};
+use crate::following::{evict_for, follow, follow_each};
+use extent_tree::Room;
 use indexmap::IndexSet;
 use job_region::Window;
-use lru_evictor::{Choices, UseOrder, extents_by_offset};
+use lru_evictor::{UseOrder, extents_by_offset};
 use obj_id::{
     DeviceKey, Digest, Extent, Items, JobNo, Kind, Location, ObjectId, Quota, Refusal, TaskNo,
 };
@@ -44,7 +45,6 @@ use std::marker::Model;
 
 /// What a node keeps of one live job. A contract sees the job's store without contents in it, and the
 /// contents that it shows.
-#[derive(Drop)]
 pub struct JobRow {
     job: JobNo,
     window: Window,
@@ -58,6 +58,22 @@ pub struct JobRow {
     spill_failed: bool,
     // in the order in which they ended
     ended_tasks: IndexSet<TaskNo>,
+}
+
+// By hand, so that it is proved here and not in each crate above.
+impl Drop for JobRow {
+    fn drop(self) {
+        let JobRow {
+            job: _job,
+            window: _window,
+            device: _device,
+            copies: _copies,
+            order: _order,
+            fetches_begun: _fetches_begun,
+            spill_failed: _spill_failed,
+            ended_tasks: _ended_tasks,
+        } = self;
+    }
 }
 
 impl Model for JobRow {
@@ -157,10 +173,10 @@ impl JobRow {
         self.device
     }
 
-    /// The order of use of its copies, with the walks for room that choose them.
+    /// The order of use of its copies, with where each lies and the walks for room that choose it.
     pub(crate) fn use_order(&self) -> &UseOrder
         ensures ids { ids_of result.now ≡ self.now.order }
-        ensures choices { AreFollowed self.now.copies result.now }
+        ensures standings { AreFollowed self.now.copies result.now }
     {
         &self.order
     }
@@ -220,12 +236,11 @@ impl JobRow {
         ensures refused { IfErr result (λ r. IsHoldRefusedAt self.old.copies id.now r self.new.copies) }
         ensures err { OnErr result (self.new ≡ self.old) }
     {
-        let held = self.copies.hold(id, session)?;
-        if held.is_some() {
-            // no walk chooses what is held
-            self.order.touch(*id, Choices::none());
-        }
-        Ok(held)
+        let Some(held) = self.copies.hold(id, session)? else {
+            return Ok(None);
+        };
+        self.order.touch(*id, held.standing);
+        Ok(Some(held.length))
     }
 
     /// The last number that a fetch had.
@@ -309,8 +324,7 @@ impl JobRow {
         ensures err { OnErr result (self.new ≡ self.old) }
     {
         self.copies.insert(*id, RowCopy::fetching(alloc, number))?;
-        let choices = self.copies.choices(id);
-        if self.order.enter(*id, choices).is_err() {
+        if self.order.enter(*id).is_err() {
             self.copies.remove(id);
             return Err(Refusal::NoMemory);
         }
@@ -341,10 +355,11 @@ impl JobRow {
         let Some(offset) = self.window.fits_without(&gone, len) else {
             unreachable!()
         };
+        let room = Room::new(alloc)?;
         self.copies
             .insert(*id, RowCopy::created(alloc, kind, len, offset))?;
-        let choices = self.copies.choices(id);
-        if self.order.enter(*id, choices).is_err() {
+        // it lies nowhere, as far as the order knows, until the victims have gone
+        if self.order.enter(*id).is_err() {
             self.copies.remove(id);
             return Err(Refusal::NoMemory);
         }
@@ -355,9 +370,7 @@ impl JobRow {
                 Err(Refusal::NoMemory)
             }
             Ok(extent) => {
-                self.copies.evict_all(victims);
-                follow_each(&mut self.order, &self.copies, victims);
-                forget_missing(&mut self.order, &self.copies, victims);
+                evict_for(&mut self.order, &mut self.copies, victims, id, room, extent);
                 Ok(extent)
             }
         }
@@ -382,14 +395,12 @@ impl JobRow {
         ensures err { OnErr result (self.new ≡ self.old) }
     {
         let gone = extents_by_offset(alloc, &self.copies, victims)?;
+        let room = Room::new(alloc)?;
         match self.window.replace(alloc, &gone, len) {
             Err(_) => Err(Refusal::NoMemory),
             Ok(extent) => {
                 self.copies.take_place(id, extent.offset, awaited);
-                follow(&mut self.order, &self.copies, id);
-                self.copies.evict_all(victims);
-                follow_each(&mut self.order, &self.copies, victims);
-                forget_missing(&mut self.order, &self.copies, victims);
+                evict_for(&mut self.order, &mut self.copies, victims, id, room, extent);
                 Ok(extent)
             }
         }
@@ -499,7 +510,7 @@ impl JobRow {
         ensures err { OnErr result (self.new ≡ self.old) }
     {
         let released = self.copies.release(id, session)?;
-        self.order.choose(id, released.choices);
+        self.order.choose(id, released.standing);
         Ok(released.over)
     }
 

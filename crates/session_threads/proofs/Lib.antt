@@ -1,3 +1,4 @@
+mod ExtentsCross
 mod OrdersCross
 mod Crossing
 mod SmallLists

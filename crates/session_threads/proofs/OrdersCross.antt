@@ -22,6 +22,7 @@ use Rattle.lru_evictor.proofs.index.Place.TheSendSync.{the_send as place_send}
 use Rattle.lru_evictor.specs.contracts.index.Index as Index
 use Rattle.lru_evictor.specs.contracts.job_order.JobOrder as JobOrder
 use Rattle.lru_evictor.specs.contracts.use_order.UseOrder as UseOrder
+use Rattle.session_threads.proofs.ExtentsCross.{residents_send}
 
 layer_sends : (i : block.the_members) → Sends knot.ring i
 layer_sends block.member-Tree = record { send = λ h s. variants_send (knot.type-Tree (h block.member-Node)) (tt, ((as_row_send (row_field (Box.the_row (h block.member-Node) Heap.the_row ghosts)) (Box-send (h block.member-Node) (s block.member-Node)), tt), tt)) }
@@ -43,7 +44,7 @@ uses_send : IsSend Uses.the_row
 uses_send = search (uses_inside_send, sendable)
 
 index_send : IsSend Index.the_row
-index_send = search (uses_send, sendable, crosses) depth 40
+index_send = search (uses_send, residents_send, sendable, crosses) depth 40
 
 job_order_send : IsSend JobOrder.the_row
 job_order_send = search (cache_send, id_send, place_send, index_send, sendable, crosses) depth 40

@@ -42,9 +42,15 @@ struct Node {
 }
 
 /// Room for one use, so that adding it takes no memory.
-#[derive(Drop)]
 pub struct Room {
     node: Box<Node>,
+}
+
+// By hand, so that it is proved here and not in each crate above.
+impl Drop for Room {
+    fn drop(self) {
+        let Room { node: _node } = self;
+    }
 }
 
 impl Room {
@@ -61,12 +67,24 @@ impl Room {
             node: Box::new(alloc, node)?,
         })
     }
+
+    /// The memory.
+    fn into_node(self) -> Box<Node> {
+        let Room { node } = self;
+        node
+    }
 }
 
 /// Uses by rising turn, the latest first.
-#[derive(Drop)]
 pub struct Uses {
     tree: Tree,
+}
+
+// By hand, so that it is proved here and not in each crate above.
+impl Drop for Uses {
+    fn drop(self) {
+        let Uses { tree: _tree } = self;
+    }
 }
 
 impl Model for Uses {
@@ -98,7 +116,7 @@ impl Uses {
         requires range { latest.turn < 4611686018427387904 }
         ensures { self.new ≡ latest ∷ self.old }
     {
-        push(&mut self.tree, room.node, latest, 0, END);
+        push(&mut self.tree, room.into_node(), latest, 0, END);
     }
 
     /// Takes out the use of a turn, if there is one, and gives the room that it leaves. Takes no memory.

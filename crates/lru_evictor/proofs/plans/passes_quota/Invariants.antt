@@ -5,5 +5,5 @@ use Rattle.lru_evictor.proofs.plans.passes_quota.Given as goal
 -- all pass the quota where those that are left pass what is left of it
 abbrev pub invariant-loop-id : goal.invariant-loop-id
 invariant-loop-id g l =
-    nat_lt l.left (device_bytes (g.C.CopyLookup.facts l.copies) (drop l.id-index l.ids.items))
-    ≡ nat_lt l.fn.device.quota (l.fn.device.used + device_bytes (g.C.CopyLookup.facts l.copies) l.ids.items)
+    nat_lt l.left (device_bytes (g.C.CopyLookup.facts l.copies) (drop l.id-index l.ids))
+    ≡ nat_lt l.fn.device.quota (l.fn.device.used + device_bytes (g.C.CopyLookup.facts l.copies) l.ids)

@@ -1,7 +1,15 @@
-use Rattle.std.proofs.Common.{◌≤◌, sym, subst}
-use Rattle.use_tree.specs.Uses.{AllUses}
-use Rattle.use_tree.proofs.Order.{all_rechosen}
+use Rattle.std.proofs.Common.{ap, subst, ◌∙◌}
+use Rattle.use_tree.specs.Uses.{IsRising, choose_use}
+use Rattle.lru_evictor.proofs.Uses.{use-chosen}
 use Rattle.lru_evictor.proofs.index.Index.choose.Goals as goal
 
-pub invariant_of-self : goal.invariant_of-self
-invariant_of-self c = (subst (AllUses (λ u. c.self.inside.left ≤ u.turn)) (sym c.choose.ensures.uses) (all_rechosen (λ u. c.self.inside.left ≤ u.turn) c.args.turn c.args.choices c.self.inside.uses (λ u h. h) c.self.invariant.0), c.self.invariant.1)
+pub returns : goal.returns
+returns c on id es found is =
+    let stands = c.stand.ensures.stands on id c.args.place.turn c.args.place.turn es found (ap (λ p. p.2) c.choose_use.ensures.uses ∙ is.residents) is.apart in
+    record {
+      uses =
+          c.stand.ensures.same.0 ∙ ap (λ p. p.0) c.choose_use.ensures.uses ∙ ap (choose_use c.args.place.turn c.args.standing.choices) is.uses
+          ∙ use-chosen id c.args.place c.args.standing es (subst IsRising is.uses c.choose_use.ensures.rising) found;
+      residents = stands.0;
+      apart = stands.1;
+    }

@@ -1,9 +1,9 @@
 use Rattle.std.proofs.Common.{sym, ap, subst, ◌∙◌, reverse}
 use Rattle.std.specs.Map.{keys_of}
-use Rattle.lru_evictor.specs.Indexed.{IsIndexed}
+use Rattle.lru_evictor.specs.Indexed.{IsIndexed, shown}
 use Rattle.lru_evictor.specs.Orders.{ids_of, without_id, AllPass, OthersPass}
 use Rattle.lru_evictor.proofs.CacheOrders.{order-removed}
-use Rattle.lru_evictor.proofs.Uses.{shown, order-shown, none-removed, removed-passes}
+use Rattle.lru_evictor.proofs.Uses.{order-shown, none-removed, removed-passes}
 use Rattle.lru_evictor.proofs.job_order.JobOrder.forget.Goals as goal
 
 pub invariant_of-self : goal.invariant_of-self
@@ -14,7 +14,7 @@ invariant_of-self c =
 pub invariant_of-self-2 : goal.invariant_of-self-2
 invariant_of-self-2 c = (
   ap (λ a. a.cap) c.pop.ensures.entries ∙ c.self.invariant.0,
-  subst (IsIndexed c.remove_use.new.index) (sym (ap (λ a. a.entries) c.pop.ensures.entries)) (c.remove_use.ensures c.args.id.now c.self.inside.cache.entries (sym c.pop.ensures.value ∙ c.in-Some.is) c.self.invariant.1),
+  subst (IsIndexed c.remove.new.index) (sym (ap (λ a. a.entries) c.pop.ensures.entries)) (c.remove.ensures c.args.id.now c.self.inside.cache.entries (sym c.pop.ensures.value ∙ c.in-Some.is) c.self.invariant.1),
 )
 
 pub returns-in_default-clause-ids : goal.returns-in_default-clause-ids
@@ -31,12 +31,12 @@ returns-clause-ids c =
     ∙ order-removed c.args.id.now c.self.inside.cache.entries c.len-count.ensures.valid.0
     ∙ ap (without_id c.args.id.now) (sym (order-shown c.self.inside.cache.entries) ∙ ap ids_of c.self.view_is)
 
-pub returns-in_default-clause-choices : goal.returns-in_default-clause-choices
-returns-in_default-clause-choices c f but =
+pub returns-in_default-clause-standings : goal.returns-in_default-clause-standings
+returns-in_default-clause-standings c f but =
     subst (λ a. AllPass f (shown a.entries)) (sym c.pop.ensures.entries)
     (removed-passes c.args.id.now f c.self.inside.cache.entries c.len-count.ensures.valid.0 (subst (OthersPass c.args.id.now f) (sym c.self.view_is) but))
 
-pub returns-clause-choices : goal.returns-clause-choices
-returns-clause-choices c f but =
+pub returns-clause-standings : goal.returns-clause-standings
+returns-clause-standings c f but =
     subst (λ a. AllPass f (shown a.entries)) (sym c.pop.ensures.entries)
     (removed-passes c.args.id.now f c.self.inside.cache.entries c.len-count.ensures.valid.0 (subst (OthersPass c.args.id.now f) (sym c.self.view_is) but))

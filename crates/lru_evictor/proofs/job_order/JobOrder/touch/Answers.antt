@@ -6,10 +6,10 @@ use Rattle.std.proofs.lemmas.Map.{keys-set_value}
 use Rattle.obj_id.specs.Ids.{id_eq}
 use Rattle.lru.specs.LruCache.{promoted}
 use Rattle.private_store.specs.Tables.{is_among}
-use Rattle.lru_evictor.specs.Indexed.{IsIndexed}
+use Rattle.lru_evictor.specs.Indexed.{IsIndexed, shown}
 use Rattle.lru_evictor.specs.Orders.{ids_of, last_used, touched, AllPass, OthersPass}
 use Rattle.lru_evictor.proofs.CacheOrders.{order-has, order-promoted}
-use Rattle.lru_evictor.proofs.Uses.{shown, order-shown, set-moved, absent-passes, removed-passes}
+use Rattle.lru_evictor.proofs.Uses.{order-shown, set-moved, absent-passes, removed-passes}
 use Rattle.lru_evictor.proofs.job_order.JobOrder.touch.Goals as goal
 
 pub returns-in_default-clause-ids : goal.returns-in_default-clause-ids
@@ -19,27 +19,27 @@ returns-in_default-clause-ids c =
     let among = ap (λ o. is_among o c.args.id) (sym (ap ids_of c.self.view_is) ∙ order-shown es) ∙ sym (order-has c.args.id es) ∙ ap is_some none in
     ap ids_of c.self.view_is ∙ ap (λ b. if b then last_used c.args.id (ids_of c.args.self.now) else ids_of c.args.self.now) (sym among)
 
-pub returns-in_default-clause-choices : goal.returns-in_default-clause-choices
-returns-in_default-clause-choices c f but here =
+pub returns-in_default-clause-standings : goal.returns-in_default-clause-standings
+returns-in_default-clause-standings c f but here =
     absent-passes c.args.id f c.self.inside.cache.entries (sym c.get_mut.ensures.value ∙ ap option_copied_mut c.in_default.is) (subst (OthersPass c.args.id f) (sym c.self.view_is) but)
 
 pub invariant_of-self-2 : goal.invariant_of-self-2
 invariant_of-self-2 c =
     let es = c.self.inside.cache.entries in
     let found = sym c.get_mut.ensures.value ∙ ap option_copied_mut c.in-Some.is in
-    (c.self.invariant.0, subst (IsIndexed c.move_use.new.index) (sym (set-moved c.args.id c.in-Some.there.now (record { turn = c.next_turn-turn.result; choices = c.args.choices }) es found)) (c.move_use.ensures es found c.self.invariant.1))
+    (c.self.invariant.0, subst (IsIndexed c.replace.new.index) (sym (set-moved c.args.id c.in-Some.there.now (record { turn = c.next_turn-turn.result; standing = c.args.standing }) es found)) (c.replace.ensures es found c.self.invariant.1))
 
 pub returns-clause-ids : goal.returns-clause-ids
 returns-clause-ids c =
     let es = c.self.inside.cache.entries in
-    order-shown (set_value (id_eq c.args.id) (promoted (id_eq c.args.id) es) (record { turn = c.next_turn-turn.result; choices = c.args.choices }))
-    ∙ ap reverse (keys-set_value (id_eq c.args.id) (promoted (id_eq c.args.id) es) (record { turn = c.next_turn-turn.result; choices = c.args.choices }))
+    order-shown (set_value (id_eq c.args.id) (promoted (id_eq c.args.id) es) (record { turn = c.next_turn-turn.result; standing = c.args.standing }))
+    ∙ ap reverse (keys-set_value (id_eq c.args.id) (promoted (id_eq c.args.id) es) (record { turn = c.next_turn-turn.result; standing = c.args.standing }))
     ∙ order-promoted c.args.id es c.len-count.ensures.valid.0
     ∙ ap (touched c.args.id) (sym (order-shown es) ∙ ap ids_of c.self.view_is)
 
-pub returns-clause-choices : goal.returns-clause-choices
-returns-clause-choices c f but here =
+pub returns-clause-standings : goal.returns-clause-standings
+returns-clause-standings c f but here =
     let es = c.self.inside.cache.entries in
     let found = sym c.get_mut.ensures.value ∙ ap option_copied_mut c.in-Some.is in
-    subst (λ es. AllPass f (shown es)) (sym (set-moved c.args.id c.in-Some.there.now (record { turn = c.next_turn-turn.result; choices = c.args.choices }) es found))
+    subst (λ es. AllPass f (shown es)) (sym (set-moved c.args.id c.in-Some.there.now (record { turn = c.next_turn-turn.result; standing = c.args.standing }) es found))
     (here, removed-passes c.args.id f es c.len-count.ensures.valid.0 (subst (OthersPass c.args.id f) (sym c.self.view_is) but))

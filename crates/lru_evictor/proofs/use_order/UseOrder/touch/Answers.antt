@@ -3,5 +3,5 @@ use Rattle.std.specs.Option.{unwrap_or}
 use Rattle.lru_evictor.specs.Orders.{OthersPass}
 use Rattle.lru_evictor.proofs.use_order.UseOrder.touch.Goals as goal
 
-pub returns-clause-choices : goal.returns-clause-choices
-returns-clause-choices c f but here = c.touch.ensures.choices f (subst (OthersPass c.args.id f) (sym c.self.view_is ∙ ap (λ o. unwrap_or o []) c.in-Some.is) but) here
+pub returns-clause-standings : goal.returns-clause-standings
+returns-clause-standings c f but here = c.touch.ensures.standings f (subst (OthersPass c.args.id f) (sym c.self.view_is ∙ ap (λ o. unwrap_or o []) c.in-Some.is) but) here

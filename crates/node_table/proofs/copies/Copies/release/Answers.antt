@@ -6,7 +6,7 @@ use Rattle.node_table.specs.Kept.{Kept, released}
 use Rattle.node_table.specs.Checks.{release_check_of}
 use Rattle.node_table.specs.Counted.{taken_of}
 use Rattle.node_table.proofs.Changes.{on_ok, on_err, checked_there, checked_absent, found_rising}
-use Rattle.node_table.proofs.Holding.{choices_after, over_after}
+use Rattle.node_table.proofs.Holding.{standing_after, over_after}
 use Rattle.node_table.proofs.Sums.{taken-same, taken-either}
 use Rattle.node_table.proofs.copies.Copies.release.Goals as goal
 
@@ -41,9 +41,9 @@ pub returns-clause-err : goal.returns-clause-err
 returns-clause-err c =
     on_err (released c.args.session) c.args.id.now c.self.inside.by_id.entries c.args.self.now c.self.view_is c.release.result _ c.in-Some.copy.now c.release.new.self (sym c.get_mut.ensures.value ∙ ap option_copied_mut c.in-Some.is) c.release.ensures.err (c.get_mut.follows.holds c.release.new.self).0
 
-pub returns-clause-choices : goal.returns-clause-choices
-returns-clause-choices c =
-    choices_after c.args.session c.args.id.now c.args.self.now c.in-Some.copy.now (found_rising c.args.id.now c.self.inside.by_id.entries c.args.self.now c.self.view_is c.in-Some.copy.now (sym c.get_mut.ensures.value ∙ ap option_copied_mut c.in-Some.is)) c.release.result c.release.ensures.after
+pub returns-clause-standing : goal.returns-clause-standing
+returns-clause-standing c =
+    standing_after c.args.session c.args.id.now c.args.self.now c.in-Some.copy.now (found_rising c.args.id.now c.self.inside.by_id.entries c.args.self.now c.self.view_is c.in-Some.copy.now (sym c.get_mut.ensures.value ∙ ap option_copied_mut c.in-Some.is)) c.release.result c.release.ensures.after
 
 pub returns-clause-over : goal.returns-clause-over
 returns-clause-over c =

@@ -18,7 +18,7 @@ invariant_of-self c =
       subst (λ (w : Region). ArePlaced w.placed (place_of c.remove.new.self)) (sym window)
           (subst (λ t. ArePlaced (without (option_to_list (place_of c.self.inside.copies c.args.id.now)) c.self.inside.window.placed) (place_of t)) (sym c.remove.ensures)
           (left_placed c.self.inside.window.placed c.self.inside.copies c.self.invariant.0 c.args.id.now)),
-      c.forget.ensures.choices (is_followed c.remove.new.self)
+      c.forget.ensures.standings (is_followed c.remove.new.self)
           (others_followed c.args.id.now c.self.inside.copies c.remove.new.self (removed_but c.self.inside.copies c.remove.new.self c.args.id.now c.remove.ensures) c.self.inside.order c.self.invariant.1),
     )
 

@@ -5,9 +5,11 @@ use Rattle.node_table.specs.Kept.{Kept, fetched_kept}
 use Rattle.node_table.specs.Row.{Row, place_of, ArePlaced}
 use Rattle.node_table.proofs.Changes.{put_back, of_err, of_ok}
 use Rattle.node_table.proofs.Places.{entered_placed}
+use Rattle.private_store.proofs.Rows.{at-put_here}
+use Rattle.lru_evictor.specs.Facts.{nowhere}
 use Rattle.lru_evictor.specs.Orders.{ids_of}
 use Rattle.node_table.specs.Followed.{is_followed, AreFollowed}
-use Rattle.node_table.proofs.FollowsCopies.{put_but, others_followed, is_followed-itself}
+use Rattle.node_table.proofs.FollowsCopies.{put_but, others_followed, standing_found, is_followed-itself}
 use Rattle.node_table.proofs.row.JobRow.enter_fetch.Goals as goal
 
 pub invariant_of-self-then-is_err : goal.invariant_of-self-then-is_err
@@ -21,12 +23,12 @@ invariant_of-self-then-is_err c =
 
 pub invariant_of-self-2 : goal.invariant_of-self-2
 invariant_of-self-2 c =
-    let none : at c.self.inside.copies c.args.id.now ≡ None = ap (λ r. at r.copies c.args.id.now) c.self.view_is ∙ c.requires in (
-      entered_placed c.self.inside.window.placed c.self.inside.copies c.args.id.now (fetched_kept c.args.number) c.insert.new.self none refl
-          (c.in_ok-insert.ensures.ok ∙ ap (with_entry c.self.inside.copies c.args.id.now) c.fetching.ensures) c.self.invariant.0,
-      of_ok c.enter.result c.enter.ensures.choices (sym c.is_err.ensures.value ∙ c.if-is_err.false) (is_followed c.insert.new.self)
+    let none : at c.self.inside.copies c.args.id.now ≡ None = ap (λ r. at r.copies c.args.id.now) c.self.view_is ∙ c.requires in
+    let fetched = c.in_ok-insert.ensures.ok ∙ ap (with_entry c.self.inside.copies c.args.id.now) c.fetching.ensures in (
+      entered_placed c.self.inside.window.placed c.self.inside.copies c.args.id.now (fetched_kept c.args.number) c.insert.new.self none refl fetched c.self.invariant.0,
+      of_ok c.enter.result c.enter.ensures.standings (sym c.is_err.ensures.value ∙ c.if-is_err.false) (is_followed c.insert.new.self)
           (others_followed c.args.id.now c.self.inside.copies c.insert.new.self (put_but c.self.inside.copies c.insert.new.self c.args.id.now _ c.in_ok-insert.ensures.ok) c.self.inside.order c.self.invariant.1)
-          (is_followed-itself c.insert.new.self c.args.id.now c.choices-choices.result c.choices-choices.ensures),
+          (is_followed-itself c.insert.new.self c.args.id.now nowhere (sym (standing_found c.insert.new.self c.args.id.now (fetched_kept c.args.number) (ap (λ t. at t c.args.id.now) fetched ∙ at-put_here c.self.inside.copies c.args.id.now (fetched_kept c.args.number))))),
     )
 
 pub returns-then-is_err-clause-err : goal.returns-then-is_err-clause-err

@@ -20,7 +20,7 @@ invariant_of-self c =
       subst (λ (w : Region). ArePlaced w.placed (place_of c.fail_fetch.new.self)) (sym window)
           (subst (λ t. ArePlaced (without (option_to_list (place_of c.self.inside.copies c.args.id.now)) c.self.inside.window.placed) (place_of t)) (sym c.fail_fetch.ensures)
           (unfetched_placed c.self.inside.window.placed c.self.inside.copies c.self.invariant.0 c.args.id.now c.args.fault)),
-      c.follow.ensures.choices c.self.inside.copies (changed_but (unfetched c.args.fault) c.self.inside.copies c.fail_fetch.new.self c.args.id.now c.fail_fetch.ensures) c.self.invariant.1,
+      c.follow.ensures.standings c.self.inside.copies (changed_but (unfetched c.args.fault) c.self.inside.copies c.fail_fetch.new.self c.args.id.now c.fail_fetch.ensures) c.self.invariant.1,
     )
 
 pub returns-clause-row : goal.returns-clause-row

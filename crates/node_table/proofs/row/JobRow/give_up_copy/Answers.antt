@@ -7,5 +7,5 @@ use Rattle.node_table.proofs.row.JobRow.give_up_copy.Goals as goal
 pub invariant_of-self : goal.invariant_of-self
 invariant_of-self c = (
   now_placed c.self.inside.window.placed c.self.inside.copies c.self.invariant.0 (given_up c.args.task) (given_up-place c.args.task) c.args.id.now c.give_up.new.self c.give_up.ensures,
-  c.follow.ensures.choices c.self.inside.copies (changed_but (given_up c.args.task) c.self.inside.copies c.give_up.new.self c.args.id.now c.give_up.ensures) c.self.invariant.1,
+  c.follow.ensures.standings c.self.inside.copies (changed_but (given_up c.args.task) c.self.inside.copies c.give_up.new.self c.args.id.now c.give_up.ensures) c.self.invariant.1,
 )

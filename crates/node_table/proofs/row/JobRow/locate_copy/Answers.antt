@@ -7,5 +7,5 @@ use Rattle.node_table.proofs.row.JobRow.locate_copy.Goals as goal
 pub invariant_of-self : goal.invariant_of-self
 invariant_of-self c = (
   now_placed c.self.inside.window.placed c.self.inside.copies c.self.invariant.0 (located c.args.node c.args.number c.args.entries.now) (located-place c.args.node c.args.number c.args.entries.now) c.args.id.now c.locate.new.self c.locate.ensures,
-  c.follow.ensures.choices c.self.inside.copies (changed_but (located c.args.node c.args.number c.args.entries.now) c.self.inside.copies c.locate.new.self c.args.id.now c.locate.ensures) c.self.invariant.1,
+  c.follow.ensures.standings c.self.inside.copies (changed_but (located c.args.node c.args.number c.args.entries.now) c.self.inside.copies c.locate.new.self c.args.id.now c.locate.ensures) c.self.invariant.1,
 )

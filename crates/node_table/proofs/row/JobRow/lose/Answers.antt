@@ -14,5 +14,5 @@ invariant_of-self c =
       subst (λ (w : Region). ArePlaced w.placed (place_of c.lose.new.self)) (sym window)
           (subst (λ t. ArePlaced (without (option_to_list (place_of c.self.inside.copies c.args.id.now)) c.self.inside.window.placed) (place_of t)) (sym c.lose.ensures)
           (lost_placed c.self.inside.window.placed c.self.inside.copies c.self.invariant.0 c.args.id.now c.args.fault)),
-      c.follow.ensures.choices c.self.inside.copies (changed_but (lost c.args.fault) c.self.inside.copies c.lose.new.self c.args.id.now c.lose.ensures) c.self.invariant.1,
+      c.follow.ensures.standings c.self.inside.copies (changed_but (lost c.args.fault) c.self.inside.copies c.lose.new.self c.args.id.now c.lose.ensures) c.self.invariant.1,
     )

@@ -1,5 +1,5 @@
 use Rattle.lru_evictor.specs.Orders.{ids_of}
-use Rattle.std.proofs.Common.{ℕ, nat_eq, false, replicate, List, None, sym, ap, subst, ◌∙◌}
+use Rattle.std.proofs.Common.{ℕ, nat_eq, false, replicate, List, Some, None, sym, ap, subst, ◌∙◌}
 use Rattle.std.specs.Map.{lookup}
 use Rattle.std.specs.Option.{option_map_or}
 use Rattle.obj_id.specs.declared.ids.ObjectId.{ObjectId}
@@ -10,9 +10,9 @@ use Rattle.node_table.specs.Evicting.{all_evicted, placed_without, replaced, wit
 use Rattle.node_table.specs.Kept.{Kept, waits_for_place, placed_for}
 use Rattle.node_table.specs.Row.{Row, place_of, ArePlaced}
 use Rattle.node_table.proofs.Changes.{changed-found}
-use Rattle.node_table.proofs.Replacing.{left_sorted, replaced_placed}
+use Rattle.node_table.proofs.Replacing.{left_sorted, new_lies, replaced_placed}
 use Rattle.node_table.proofs.Pulling.{waiting, unused, placed_lies, stays_of}
-use Rattle.node_table.proofs.FollowsCopies.{changed_but, evicted_but}
+use Rattle.node_table.proofs.FollowsCopies.{changed_but, one_followed}
 use Rattle.node_table.proofs.row.JobRow.place_copy.Goals as goal
 
 pub take_place-requires : goal.take_place-requires
@@ -22,27 +22,28 @@ pub invariant_of-self-in-Ok-1 : goal.invariant_of-self-in-Ok-1
 invariant_of-self-in-Ok-1 c =
     let w = waiting c.self.inside.copies c.args.id.now c.args.len (ap (λ (r : Row). option_map_or (waits_for_place c.args.len) (at r.copies c.args.id.now) false) c.self.view_is ∙ c.requires.waits) in
     let left = left_sorted c.self.inside.copies c.args.victims.now c.self.inside.window.placed c.in_ok-gone.gone.items c.deref.result.now c.in_ok-gone.ensures.permutation c.deref.ensures.value in
-    let copies = c.evict_all.ensures ∙ ap (all_evicted c.args.victims.now) (c.take_place.ensures ∙ changed-found (placed_for c.args.awaited c.in-Ok.extent.offset) c.args.id.now c.self.inside.copies w.k w.found) in
+    let copies = c.evict_for.ensures.copies ∙ ap (all_evicted c.args.victims.now) (c.take_place.ensures ∙ changed-found (placed_for c.args.awaited c.in-Ok.extent.offset) c.args.id.now c.self.inside.copies w.k w.found) in
     let placed = ap (λ (w : Region). w.placed) c.in-Ok.ensures.placed
     ∙ (λ i. put_in (c.in-Ok.extent.offset, replicate (c.in-Ok.ensures.length i) 0) (left i)) in
-    let fresh = ap (lookup (nat_eq c.in-Ok.extent.offset)) (sym left) ∙ c.in-Ok.ensures.fresh in (
+    let fresh = ap (lookup (nat_eq c.in-Ok.extent.offset)) (sym left) ∙ c.in-Ok.ensures.fresh in
+    let stays = stays_of c.args.self.now c.args.id.now c.args.len c.args.victims.now c.requires.fits in
+    let lies = placed_lies c.args.awaited c.in-Ok.extent.offset w.k c.args.len w.long in
+    let there = new_lies c.self.inside.copies c.self.inside.window.placed c.self.invariant.0 c.args.victims.now c.args.id.now (placed_for c.args.awaited c.in-Ok.extent.offset w.k) c.args.len c.in-Ok.extent.offset w.nowhere stays lies fresh in (
       subst (λ t. ArePlaced c.replace.new.self.placed (place_of t)) (sym copies)
           (subst (λ ps. ArePlaced ps (place_of (all_evicted c.args.victims.now (with_entry c.self.inside.copies c.args.id.now (placed_for c.args.awaited c.in-Ok.extent.offset w.k))))) (sym placed)
-          (replaced_placed c.self.inside.copies c.self.inside.window.placed c.self.invariant.0 c.args.victims.now c.args.id.now (placed_for c.args.awaited c.in-Ok.extent.offset w.k) c.args.len c.in-Ok.extent.offset w.nowhere (stays_of c.args.self.now c.args.id.now c.args.len c.args.victims.now c.requires.fits)
-          (placed_lies c.args.awaited c.in-Ok.extent.offset w.k c.args.len w.long) fresh)),
-      c.forget_missing.ensures.choices
-          (c.follow_each.ensures.choices c.take_place.new.self (evicted_but c.args.victims.now c.take_place.new.self c.evict_all.new.self c.evict_all.ensures)
-          (c.follow.ensures.choices c.self.inside.copies (changed_but (placed_for c.args.awaited c.in-Ok.extent.offset) c.self.inside.copies c.take_place.new.self c.args.id.now c.take_place.ensures) c.self.invariant.1)),
+          (replaced_placed c.self.inside.copies c.self.inside.window.placed c.self.invariant.0 c.args.victims.now c.args.id.now (placed_for c.args.awaited c.in-Ok.extent.offset w.k) c.args.len c.in-Ok.extent.offset w.nowhere stays lies fresh)),
+      c.evict_for.ensures.standings (ap (λ t. place_of t c.args.id.now) copies ∙ there ∙ (λ i. Some (record { offset = c.in-Ok.extent.offset; length = sym c.in-Ok.ensures.length i })))
+          (one_followed c.args.id.now c.self.inside.copies c.take_place.new.self (changed_but (placed_for c.args.awaited c.in-Ok.extent.offset) c.self.inside.copies c.take_place.new.self c.args.id.now c.take_place.ensures) c.self.inside.order c.self.invariant.1),
     )
 
 pub returns-in-Ok-clause-ok : goal.returns-in-Ok-clause-ok
 returns-in-Ok-clause-ok c k found =
     let left = left_sorted c.self.inside.copies c.args.victims.now c.self.inside.window.placed c.in_ok-gone.gone.items c.deref.result.now c.in_ok-gone.ensures.permutation c.deref.ensures.value in
     let there = ap (λ (r : Row). at r.copies c.args.id.now) c.self.view_is ∙ found in
-    let copies = c.evict_all.ensures ∙ ap (all_evicted c.args.victims.now) (c.take_place.ensures ∙ changed-found (placed_for c.args.awaited c.in-Ok.extent.offset) c.args.id.now c.self.inside.copies k there) in
+    let copies = c.evict_for.ensures.copies ∙ ap (all_evicted c.args.victims.now) (c.take_place.ensures ∙ changed-found (placed_for c.args.awaited c.in-Ok.extent.offset) c.args.id.now c.self.inside.copies k there) in
     let window = c.in-Ok.ensures.placed
     ∙ (λ i. region (put_in (c.in-Ok.extent.offset, replicate (c.in-Ok.ensures.length i) 0) (left i))) in
-    let order = c.forget_missing.ensures.ids ∙ (λ i. without_missing (copies i) c.args.victims.now ((c.follow_each.ensures.ids ∙ c.follow.ensures.ids ∙ unused (ids_of c.self.inside.order)) i)) in
+    let order = c.evict_for.ensures.ids ∙ (λ i. without_missing (copies i) c.args.victims.now (unused (ids_of c.self.inside.order) i)) in
     record {
       least = ap (λ (r : Row). first (extents_of (placed_without r c.args.victims.now)) r.window.quota c.args.len) (sym c.self.view_is)
           ∙ ap (λ ps. first (extents_of ps) c.self.inside.window.quota c.args.len) (sym left) ∙ c.in-Ok.ensures.least;

@@ -1,16 +1,19 @@
 use Rattle.std.proofs.Common.{sym, ap, subst, ◌∙◌}
 use Rattle.pins_holds.proofs.TaskLemmas.{insert_key-new}
 use Rattle.private_store.specs.Kept.{is_remembered}
+use Rattle.private_store.specs.Tables.{at}
 use Rattle.node_table.specs.EndingTasks.{task_row}
 use Rattle.node_table.specs.Row.{Row, place_of, ArePlaced}
-use Rattle.node_table.proofs.EndingTasks.{ended_placed}
+use Rattle.node_table.proofs.EndingTasks.{ended, at-ended, ended_placed}
+use Rattle.node_table.proofs.FollowsCopies.{none_gone}
 use Rattle.node_table.proofs.row.JobRow.remember_end.Goals as goal
 
 pub invariant_of-self-2 : goal.invariant_of-self-2
 invariant_of-self-2 c = (
   subst (λ t. ArePlaced c.self.inside.window.placed (place_of t)) (sym c.end_hands.ensures)
       (ended_placed c.args.task c.self.inside.window.placed c.self.inside.copies c.self.invariant.0),
-  c.follow_all.ensures.choices,
+  c.follow_all.ensures.standings c.self.inside.copies
+      (none_gone (ended c.args.task) c.self.inside.copies c.end_hands.new.self (λ x. ap (λ t. at t x) c.end_hands.ensures ∙ at-ended c.args.task c.self.inside.copies x)) c.self.invariant.1,
 )
 
 pub returns-clause-ok : goal.returns-clause-ok

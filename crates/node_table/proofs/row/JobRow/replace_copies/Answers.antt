@@ -1,4 +1,4 @@
-use Rattle.std.proofs.Common.{◌≡◌, ℕ, nat_eq, false, replicate, List, Some, None, is_some, refl, sym, ap, subst, ◌∙◌}
+use Rattle.std.proofs.Common.{◌≡◌, ℕ, nat_eq, false, replicate, List, [], Some, None, is_some, refl, sym, ap, subst, ◌∙◌}
 use Rattle.std.specs.Map.{lookup}
 use Rattle.std.specs.Option.{option_and_then}
 use Rattle.private_store.specs.Copies.{extent_of}
@@ -13,9 +13,9 @@ use Rattle.node_table.specs.Kept.{Kept, new_kept}
 use Rattle.node_table.specs.Row.{Row, place_of, ArePlaced}
 use Rattle.node_table.proofs.Changes.{put_back, of_err, of_ok}
 use Rattle.node_table.proofs.Pulling.{stays_of, place_there}
-use Rattle.node_table.proofs.Replacing.{left_sorted, forgotten, replaced_placed}
+use Rattle.node_table.proofs.Replacing.{left_sorted, forgotten, new_lies, replaced_placed}
 use Rattle.node_table.specs.Followed.{is_followed, AreFollowed}
-use Rattle.node_table.proofs.FollowsCopies.{put_but, removed_but, evicted_but, others_followed, is_followed-itself}
+use Rattle.node_table.proofs.FollowsCopies.{put_but, removed_but, others_still, next_followed, entered_followed}
 use Rattle.node_table.proofs.row.JobRow.replace_copies.Goals as goal
 
 pub unreachable-requires : goal.unreachable-requires
@@ -51,11 +51,11 @@ invariant_of-self-in-Err c =
     let none : at c.self.inside.copies c.args.id.now ≡ None = ap (λ r. at r.copies c.args.id.now) c.self.view_is ∙ c.requires.absent in
     let back = c.remove-in-Err.ensures ∙ ap (λ t. without_entry t c.args.id.now) c.in_ok-insert.ensures.ok ∙ put_back c.args.id.now c.self.inside.copies _ none in (
       subst (λ (w : Region). ArePlaced w.placed (place_of c.remove-in-Err.new.self)) (sym c.in-Err.ensures.err) (subst (λ t. ArePlaced c.self.inside.window.placed (place_of t)) (sym back) c.self.invariant.0),
-      c.forget.ensures.choices (is_followed c.remove-in-Err.new.self)
-          (others_followed c.args.id.now c.insert.new.self c.remove-in-Err.new.self (removed_but c.insert.new.self c.remove-in-Err.new.self c.args.id.now c.remove-in-Err.ensures) c.enter.new.self
-          (of_ok c.enter.result c.enter.ensures.choices (sym c.is_err.ensures.value ∙ c.if-is_err.false) (is_followed c.insert.new.self)
-          (others_followed c.args.id.now c.self.inside.copies c.insert.new.self (put_but c.self.inside.copies c.insert.new.self c.args.id.now _ c.in_ok-insert.ensures.ok) c.self.inside.order c.self.invariant.1)
-          (is_followed-itself c.insert.new.self c.args.id.now c.choices-choices.result c.choices-choices.ensures))),
+      c.forget.ensures.standings (is_followed c.remove-in-Err.new.self)
+          (others_still c.args.id.now c.insert.new.self c.remove-in-Err.new.self (removed_but c.insert.new.self c.remove-in-Err.new.self c.args.id.now c.remove-in-Err.ensures) c.enter.new.self
+          (next_followed c.args.id.now [] c.insert.new.self c.enter.new.self
+          (entered_followed c.args.id.now c.self.inside.copies c.insert.new.self (put_but c.self.inside.copies c.insert.new.self c.args.id.now _ c.in_ok-insert.ensures.ok) c.self.inside.order c.enter.new.self
+          (of_ok c.enter.result c.enter.ensures.standings (sym c.is_err.ensures.value ∙ c.if-is_err.false)) c.self.invariant.1))),
     )
 
 pub returns-in-Err-clause-err : goal.returns-in-Err-clause-err
@@ -77,19 +77,19 @@ invariant_of-self-in-Ok c =
     let left_then = left_sorted c.self.inside.copies c.args.victims.now c.self.inside.window.placed c.in_ok-gone.gone.items c.deref-2.result.now c.in_ok-gone.ensures.permutation c.deref-2.ensures.value in
     let offset = some_value c.in-Some.offset c.in-Ok.extent.offset
     (sym c.in-Some.is ∙ c.fits_without.ensures ∙ ap (λ ps. first (extents_of ps) c.self.inside.window.quota c.args.len) (left ∙ sym left_then) ∙ c.in-Ok.ensures.least) in
-    let copies = c.evict_all.ensures ∙ ap (all_evicted c.args.victims.now) (c.in_ok-insert.ensures.ok ∙ ap (with_entry c.self.inside.copies c.args.id.now) (c.created.ensures ∙ ap (new_kept c.args.kind c.args.len) offset)) in
+    let copies = c.evict_for.ensures.copies ∙ ap (all_evicted c.args.victims.now) (c.in_ok-insert.ensures.ok ∙ ap (with_entry c.self.inside.copies c.args.id.now) (c.created.ensures ∙ ap (new_kept c.args.kind c.args.len) offset)) in
     let placed = ap (λ (w : Region). w.placed) c.in-Ok.ensures.placed
     ∙ (λ i. put_in (c.in-Ok.extent.offset, replicate (c.in-Ok.ensures.length i) 0) (left_then i)) in
-    let fresh = ap (lookup (nat_eq c.in-Ok.extent.offset)) (sym left_then) ∙ c.in-Ok.ensures.fresh in (
+    let fresh = ap (lookup (nat_eq c.in-Ok.extent.offset)) (sym left_then) ∙ c.in-Ok.ensures.fresh in
+    let nowhere = ap (option_and_then (λ (k : Kept). extent_of k.copy)) none in
+    let stays = stays_of c.args.self.now c.args.id.now c.args.len c.args.victims.now c.requires.fits in
+    let there = new_lies c.self.inside.copies c.self.inside.window.placed c.self.invariant.0 c.args.victims.now c.args.id.now (new_kept c.args.kind c.args.len c.in-Ok.extent.offset) c.args.len c.in-Ok.extent.offset nowhere stays refl fresh in (
       subst (λ t. ArePlaced c.replace.new.self.placed (place_of t)) (sym copies)
           (subst (λ ps. ArePlaced ps (place_of (all_evicted c.args.victims.now (with_entry c.self.inside.copies c.args.id.now (new_kept c.args.kind c.args.len c.in-Ok.extent.offset))))) (sym placed)
-          (replaced_placed c.self.inside.copies c.self.inside.window.placed c.self.invariant.0 c.args.victims.now c.args.id.now (new_kept c.args.kind c.args.len c.in-Ok.extent.offset) c.args.len c.in-Ok.extent.offset
-          (ap (option_and_then (λ (k : Kept). extent_of k.copy)) none) (stays_of c.args.self.now c.args.id.now c.args.len c.args.victims.now c.requires.fits) refl fresh)),
-      c.forget_missing.ensures.choices
-          (c.follow_each.ensures.choices c.insert.new.self (evicted_but c.args.victims.now c.insert.new.self c.evict_all.new.self c.evict_all.ensures)
-          (of_ok c.enter.result c.enter.ensures.choices (sym c.is_err.ensures.value ∙ c.if-is_err.false) (is_followed c.insert.new.self)
-          (others_followed c.args.id.now c.self.inside.copies c.insert.new.self (put_but c.self.inside.copies c.insert.new.self c.args.id.now _ c.in_ok-insert.ensures.ok) c.self.inside.order c.self.invariant.1)
-          (is_followed-itself c.insert.new.self c.args.id.now c.choices-choices.result c.choices-choices.ensures))),
+          (replaced_placed c.self.inside.copies c.self.inside.window.placed c.self.invariant.0 c.args.victims.now c.args.id.now (new_kept c.args.kind c.args.len c.in-Ok.extent.offset) c.args.len c.in-Ok.extent.offset nowhere stays refl fresh)),
+      c.evict_for.ensures.standings (ap (λ t. place_of t c.args.id.now) copies ∙ there ∙ (λ i. Some (record { offset = c.in-Ok.extent.offset; length = sym c.in-Ok.ensures.length i })))
+          (entered_followed c.args.id.now c.self.inside.copies c.insert.new.self (put_but c.self.inside.copies c.insert.new.self c.args.id.now _ c.in_ok-insert.ensures.ok) c.self.inside.order c.enter.new.self
+          (of_ok c.enter.result c.enter.ensures.standings (sym c.is_err.ensures.value ∙ c.if-is_err.false)) c.self.invariant.1),
     )
 
 pub returns-clause-ok : goal.returns-clause-ok
@@ -98,11 +98,11 @@ returns-clause-ok c =
     let left_then = left_sorted c.self.inside.copies c.args.victims.now c.self.inside.window.placed c.in_ok-gone.gone.items c.deref-2.result.now c.in_ok-gone.ensures.permutation c.deref-2.ensures.value in
     let offset = some_value c.in-Some.offset c.in-Ok.extent.offset
     (sym c.in-Some.is ∙ c.fits_without.ensures ∙ ap (λ ps. first (extents_of ps) c.self.inside.window.quota c.args.len) (left ∙ sym left_then) ∙ c.in-Ok.ensures.least) in
-    let copies = c.evict_all.ensures ∙ ap (all_evicted c.args.victims.now) (c.in_ok-insert.ensures.ok ∙ ap (with_entry c.self.inside.copies c.args.id.now) (c.created.ensures ∙ ap (new_kept c.args.kind c.args.len) offset)) in
+    let copies = c.evict_for.ensures.copies ∙ ap (all_evicted c.args.victims.now) (c.in_ok-insert.ensures.ok ∙ ap (with_entry c.self.inside.copies c.args.id.now) (c.created.ensures ∙ ap (new_kept c.args.kind c.args.len) offset)) in
     let window = c.in-Ok.ensures.placed
     ∙ (λ i. region (put_in (c.in-Ok.extent.offset, replicate (c.in-Ok.ensures.length i) 0) (left_then i))) in
     let entered = of_ok c.enter.result c.enter.ensures.ids (sym c.is_err.ensures.value ∙ c.if-is_err.false) in
-    let order = c.forget_missing.ensures.ids ∙ (λ i. without_missing (copies i) c.args.victims.now ((c.follow_each.ensures.ids ∙ entered) i)) in
+    let order = c.evict_for.ensures.ids ∙ (λ i. without_missing (copies i) c.args.victims.now (entered i)) in
     record {
       least = ap (λ (r : Row). first (extents_of (placed_without r c.args.victims.now)) r.window.quota c.args.len) (sym c.self.view_is)
           ∙ ap (λ ps. first (extents_of ps) c.self.inside.window.quota c.args.len) (sym left_then) ∙ c.in-Ok.ensures.least;

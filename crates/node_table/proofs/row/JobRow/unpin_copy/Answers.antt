@@ -7,5 +7,5 @@ use Rattle.node_table.proofs.row.JobRow.unpin_copy.Goals as goal
 pub invariant_of-self : goal.invariant_of-self
 invariant_of-self c = (
   now_placed c.self.inside.window.placed c.self.inside.copies c.self.invariant.0 unpinned (unpinned-place) c.args.id.now c.unpin.new.self c.unpin.ensures,
-  c.follow.ensures.choices c.self.inside.copies (changed_but unpinned c.self.inside.copies c.unpin.new.self c.args.id.now c.unpin.ensures) c.self.invariant.1,
+  c.follow.ensures.standings c.self.inside.copies (changed_but unpinned c.self.inside.copies c.unpin.new.self c.args.id.now c.unpin.ensures) c.self.invariant.1,
 )
