@@ -99,7 +99,7 @@ worldly nodes memory world [] h = tt
 worldly nodes memory world (entry ∷ history) h = (world, h)
 
 -- the line that is read next is the next one of the input
-next_line : (a r : Option (List ℕ)) (before bytes : List ℕ) → Consumes a r before → IfSome r (λ left. bytes ≡ take_through 10 left) → IsNextLine a before bytes
+pub next_line : (a r : Option (List ℕ)) (before bytes : List ℕ) → Consumes a r before → IfSome r (λ left. bytes ≡ take_through 10 left) → IsNextLine a before bytes
 next_line None r before bytes read whole = tt
 next_line (Some all) None before bytes read whole = absurd read
 next_line (Some all) (Some left) before bytes read whole = whole ∙ ap (take_through 10) (sym (ap (drop (length before)) read ∙ drop-append_seam before left))

@@ -1,12 +1,14 @@
 -- Serving with one line more, and how it ends.
 use Rattle.std.proofs.Common.{◌≡◌, ℕ, suc, ◌+◌, List, [], ◌∷◌, length, Option, Result, Ok, Err, refl, sym, ap, subst, ◌∙◌, inl, inr, arith}
-use Rattle.std.specs.Prelude.{⊤}
+use Rattle.std.specs.Prelude.{⊤, IfSome}
+use Rattle.std.specs.Io.BufRead.{take_through}
 use Rattle.std.specs.Io.KnownBytes.{Keeps, Consumes, IsAtEnd}
 use Rattle.store_program.specs.declared.fault.Fault.{Fault}
 use Rattle.store_program.specs.declared.fault.Fault.TheVariants.{NotAStep, Input, Output, Socket, Folded, NoMemory}
 use Rattle.store_program.specs.Lines.{with_feed}
 use Rattle.store_program.specs.Runs.{IsReadingFault}
 use Rattle.store_program.specs.Servings.{Obeys, StopsOrder, Serving, ServingEnds, IsWritten, Served, close_line, orders_of, answers_of}
+use Rattle.store_program.proofs.Running.{next_line}
 use Rattle.private_store.proofs.KnownBytes.{Appends-none, Appends-then, Appends-kept, Consumes-none, Consumes-then, Consumes-all}
 
 pub begun : (nodes : ℕ) (a b : Option (List ℕ)) → Serving nodes 1 a a b b
@@ -40,13 +42,14 @@ module _ (nodes number : ℕ) (a r b w : Option (List ℕ)) (so_far : Serving no
     pub closed : (w1 : Option (List ℕ)) → bytes ≡ close_line → Keeps w w1 → Served nodes a r1 b w1 (Ok tt)
     closed w1 is kept = ended w1 (Ok tt) (Appends-kept b w w1 (answers_of so_far.lines) so_far.written kept) (inl is)
 
-    pub line_stopped : (w1 : Option (List ℕ)) (fault : Fault) → StopsOrder number w w1 fault → Served nodes a r1 b w1 (Err fault)
-    line_stopped w1 (NotAStep n) stops = ended w1 (Err (NotAStep n)) (Appends-kept b w w1 (answers_of so_far.lines) so_far.written stops.1) (stops.0 ∙ sym so_far.counted)
-    line_stopped w1 Input stops = absurd stops
-    line_stopped w1 Socket stops = absurd stops
-    line_stopped w1 Folded stops = absurd stops
-    line_stopped w1 Output stops = ended w1 (Err Output) tt tt
-    line_stopped w1 NoMemory stops = ended w1 (Err NoMemory) (Appends-kept b w w1 (answers_of so_far.lines) so_far.written stops) tt
+    pub line_stopped : IfSome r (λ left. bytes ≡ take_through 10 left) → (w1 : Option (List ℕ)) (fault : Fault) → StopsOrder number w w1 fault → Served nodes a r1 b w1 (Err fault)
+    line_stopped whole w1 (NotAStep n) stops =
+        ended w1 (Err (NotAStep n)) (Appends-kept b w w1 (answers_of so_far.lines) so_far.written stops.1) (stops.0 ∙ sym so_far.counted, next_line a r (orders_of so_far.lines) bytes so_far.consumed whole)
+    line_stopped whole w1 Input stops = absurd stops
+    line_stopped whole w1 Socket stops = absurd stops
+    line_stopped whole w1 Folded stops = absurd stops
+    line_stopped whole w1 Output stops = ended w1 (Err Output) tt tt
+    line_stopped whole w1 NoMemory stops = ended w1 (Err NoMemory) (Appends-kept b w w1 (answers_of so_far.lines) so_far.written stops) tt
 
     pub line_more : (w1 : Option (List ℕ)) → Obeys nodes bytes w w1 → Serving nodes (number + 1) a r1 b w1
     line_more w1 obeys =

@@ -11,6 +11,7 @@ use Rattle.store_program.specs.declared.operator.Change.{Change}
 use Rattle.store_program.specs.declared.operator.Order.TheVariants as order
 use Rattle.store_program.specs.Lines.{with_feed}
 use Rattle.store_program.specs.Orders.{IsOrder}
+use Rattle.store_program.specs.Runs.{IsNextLine}
 
 -- a line, without its line feed, and the answer to it
 pub record Obeyed : Type 0 where
@@ -87,10 +88,11 @@ pub record Serving (nodes number : ℕ) (read_old read_new written_old written_n
   pub consumed : Consumes read_old read_new (orders_of lines)
   pub written : Appends written_old written_new (answers_of lines)
 
--- it ends without a fault at `close`, or once the lines are the whole input; a fault for a line tells its number
+-- it ends without a fault at `close`, or once the lines are the whole input; a fault for a line tells its number, and the line is
+-- the next one of the input
 abbrev pub ServingEnds : ℕ → Option (List ℕ) → List ℕ → List ℕ → Result ⊤ Fault → Type 0
 ServingEnds number read_old input rest (Ok u) = (rest ≡ close_line) ⊎ IfSome read_old (λ all. all ≡ input)
-ServingEnds number read_old input rest (Err (NotAStep n)) = n ≡ number
+ServingEnds number read_old input rest (Err (NotAStep n)) = (n ≡ number) × IsNextLine read_old input rest
 ServingEnds number read_old input rest (Err Input) = ⊤
 ServingEnds number read_old input rest (Err Output) = ⊤
 ServingEnds number read_old input rest (Err Socket) = ⊥

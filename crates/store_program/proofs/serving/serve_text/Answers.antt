@@ -13,7 +13,7 @@ pub returns-in-Ok-false : goal.returns-in-Ok-false
 returns-in-Ok-false g c = input_ended _ _ _ _ _ _ c.loop-number.invariant _ _ c.next_line.ensures.consumed (c.in-Ok-false.ensures.end c.in-Ok-false.field-0-test)
 
 pub returns-in-Err-serve_line : goal.returns-in-Err-serve_line
-returns-in-Err-serve_line g c = line_stopped _ _ _ _ _ _ c.loop-number.invariant _ _ c.next_line.ensures.consumed _ c.in-Err-serve_line.fault c.in-Err-serve_line.ensures.err
+returns-in-Err-serve_line g c = line_stopped _ _ _ _ _ _ c.loop-number.invariant _ _ c.next_line.ensures.consumed c.in-Ok-true.ensures.whole _ c.in-Err-serve_line.fault c.in-Err-serve_line.ensures.err
 
 pub returns-in-Ok-false-serve_line : goal.returns-in-Ok-false-serve_line
 returns-in-Ok-false-serve_line g c =
