@@ -5,10 +5,11 @@ use Rattle.std.specs.List.{list_any}
 use Rattle.std.proofs.lemmas.Bool.Decides.{nat_tests}
 use Rattle.std.proofs.lemmas.List.Elements.{filter-append}
 use Rattle.std.proofs.lemmas.List.Folds.{list_any-append}
+use Rattle.augmented_tree.specs.Lists.{AllOf}
 use Rattle.obj_id.specs.declared.works.Extent.{Extent}
 use Rattle.use_tree.specs.declared.choices.Choice.{Choice}
 use Rattle.extent_tree.specs.declared.residents.Resident.{Resident}
-use Rattle.extent_tree.specs.Residents.{AllResidents, staying, remaining, joined, span_of}
+use Rattle.extent_tree.specs.Residents.{staying, remaining, joined, span_of}
 use Rattle.extent_tree.proofs.Parts.{stay_both}
 
 abbrev begins : ℕ → List Extent → Bool
@@ -21,39 +22,39 @@ none_before o (e ∷ es) h =
     let t : nat_eq e.offset o ≡ false = grind (arith, nat_tests, first) in
     rw t (none_before o es (λ k d lt. h (suc k) d (omega (arith, lt))))
 
-none_behind : (o : ℕ) (es : List Extent) → All (λ e. o < e.offset) es → begins o es ≡ false
-none_behind o [] h = refl
-none_behind o (e ∷ es) h =
+none_after : (o : ℕ) (es : List Extent) → All (λ e. o < e.offset) es → begins o es ≡ false
+none_after o [] h = refl
+none_after o (e ∷ es) h =
     let first = h 0 e (omega arith) in
     let t : nat_eq e.offset o ≡ false = grind (arith, nat_tests, first) in
-    rw t (none_behind o es (λ k d lt. h (suc k) d (omega (arith, lt))))
+    rw t (none_after o es (λ k d lt. h (suc k) d (omega (arith, lt))))
 
 -- only those on the same side of m count
 begins_before : (m o : ℕ) (a b : List Extent) → o < m → All (λ e. m ≤ e.offset) b → begins o (a ++ b) ≡ begins o a
 begins_before m o a b lt h =
-    let none = none_behind o b (λ k d in_b. omega (arith, lt, h k d in_b)) in
+    let none = none_after o b (λ k d in_b. omega (arith, lt, h k d in_b)) in
     list_any-append (λ (e : Extent). nat_eq e.offset o) a b ∙ ap (λ c. begins o a || c) none ∙ or_false (begins o a)
   where
     or_false : (c : Bool) → c || false ≡ c
     or_false true = refl
     or_false false = refl
 
-begins_behind : (m o : ℕ) (a b : List Extent) → m ≤ o → All (λ e. e.offset < m) a → begins o (a ++ b) ≡ begins o b
-begins_behind m o a b le h =
+begins_after : (m o : ℕ) (a b : List Extent) → m ≤ o → All (λ e. e.offset < m) a → begins o (a ++ b) ≡ begins o b
+begins_after m o a b le h =
     let none = none_before o a (λ k d in_a. omega (arith, le, h k d in_a)) in
     list_any-append (λ (e : Extent). nat_eq e.offset o) a b ∙ ap (λ c. c || begins o b) none
 
-pub remaining_before : (m : ℕ) (a b : List Extent) (xs : List Resident) → All (λ e. m ≤ e.offset) b → AllResidents (λ x. x.extent.offset < m) xs → remaining (a ++ b) xs ≡ remaining a xs
+pub remaining_before : (m : ℕ) (a b : List Extent) (xs : List Resident) → All (λ e. m ≤ e.offset) b → AllOf (λ x. x.extent.offset < m) xs → remaining (a ++ b) xs ≡ remaining a xs
 remaining_before m a b [] h low = refl
 remaining_before m a b (x ∷ xs) h low =
     let e = begins_before m x.extent.offset a b low.0 h in
     rw (e, remaining_before m a b xs h low.1) refl
 
-pub remaining_behind : (m : ℕ) (a b : List Extent) (xs : List Resident) → All (λ e. e.offset < m) a → AllResidents (λ x. m ≤ x.extent.offset) xs → remaining (a ++ b) xs ≡ remaining b xs
-remaining_behind m a b [] h high = refl
-remaining_behind m a b (x ∷ xs) h high =
-    let e = begins_behind m x.extent.offset a b high.0 h in
-    rw (e, remaining_behind m a b xs h high.1) refl
+pub remaining_after : (m : ℕ) (a b : List Extent) (xs : List Resident) → All (λ e. e.offset < m) a → AllOf (λ x. m ≤ x.extent.offset) xs → remaining (a ++ b) xs ≡ remaining b xs
+remaining_after m a b [] h high = refl
+remaining_after m a b (x ∷ xs) h high =
+    let e = begins_after m x.extent.offset a b high.0 h in
+    rw (e, remaining_after m a b xs h high.1) refl
 
 -- none goes besides
 pub remaining_all : (xs : List Resident) → remaining [] xs ≡ xs

@@ -1,4 +1,3 @@
-pub mod Order
 pub mod Parts
-pub mod Kept
 pub mod Gone
+pub mod Crossing

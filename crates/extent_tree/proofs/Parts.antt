@@ -8,8 +8,7 @@ use Rattle.use_tree.specs.declared.choices.Choice.{Choice}
 use Rattle.extent_tree.specs.declared.spans.Span.{Span}
 use Rattle.extent_tree.specs.declared.spans.Spans.{Spans}
 use Rattle.extent_tree.specs.declared.residents.Resident.{Resident}
-use Rattle.extent_tree.specs.Residents.{goes, staying, joined, span_of}
-use Rattle.extent_tree.specs.Shape.{AreOf, span_at}
+use Rattle.extent_tree.specs.Residents.{AreOf, goes, staying, joined, span_at, span_of}
 
 joined_thrice : (a b c : Option Span) → joined a (joined b c) ≡ joined (joined a b) c
 joined_thrice None b c = refl

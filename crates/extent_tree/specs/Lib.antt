@@ -1,2 +1,1 @@
 pub mod Residents
-pub mod Shape

@@ -1,42 +1,44 @@
 -- Lists of resident copies' extents by rising offset, and the gaps between those that stay.
-use Rattle.std.specs.Prelude.{ℕ, ◌+◌, ◌-◌, ◌<◌, Bool, false, not, ◌||◌, nat_lt, nat_le, nat_eq, max, if◌then◌else◌, List, [], ◌∷◌, map, filter, Option, Some, None}
+use Rattle.std.specs.Prelude.{◌≡◌, ℕ, ◌+◌, ◌-◌, ◌<◌, Bool, not, ◌||◌, nat_le, nat_eq, max, List, [], ◌∷◌, map, filter, Option, Some, None}
 use Rattle.std.specs.List.{list_any}
+use Rattle.augmented_tree.specs.Lists.{IsRisingBy, put_item, take_item, has_item, change_item}
 use Rattle.obj_id.specs.declared.works.Extent.{Extent}
 use Rattle.use_tree.specs.declared.choices.Choice.{Choice}
 use Rattle.use_tree.specs.declared.choices.Choice.TheVariants.{Evictable, Passing, Spillable}
 use Rattle.use_tree.specs.declared.choices.Choices.{Choices}
 use Rattle.extent_tree.specs.declared.spans.Span.{Span}
+use Rattle.extent_tree.specs.declared.spans.Spans.{Spans}
 use Rattle.extent_tree.specs.declared.residents.Resident.{Resident}
 
--- each has P
-abbrev pub AllResidents : (Resident → Type 0) → List Resident → Type 0
-AllResidents P [] = Unit {0}
-AllResidents P (x ∷ xs) = P x × AllResidents P xs
+abbrev pub offset_of : Resident → ℕ
+offset_of x = x.extent.offset
+
+-- an extent that the widest window may have
+abbrev pub Fits : Resident → Type 0
+Fits x = (x.extent.offset < 536870912) × (x.extent.length < 4294967296)
+
+abbrev pub with_choices : Choices → Resident → Resident
+with_choices m x = record x { choices = m }
 
 -- each offset is below all later ones
 abbrev pub IsRising : List Resident → Type 0
-IsRising [] = Unit {0}
-IsRising (x ∷ xs) = AllResidents (λ y. x.extent.offset < y.extent.offset) xs × IsRising xs
+IsRising = IsRisingBy offset_of
 
 -- with an extent in its place, in place of the one at its offset
 abbrev pub put_resident : Resident → List Resident → List Resident
-put_resident x [] = x ∷ []
-put_resident x (y ∷ ys) = if nat_lt x.extent.offset y.extent.offset then x ∷ y ∷ ys else (if nat_lt y.extent.offset x.extent.offset then y ∷ put_resident x ys else x ∷ ys)
+put_resident = put_item offset_of
 
 -- without the one at an offset
 abbrev pub take_resident : ℕ → List Resident → List Resident
-take_resident o [] = []
-take_resident o (y ∷ ys) = if nat_eq o y.extent.offset then ys else y ∷ take_resident o ys
+take_resident = take_item offset_of
 
 -- whether there is one at an offset
 abbrev pub has_resident : ℕ → List Resident → Bool
-has_resident o [] = false
-has_resident o (y ∷ ys) = nat_eq o y.extent.offset || has_resident o ys
+has_resident = has_item offset_of
 
 -- with these walks for the one at an offset
 abbrev pub choose_resident : ℕ → Choices → List Resident → List Resident
-choose_resident o m [] = []
-choose_resident o m (y ∷ ys) = if nat_eq o y.extent.offset then record y { choices = m } ∷ ys else y ∷ choose_resident o m ys
+choose_resident o m = change_item offset_of (with_choices m) o
 
 -- whether a copy with these choices goes if all go that this walk and those before it choose
 abbrev pub goes : Choice → Choices → Bool
@@ -67,3 +69,13 @@ span_of (e ∷ es) = joined (Some (record { start = e.offset; end = e.offset + e
 abbrev pub has_gap : ℕ → ℕ → Option Span → Bool
 has_gap q n None = nat_le n q
 has_gap q n (Some s) = nat_le n s.start || (nat_le n s.widest || nat_le (s.end + n) q)
+
+-- the span for a walk
+abbrev pub span_at : Choice → Spans → Option Span
+span_at Evictable s = s.evictable
+span_at Passing s = s.passing
+span_at Spillable s = s.spillable
+
+-- these are the spans of the extents that stay
+abbrev pub AreOf : Spans → List Resident → Type 0
+AreOf s xs = (k : Choice) → span_at k s ≡ span_of (staying k xs)

@@ -1,8 +1,7 @@
 //! Spans of extents, and the gaps between them.
 ghost use Rattle.std.specs.Prelude.{◌≡◌, ◌<◌, [], ◌∷◌, Option, Some, None};
 ghost use Rattle.use_tree.specs.declared.choices.Choice.{Choice};
-ghost use Rattle.extent_tree.specs.Residents.{goes as goes_lem, joined as joined_lem, has_gap as has_gap_lem, staying, span_of};
-ghost use Rattle.extent_tree.specs.Shape.{Fits, AreOf, span_at};
+ghost use Rattle.extent_tree.specs.Residents.{Fits, AreOf, goes as goes_lem, joined as joined_lem, has_gap as has_gap_lem, span_at, staying, span_of};
 
 use crate::residents::Resident;
 use use_tree::{Choice, Choices};
@@ -25,8 +24,8 @@ pub fn has_gap(span: Option<Span>, quota: u64, need: u64) -> bool
     match span {
         None => need <= quota,
         Some(span) => {
-            let fits_behind = span.end <= quota && need <= quota - span.end;
-            need <= span.start || need <= span.widest || fits_behind
+            let fits_after = span.end <= quota && need <= quota - span.end;
+            need <= span.start || need <= span.widest || fits_after
         }
     }
 }
@@ -118,7 +117,7 @@ impl Spans {
         }
     }
 
-    /// Of these extents and, behind them, the others.
+    /// Of these extents and, after them, the others.
     pub(crate) fn joined(self, other: Spans) -> Spans
         ensures { (choice : Choice) → span_at choice result ≡ joined_lem (span_at choice self) (span_at choice other) }
     {

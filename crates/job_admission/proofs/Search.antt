@@ -72,8 +72,8 @@ taken_before ws w n from o h low high = by (list_all (is_apart (at o n)) ws) ref
         sym here ∙ not_here
 
 -- what is in the way ends after where the search is
-pub ends_behind : (ws : List Extent) (w : Extent) (n from : ℕ) → find (is_in_the_way (at from n)) ws ≡ Some w → from < end_of w
-ends_behind ws w n from h = (meets (at from n) w (not_true _ (found_passes (is_in_the_way (at from n)) ws w h))).1
+pub ends_after : (ws : List Extent) (w : Extent) (n from : ℕ) → find (is_in_the_way (at from n)) ws ≡ Some w → from < end_of w
+ends_after ws w n from h = (meets (at from n) w (not_true _ (found_passes (is_in_the_way (at from n)) ws w h))).1
 
 module _ (ws : List Extent) (memory n : ℕ) (units : rounded n ≡ n) where
   pub free_is : (o : ℕ) → is_free ws memory n o ≡ (nat_le (o + n) memory && list_all (is_apart (at o n)) ws)

@@ -6,6 +6,7 @@ use Rattle.std.specs.Option.{option_map, option_map_or, option_and_then}
 use Rattle.std.specs.Map.{keys_of}
 use Rattle.std.proofs.lemmas.Bool.Decides.{nat_tests}
 use Rattle.std.proofs.lemmas.List.Folds.{list_any-append, list_all-append}
+use Rattle.augmented_tree.specs.Lists.{AllOf}
 use Rattle.obj_id.specs.declared.ids.ObjectId.{ObjectId}
 use Rattle.obj_id.specs.declared.works.Extent.{Extent}
 use Rattle.obj_id.specs.Ids.{same_id}
@@ -23,7 +24,7 @@ use Rattle.use_tree.specs.declared.choices.Choice.{Choice}
 use Rattle.use_tree.specs.declared.choices.Choice.TheVariants.{Evictable, Passing, Spillable}
 use Rattle.use_tree.specs.Choices.{has}
 use Rattle.extent_tree.specs.declared.residents.Resident.{Resident}
-use Rattle.extent_tree.specs.Residents.{AllResidents, IsRising, put_resident, has_resident, goes as goes_if, staying, remaining, span_of, has_gap}
+use Rattle.extent_tree.specs.Residents.{IsRising, put_resident, has_resident, goes as goes_if, staying, remaining, span_of, has_gap}
 use Rattle.lru_evictor.specs.declared.facts.CopyFacts.{CopyFacts}
 use Rattle.lru_evictor.specs.declared.facts.DeviceRoom.{DeviceRoom}
 use Rattle.lru_evictor.specs.declared.facts.Standing.{Standing}
@@ -32,16 +33,13 @@ use Rattle.lru_evictor.specs.Facts.{Looked, passes, passes_at, standing_at, nowh
 use Rattle.lru_evictor.specs.Orders.{ids_of, AllPass, same_bool, same_choices, same_extent, same_standing}
 use Rattle.lru_evictor.specs.Indexed.{spread, AreApart, shown}
 use Rattle.lru_evictor.specs.Plans.{IsDescribed, facts_of, extents_in}
+use Rattle.lru_evictor.proofs.Truths.{each}
 use Rattle.lru_evictor.proofs.CacheOrders.{reverse-cons}
 use Rattle.lru_evictor.proofs.Described.{both_ways, all_same, IsFound, each_found, all_of, all_agree, each_agrees, all_kept, same_tests, goes-among}
 use Rattle.lru_evictor.proofs.Free.{goes, first-same, all_more}
 use Rattle.lru_evictor.proofs.Gaps.{first-gap}
 use Rattle.lru_evictor.proofs.Lists.{Ways, below, above, level, ways}
 use Rattle.lru_evictor.proofs.Spread.{spread-rising, clear-none}
-
-two : (a b : Bool) → a && b ≡ true → (a ≡ true) × (b ≡ true)
-two true b e = (refl, e)
-two false b e = cc
 
 -- ---- standings that are the same
 
@@ -55,16 +53,16 @@ same_extent-equal None None h = refl
 same_extent-equal None (Some f) h = cc
 same_extent-equal (Some e) None h = cc
 same_extent-equal (Some e) (Some f) h =
-    let both = two (nat_eq e.offset f.offset) (nat_eq e.length f.length) h in
+    let both = each (nat_eq e.offset f.offset) (nat_eq e.length f.length) h in
     let at : e.offset ≡ f.offset = grind (arith, nat_tests, both.0) in
     let long : e.length ≡ f.length = grind (arith, nat_tests, both.1) in
     λ i. Some (record { offset = at i; length = long i })
 
 pub same_standing-equal : (s t : Standing) → same_standing s t ≡ true → s ≡ t
 same_standing-equal s t h =
-    let both = two (same_extent s.extent t.extent) (same_choices s.choices t.choices) h in
-    let more = two (same_bool s.choices.evictable t.choices.evictable) (same_bool s.choices.passing t.choices.passing && same_bool s.choices.spillable t.choices.spillable) both.1 in
-    let rest = two (same_bool s.choices.passing t.choices.passing) (same_bool s.choices.spillable t.choices.spillable) more.1 in
+    let both = each (same_extent s.extent t.extent) (same_choices s.choices t.choices) h in
+    let more = each (same_bool s.choices.evictable t.choices.evictable) (same_bool s.choices.passing t.choices.passing && same_bool s.choices.spillable t.choices.spillable) both.1 in
+    let rest = each (same_bool s.choices.passing t.choices.passing) (same_bool s.choices.spillable t.choices.spillable) more.1 in
     λ i. record {
       extent = same_extent-equal s.extent t.extent both.0 i;
       choices = record {
@@ -149,7 +147,7 @@ all_staying test k gone (x ∷ xs) =
 found-passes : (f : ObjectId → Bool) (cs : ById Copy) (id : ObjectId) (copy : Copy) → at cs id ≡ Some copy → list_all (λ c. f c.0) cs ≡ true → f id ≡ true
 found-passes f [] id copy h all = cc
 found-passes f (c ∷ cs) id copy h all =
-    let both = two (f c.0) (list_all (λ c. f c.0) cs) all in
+    let both = each (f c.0) (list_all (λ c. f c.0) cs) all in
     (elim (same_id id c.0) as (λ b. same_id id c.0 ≡ b → cond b (Some c.1) (at cs id) ≡ Some copy → f id ≡ true) [
       | true ↦ λ t h. ap f (same_id-equal id c.0 t) ∙ both.0
       | false ↦ λ t h. found-passes f cs id copy h both.1
@@ -158,7 +156,7 @@ found-passes f (c ∷ cs) id copy h all =
 among-passes : (f : ObjectId → Bool) (xs : List ObjectId) (id : ObjectId) → is_among xs id ≡ true → list_all f xs ≡ true → f id ≡ true
 among-passes f [] id h all = cc
 among-passes f (x ∷ xs) id h all =
-    let both = two (f x) (list_all f xs) all in
+    let both = each (f x) (list_all f xs) all in
     (elim (same_id id x) as (λ b. same_id id x ≡ b → b || is_among xs id ≡ true → f id ≡ true) [
       | true ↦ λ t h. ap f (same_id-equal id x t) ∙ both.0
       | false ↦ λ t h. among-passes f xs id h both.1
@@ -183,8 +181,8 @@ and_true a b h g = ap (λ x. x && b) h ∙ g
 all_and : (p q : Extent → Bool) (xs : List Extent) → list_all p xs ≡ true → list_all q xs ≡ true → list_all (λ x. p x && q x) xs ≡ true
 all_and p q [] h g = refl
 all_and p q (x ∷ xs) h g =
-    let a = two (p x) (list_all p xs) h in
-    let b = two (q x) (list_all q xs) g in
+    let a = each (p x) (list_all p xs) h in
+    let b = each (q x) (list_all q xs) g in
     and_true (p x && q x) (list_all (λ x. p x && q x) xs) (and_true (p x) (q x) a.0 b.0) (all_and p q xs a.1 b.1)
 
 laid_units : (q at : ℕ) (es : List Extent) → LaidFrom q at es → list_all (is_unit q) es ≡ true
@@ -237,25 +235,25 @@ AreRising (x ∷ xs) = AllByRecursion (λ (y : Extent). x.offset < y.offset) xs 
 laid_from : (q at : ℕ) (es : List Extent) → AreRising es → list_all (is_unit q) es ≡ true → list_all (λ x. list_all (is_clear_of x) es) es ≡ true → AllByRecursion (λ (y : Extent). at ≤ y.offset) es → at ≤ q → LaidFrom q at es
 laid_from q at [] rising units clear low le = le
 laid_from q at (e ∷ es) rising units clear low le =
-    let unit = two (is_unit q e) (list_all (is_unit q) es) units in
-    let first = two (nat_eq (e.offset % 16) 0) (nat_eq (e.length % 16) 0 && (nat_lt 0 e.length && nat_le (e.offset + e.length) q)) unit.0 in
-    let second = two (nat_eq (e.length % 16) 0) (nat_lt 0 e.length && nat_le (e.offset + e.length) q) first.1 in
-    let third = two (nat_lt 0 e.length) (nat_le (e.offset + e.length) q) second.1 in
+    let unit = each (is_unit q e) (list_all (is_unit q) es) units in
+    let first = each (nat_eq (e.offset % 16) 0) (nat_eq (e.length % 16) 0 && (nat_lt 0 e.length && nat_le (e.offset + e.length) q)) unit.0 in
+    let second = each (nat_eq (e.length % 16) 0) (nat_lt 0 e.length && nat_le (e.offset + e.length) q) first.1 in
+    let third = each (nat_lt 0 e.length) (nat_le (e.offset + e.length) q) second.1 in
     let within : e.offset + e.length ≤ q = grind (arith, nat_tests, third.1) in
     let some : 0 < e.length = grind (arith, nat_tests, third.0) in
-    let here = two (list_all (is_clear_of e) (e ∷ es)) (list_all (λ x. list_all (is_clear_of x) (e ∷ es)) es) clear in
-    let own = two (is_clear_of e e) (list_all (is_clear_of e) es) here.0 in
+    let here = each (list_all (is_clear_of e) (e ∷ es)) (list_all (λ x. list_all (is_clear_of x) (e ∷ es)) es) clear in
+    let own = each (is_clear_of e e) (list_all (is_clear_of e) es) here.0 in
     let at_unit : e.offset % 16 ≡ 0 = grind (arith, nat_tests, first.0) in
     let long_unit : e.length % 16 ≡ 0 = grind (arith, nat_tests, second.0) in
     (low.0, at_unit, long_unit, some, laid_from q (e.offset + e.length) es rising.1 unit.1 (inner es here.1) (past es rising.0 own.1) within)
   where
     inner : (xs : List Extent) → list_all (λ x. list_all (is_clear_of x) (e ∷ es)) xs ≡ true → list_all (λ x. list_all (is_clear_of x) es) xs ≡ true
-    inner xs h = all_more (λ x. list_all (is_clear_of x) (e ∷ es)) (λ x. list_all (is_clear_of x) es) (λ x t. (two (is_clear_of x e) (list_all (is_clear_of x) es) t).1) xs h
+    inner xs h = all_more (λ x. list_all (is_clear_of x) (e ∷ es)) (λ x. list_all (is_clear_of x) es) (λ x t. (each (is_clear_of x e) (list_all (is_clear_of x) es) t).1) xs h
 
     past : (xs : List Extent) → AllByRecursion (λ (y : Extent). e.offset < y.offset) xs → list_all (is_clear_of e) xs ≡ true → AllByRecursion (λ (y : Extent). e.offset + e.length ≤ y.offset) xs
     past [] r h = tt
     past (y ∷ ys) r h =
-        let both = two (is_clear_of e y) (list_all (is_clear_of e) ys) h in
+        let both = each (is_clear_of e y) (list_all (is_clear_of e) ys) h in
         (after (nat_le (e.offset + e.length) y.offset) refl both.0, past ys r.1 both.1)
       where
         after : (b : Bool) → nat_le (e.offset + e.length) y.offset ≡ b → b || nat_le y.offset e.offset ≡ true → e.offset + e.length ≤ y.offset
@@ -263,9 +261,9 @@ laid_from q at (e ∷ es) rising units clear low le =
         after false t h = let le : y.offset ≤ e.offset = grind (arith, nat_tests, h) in absurd (omega (arith, le, r.0))
 
 -- what stays of residents by rising offset rises
-filter_above : (o : ℕ) (p : Resident → Bool) (xs : List Resident) → AllResidents (λ y. o < y.extent.offset) xs → AllResidents (λ y. o < y.extent.offset) (filter p xs)
+filter_above : (o : ℕ) (p : Resident → Bool) (xs : List Resident) → AllOf (λ y. o < y.extent.offset) xs → AllOf (λ y. o < y.extent.offset) (filter p xs)
 filter_above o p [] h = tt
-filter_above o p (x ∷ xs) h = elim (p x) as (λ b. AllResidents (λ y. o < y.extent.offset) (cond b (x ∷ filter p xs) (filter p xs))) [
+filter_above o p (x ∷ xs) h = elim (p x) as (λ b. AllOf (λ y. o < y.extent.offset) (cond b (x ∷ filter p xs) (filter p xs))) [
   | true ↦ (h.0, filter_above o p xs h.1)
   | false ↦ filter_above o p xs h.1
 ]
@@ -281,7 +279,7 @@ extents_rising : (xs : List Resident) → IsRising xs → AreRising (map (λ (r 
 extents_rising [] h = tt
 extents_rising (x ∷ xs) h = (above x.extent.offset xs h.0, extents_rising xs h.1)
   where
-    above : (o : ℕ) (ys : List Resident) → AllResidents (λ y. o < y.extent.offset) ys → AllByRecursion (λ (y : Extent). o < y.offset) (map (λ (r : Resident). r.extent) ys)
+    above : (o : ℕ) (ys : List Resident) → AllOf (λ y. o < y.extent.offset) ys → AllByRecursion (λ (y : Extent). o < y.offset) (map (λ (r : Resident). r.extent) ys)
     above o [] a = tt
     above o (y ∷ ys) a = (a.0, above o ys a.1)
 

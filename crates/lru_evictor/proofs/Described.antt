@@ -28,6 +28,7 @@ use Rattle.use_tree.specs.declared.choices.Choice.{Choice}
 use Rattle.use_tree.specs.declared.choices.Choice.TheVariants.{Evictable, Passing, Spillable}
 use Rattle.lru_evictor.specs.Facts.{Looked, passes, passes_at, chosen, gone_of, fits_without, bytes_at, device_bytes}
 use Rattle.lru_evictor.specs.Plans.{IsDescribed, facts_of, extents_in}
+use Rattle.lru_evictor.proofs.Truths.{each}
 use Rattle.lru_evictor.proofs.Free.{goes, all-left, first-same}
 
 -- tests that imply each other give the same answer
@@ -48,10 +49,6 @@ all_same p xs ys h = both_ways (list_all p xs) (list_all p ys) (all_within p xs 
 abbrev pub IsFound : ById Copy → (ObjectId × Copy) → Type 0
 IsFound es e = at es e.0 ≡ Some e.1
 
-two : (a b : Bool) → a && b ≡ true → (a ≡ true) × (b ≡ true)
-two true b e = (refl, e)
-two false b e = cc
-
 above : (r s : Ordering) → r ≡ ordering_reverse s → is_lt s ≡ true → is_eq r ≡ false
 above r Less e h = ap is_eq e
 above r Equal e h = cc
@@ -60,13 +57,13 @@ above r Greater e h = cc
 later : (e : ObjectId × Copy) (es xs : ById Copy) → below_all id_cmp e.0 xs ≡ true → AllByRecursion (IsFound es) xs → AllByRecursion (IsFound (e ∷ es)) xs
 later e es [] below h = tt
 later e es (x ∷ xs) below h =
-    let here = two (is_lt (id_cmp e.0 x.0)) (below_all id_cmp e.0 xs) below in
+    let here = each (is_lt (id_cmp e.0 x.0)) (below_all id_cmp e.0 xs) below in
     (ap (λ b. cond b (Some e.1) (at es x.0)) (above (id_cmp x.0 e.0) (id_cmp e.0 x.0) (id_cmp-IsTotalOrder.antisymm x.0 e.0) here.0) ∙ h.0, later e es xs here.1 h.1)
 
 pub each_found : (es : ById Copy) → is_sorted id_cmp es ≡ true → AllByRecursion (IsFound es) es
 each_found [] h = tt
 each_found (e ∷ es) h =
-    let here = two (below_all id_cmp e.0 es) (is_sorted id_cmp es) h in
+    let here = each (below_all id_cmp e.0 es) (is_sorted id_cmp es) h in
     (ap (λ r. cond (is_eq r) (Some e.1) (at es e.0)) (tied_itself id_cmp-IsTotalOrder e.0), later e es es here.0 (each_found es here.1))
 
 -- ---- tests of what is left

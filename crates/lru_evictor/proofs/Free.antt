@@ -18,6 +18,7 @@ use Rattle.lru_evictor.specs.declared.area.Area.{Area}
 use Rattle.lru_evictor.specs.declared.area.Area.TheVariants.{Window, Staying}
 use Rattle.lru_evictor.specs.Areas.{fits_in}
 use Rattle.lru_evictor.specs.Facts.{Looked, gone_of, fits_without}
+use Rattle.lru_evictor.proofs.Truths.{each}
 
 -- whether an extent that begins there goes
 abbrev pub goes : List Extent → ℕ → Bool
@@ -73,14 +74,10 @@ first-more es fs window n h = from 0 (window / 16 + 1)
         by rest false true p q e = let t = sym p ∙ h o q in cc
         by rest false false p q e = rest e
 
-both : (a b : Bool) → a && b ≡ true → (a ≡ true) × (b ≡ true)
-both true b e = (refl, e)
-both false b e = cc
-
 pub all_more : {X : Type 0} (p q : X → Bool) → ((x : X) → p x ≡ true → q x ≡ true) → (xs : List X) → list_all p xs ≡ true → list_all q xs ≡ true
 all_more p q h [] e = refl
 all_more p q h (x ∷ xs) e =
-    let here = both (p x) (list_all p xs) e in
+    let here = each (p x) (list_all p xs) e in
     ap (λ b. b && list_all q xs) (h x here.0) ∙ all_more p q h xs here.1
 
 or_more : (a b c : Bool) → a || c ≡ true → (a || b) || c ≡ true
@@ -99,7 +96,7 @@ module _ (window : Region) (facts : Looked) (n : ℕ) where
       free : (o : ℕ) → is_free (extents_of (without (gone_of facts out) window.placed)) window.quota n o ≡ true → is_free (extents_of (without (gone_of facts (out ++ more)) window.placed)) window.quota n o ≡ true
       free o e =
           let new : Extent = record { offset = o; length = rounded n } in
-          let here = both (nat_le (end_of new) window.quota) (list_all (is_apart new) (extents_of (without (gone_of facts out) window.placed))) e in
+          let here = each (nat_le (end_of new) window.quota) (list_all (is_apart new) (extents_of (without (gone_of facts out) window.placed))) e in
           let some = all-left (is_apart new) (gone_of facts out) window.placed in
           let rest = all-left (is_apart new) (gone_of facts (out ++ more)) window.placed in
           let on = all_more (λ x. goes (gone_of facts out) x.offset || is_apart new x) (λ x. goes (gone_of facts (out ++ more)) x.offset || is_apart new x) (λ x g. wider x g) (extents_of window.placed) (sym some ∙ here.1) in

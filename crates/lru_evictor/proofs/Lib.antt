@@ -1,3 +1,4 @@
+pub mod Truths
 pub mod CacheOrders
 pub mod Reorders
 pub mod Free
@@ -12,3 +13,4 @@ pub mod Planned
 pub mod Rooms
 pub mod Firsts
 pub mod Uses
+pub mod Crossing

@@ -4,19 +4,19 @@ use Rattle.std.specs.Prelude.{nat_lt, nat_eq, if◌then◌else◌}
 use Rattle.std.proofs.lemmas.Bool.Decides.{nat_tests}
 use Rattle.use_tree.specs.declared.choices.Choices.{Choices}
 use Rattle.extent_tree.specs.declared.residents.Resident.{Resident}
-use Rattle.extent_tree.proofs.Order.{all_put, all_above, put_least}
-use Rattle.extent_tree.specs.Residents.{IsRising, put_resident, take_resident, has_resident, choose_resident}
+use Rattle.augmented_tree.proofs.Order.{all_put, all_above, put_least}
+use Rattle.extent_tree.specs.Residents.{offset_of, IsRising, put_resident, take_resident, has_resident, choose_resident}
 
 pub rising-put : (x : Resident) (xs : List Resident) → IsRising xs → IsRising (put_resident x xs)
 rising-put x [] h = (tt, tt)
 rising-put x (y ∷ ys) h = (elim (nat_lt x.extent.offset y.extent.offset) as (λ b. nat_lt x.extent.offset y.extent.offset ≡ b → IsRising (if b then x ∷ y ∷ ys else (if nat_lt y.extent.offset x.extent.offset then y ∷ put_resident x ys else x ∷ ys))) [
   | true ↦ λ t. let lt : x.extent.offset < y.extent.offset = grind (arith, nat_tests, t) in
-      ((lt, all_above x.extent.offset y.extent.offset ys (omega (arith, lt)) h.0), h)
+      ((lt, all_above offset_of x.extent.offset y.extent.offset ys (omega (arith, lt)) h.0), h)
   | false ↦ λ t. (elim (nat_lt y.extent.offset x.extent.offset) as (λ b. nat_lt y.extent.offset x.extent.offset ≡ b → IsRising (if b then y ∷ put_resident x ys else x ∷ ys)) [
     | true ↦ λ u. let lt : y.extent.offset < x.extent.offset = grind (arith, nat_tests, u) in
-        (all_put (λ z. y.extent.offset < z.extent.offset) x ys lt h.0, rising-put x ys h.1)
+        (all_put offset_of (λ z. y.extent.offset < z.extent.offset) x ys lt h.0, rising-put x ys h.1)
     | false ↦ λ u. let same : x.extent.offset ≤ y.extent.offset = grind (arith, nat_tests, u) in
-        (all_above x.extent.offset y.extent.offset ys same h.0, h.1)
+        (all_above offset_of x.extent.offset y.extent.offset ys same h.0, h.1)
   ]) refl
 ]) refl
 
@@ -112,7 +112,7 @@ module _ (x : Resident) where
         by rest (below l e f m) =
             let lt : x.extent.offset < y.extent.offset = grind (arith, nat_tests, l) in
             rw (l, off) (elim (nat_eq o y.extent.offset) as (λ b. x ∷ (if b then ys else y ∷ take_resident o ys) ≡ put_resident x (if b then ys else y ∷ take_resident o ys)) [
-              | true ↦ sym (put_least x ys (all_above x.extent.offset y.extent.offset ys (omega (arith, lt)) h.0))
+              | true ↦ sym (put_least offset_of x ys (all_above offset_of x.extent.offset y.extent.offset ys (omega (arith, lt)) h.0))
               | false ↦ rw l refl
             ])
         by rest (above l e f m) =

@@ -38,13 +38,13 @@ module _ (test : List ObjectId → Bool) (more : AreMore test) (ids : List Objec
           differ h = cc
 
   -- the ids are a beginning of all that may go
-  module _ (rest all : List ObjectId) (behind : ids ++ rest ≡ all) where
+  module _ (rest all : List ObjectId) (whole : ids ++ rest ≡ all) where
     beginning_at : (j : ℕ) → j ≤ length ids → take j all ≡ take j ids
-    beginning_at j le = ap (take j) (sym behind) ∙ take-append-le j ids rest le
+    beginning_at j le = ap (take j) (sym whole) ∙ take-append-le j ids rest le
 
     pub found_here : (k : ℕ) → k ≤ length ids → test (take k ids) ≡ true → test (take (k - 1) ids) ≡ false → Some (take k ids) ≡ shortest test all
     found_here k within good bad =
-        let long : length ids ≤ length all = omega (arith, ap length behind, length-append ids rest) in
+        let long : length ids ≤ length all = omega (arith, ap length whole, length-append ids rest) in
         ap Some (sym (beginning_at k within))
         ∙ sym (shortest-found test all k (omega (arith, long, within)) (ap test (beginning_at k within) ∙ good)
         (λ j lt. ap test (beginning_at j (omega (arith, within, lt))) ∙ fewer_fail (k - 1) j (omega (arith, lt)) bad))
@@ -53,15 +53,15 @@ module _ (test : List ObjectId → Bool) (more : AreMore test) (ids : List Objec
     found_none : rest ≡ [] → test ids ≡ false → None ≡ shortest test all
     found_none done bad = sym (shortest-none test all none)
       where
-        whole : ids ≡ all
-        whole = sym (append-nil ids) ∙ ap (λ xs. ids ++ xs) (sym done) ∙ behind
+        complete : ids ≡ all
+        complete = sym (append-nil ids) ∙ ap (λ xs. ids ++ xs) (sym done) ∙ whole
 
         every : test (take (length ids) ids) ≡ false
         every = ap test (take_all (length ids) ids (omega arith)) ∙ bad
 
         none : (j : ℕ) → j ≤ length all → test (take j all) ≡ false
         none j le =
-            let short : j ≤ length ids = omega (arith, le, ap length whole) in
+            let short : j ≤ length ids = omega (arith, le, ap length complete) in
             ap test (beginning_at j short) ∙ fewer_fail (length ids) j short every
 
 -- all that may go are too few
@@ -72,15 +72,15 @@ too_few test more all bad = found_none test more all [] all (append-nil all) ref
 pub found-last : (area : Area) (facts : Looked) (n : ℕ) → AreMore (fits_without area facts n) → (ids rest all : List ObjectId) → ids ++ rest ≡ all → rest ≡ []
     → (r : Option ℕ) → IfSome r (AreEnough area facts n ids) → IfNone r (fits_without area facts n ids ≡ false)
     → option_map (λ k. take k ids) r ≡ shortest (fits_without area facts n) all
-found-last area facts n more ids rest all behind done None some none = found_none (fits_without area facts n) more ids rest all behind done none
-found-last area facts n more ids rest all behind done (Some k) some none = found_here (fits_without area facts n) more ids rest all behind k some.within some.enough some.fewer
+found-last area facts n more ids rest all whole done None some none = found_none (fits_without area facts n) more ids rest all whole done none
+found-last area facts n more ids rest all whole done (Some k) some none = found_here (fits_without area facts n) more ids rest all whole k some.within some.enough some.fewer
 
 -- one more is chosen
-pub behind-pushed : (facts : Looked) (choice : Choice) (ids new : List ObjectId) (id : ObjectId) → new ≡ ids ++ id ∷ [] → (left next all : List ObjectId) → left ≡ id ∷ next → true ≡ passes_at facts choice id
+pub whole-pushed : (facts : Looked) (choice : Choice) (ids new : List ObjectId) (id : ObjectId) → new ≡ ids ++ id ∷ [] → (left next all : List ObjectId) → left ≡ id ∷ next → true ≡ passes_at facts choice id
     → ids ++ chosen facts choice left ≡ all → new ++ chosen facts choice next ≡ all
-behind-pushed facts choice ids new id pushed left next all step passed behind =
+whole-pushed facts choice ids new id pushed left next all step passed whole =
     let here : chosen facts choice left ≡ id ∷ chosen facts choice next = ap (chosen facts choice) step ∙ ap (λ b. cond b (id ∷ chosen facts choice next) (chosen facts choice next)) (sym passed) in
     ap (λ xs. xs ++ chosen facts choice next) pushed
     ∙ append_assoc ids (id ∷ []) (chosen facts choice next)
     ∙ ap (λ xs. ids ++ xs) (sym here)
-    ∙ behind
+    ∙ whole

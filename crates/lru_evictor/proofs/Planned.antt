@@ -3,6 +3,7 @@ use Rattle.std.proofs.Common.{◌≡◌, ℕ, zero, suc, ◌+◌, ◌-◌, ◌/�
 use Rattle.std.specs.Prelude.{nat_lt, nat_le, if◌then◌else◌}
 use Rattle.std.specs.List.{list_all}
 use Rattle.std.proofs.lemmas.Bool.Decides.{nat_tests}
+use Rattle.augmented_tree.specs.Lists.{AllOf}
 use Rattle.obj_id.specs.declared.ids.ObjectId.{ObjectId}
 use Rattle.obj_id.specs.declared.works.Extent.{Extent}
 use Rattle.private_store.specs.Limits.{most_works}
@@ -16,7 +17,6 @@ use Rattle.job_region.specs.Layout.{LaidFrom}
 use Rattle.use_tree.specs.declared.choices.Choice.{Choice}
 use Rattle.use_tree.specs.declared.choices.Choice.TheVariants.{Evictable, Passing, Spillable}
 use Rattle.use_tree.specs.Choices.{has}
-use Rattle.use_tree.specs.Uses.{AllUses}
 use Rattle.extent_tree.specs.Residents.{staying, remaining, span_of, has_gap}
 use Rattle.extent_tree.proofs.Gone.{remaining_all}
 use Rattle.lru_evictor.specs.declared.facts.DeviceRoom.{DeviceRoom}
@@ -123,11 +123,11 @@ module _ (store : Shape) (window : Region) (device : DeviceRoom) (facts : Looked
   agree_all : (k : Choice) → fits_without window facts n (base_among (ids_of order) k) ≡ level_room k
   agree_all k = ap (fits_without window facts n) (sym (append-nil (base_among (ids_of order) k))) ∙ agree k [] ∙ none_gone k
 
-  module _ (candidates : List ObjectId) (k : Choice) (is : candidates ≡ chosen_ids k 4611686018427387904 index.0) (below : AllUses (λ u. u.turn < 4611686018427387904) index.0) where
+  module _ (candidates : List ObjectId) (k : Choice) (is : candidates ≡ chosen_ids k 4611686018427387904 index.0) (below : AllOf (λ u. u.turn < 4611686018427387904) index.0) where
     same_chosen : chosen facts k candidates ≡ chosen facts k (ids_of order)
     same_chosen =
         ap (chosen facts k) (is ∙ ap (chosen_ids k 4611686018427387904) of.index_of.uses)
-        ∙ candidates-kept k (λ id s. same_standing s (standing_at facts id)) (passes_at facts k) covered 4611686018427387904 of.entries told (subst (AllUses (λ u. u.turn < 4611686018427387904)) of.index_of.uses below)
+        ∙ candidates-kept k (λ id s. same_standing s (standing_at facts id)) (passes_at facts k) covered 4611686018427387904 of.entries told (subst (AllOf (λ u. u.turn < 4611686018427387904)) of.index_of.uses below)
         ∙ ap (chosen facts k) same_ids
       where
         covered : (id : ObjectId) (s : Standing) → same_standing s (standing_at facts id) ≡ true → passes_at facts k id ≡ true → has k s.choices ≡ true
@@ -138,7 +138,7 @@ module _ (store : Shape) (window : Region) (device : DeviceRoom) (facts : Looked
       too_few (fits_without window facts n) (fits-more window facts n) (chosen facts Evictable (ids_of order)) (agree_all Evictable ∙ sym is ∙ bad)
       ∙ victims-searched store window device facts described n (ids_of order)
 
-  pub victims-found : (candidates : List ObjectId) → candidates ≡ chosen_ids Evictable 4611686018427387904 index.0 → AllUses (λ u. u.turn < 4611686018427387904) index.0
+  pub victims-found : (candidates : List ObjectId) → candidates ≡ chosen_ids Evictable 4611686018427387904 index.0 → AllOf (λ u. u.turn < 4611686018427387904) index.0
       → (r : Option (List ObjectId)) → r ≡ shortest (fits_without window facts n) (chosen facts Evictable candidates) → r ≡ victims (ids_of order) store n
   victims-found candidates is below r found = found ∙ ap (shortest (fits_without window facts n)) (same_chosen candidates Evictable is below) ∙ victims-searched store window device facts described n (ids_of order)
 
@@ -159,7 +159,7 @@ module _ (store : Shape) (window : Region) (device : DeviceRoom) (facts : Looked
       too_few fits_beside beside_more (chosen facts Spillable (ids_of order)) (agree_all Spillable ∙ sym is ∙ bad)
       ∙ spilled-searched store window device facts described n (ids_of order)
 
-  pub spilled-found : (candidates : List ObjectId) → candidates ≡ chosen_ids Spillable 4611686018427387904 index.0 → AllUses (λ u. u.turn < 4611686018427387904) index.0
+  pub spilled-found : (candidates : List ObjectId) → candidates ≡ chosen_ids Spillable 4611686018427387904 index.0 → AllOf (λ u. u.turn < 4611686018427387904) index.0
       → (test : List ObjectId → Bool) → ((out : List ObjectId) → test out ≡ gap_without Passing out)
       → (r : Option (List ObjectId)) → (AreMore test → r ≡ shortest test (chosen facts Spillable candidates)) → r ≡ spilled (ids_of order) store n
   spilled-found candidates is below test same r found =

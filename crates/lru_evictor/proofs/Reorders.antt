@@ -9,16 +9,13 @@ use Rattle.private_store.specs.Tables.{ById, at, without_entry}
 use Rattle.private_store.specs.Shape.{Copy}
 use Rattle.private_store.specs.Step.{is_used, reordered}
 use Rattle.lru_evictor.specs.Orders.{without_id, last_used, AreThere}
-
-both : (a b : Bool) → a && b ≡ true → (a ≡ true) × (b ≡ true)
-both true b e = (refl, e)
-both false b e = cc
+use Rattle.lru_evictor.proofs.Truths.{each}
 
 -- what is kept of an order whose ids have copies
 kept : (copies : ById Copy) (used : Option ObjectId) (order : List ObjectId) → AreThere copies order → filter (λ x. not (is_used used x)) order ≡ filter (λ x. is_some (at copies x) && not (is_used used x)) order
 kept copies used [] h = refl
 kept copies used (x ∷ xs) h =
-    let here = both (is_some (at copies x)) (list_all (λ y. is_some (at copies y)) xs) h in
+    let here = each (is_some (at copies x)) (list_all (λ y. is_some (at copies y)) xs) h in
     ap (λ ys. cond (not (is_used used x)) (x ∷ ys) ys) (kept copies used xs here.1)
     ∙ ap (λ b. cond (b && not (is_used used x)) (x ∷ filter (λ y. is_some (at copies y) && not (is_used used y)) xs) (filter (λ y. is_some (at copies y) && not (is_used used y)) xs)) (sym here.0)
 
@@ -48,7 +45,7 @@ module _ (copies : ById Copy) (id : ObjectId) where
   removed : (order : List ObjectId) → AreThere copies order → filter (λ x. is_some (at (without_entry copies id) x) && true) order ≡ without_id id order
   removed [] h = refl
   removed (x ∷ xs) h =
-      let here = both (is_some (at copies x)) (list_all (λ y. is_some (at copies y)) xs) h in
+      let here = each (is_some (at copies x)) (list_all (λ y. is_some (at copies y)) xs) h in
       let test = ap (λ o. is_some o && true) (at-removed x) ∙ there x (not (same_id id x)) here.0 in
       λ i. cond (test i) (x ∷ removed xs here.1 i) (removed xs here.1 i)
 

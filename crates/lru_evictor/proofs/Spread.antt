@@ -10,6 +10,7 @@ use Rattle.obj_id.specs.Ids.{id_eq}
 use Rattle.use_tree.specs.declared.choices.Choices.{Choices}
 use Rattle.extent_tree.specs.declared.residents.Resident.{Resident}
 use Rattle.extent_tree.specs.Residents.{IsRising, put_resident, take_resident, has_resident, choose_resident}
+use Rattle.lru_evictor.proofs.Truths.{some_is}
 use Rattle.lru_evictor.proofs.Lists.{rising-put, has-put, has-choose, take-put, take-put_other, choose-put, choose-put_other, put-put}
 use Rattle.lru_evictor.specs.declared.facts.Standing.{Standing}
 use Rattle.lru_evictor.specs.declared.index.Place.{Place}
@@ -161,9 +162,6 @@ module _ (id : ObjectId) (p : Place) where
     | false ↦ λ h. one-has f.1.standing (spread es) e.offset (found-has e es is h)
   ]) h
     where
-      some_is : (x y : Place) → Some x ≡ Some y → x ≡ y
-      some_is x y h = cc
-
       here : f.1 ≡ p → has_resident e.offset (spread (f ∷ es)) ≡ true
       here same =
           ap (λ (q : Place). has_resident e.offset (spread_one q.standing (spread es))) same
@@ -184,9 +182,6 @@ module _ (id : ObjectId) (p : Place) where
       | false ↦ λ h. ap (spread_one f.1.standing) (spread-removed es a.1 h) ∙ sym (one-take f.1.standing (spread es) e.offset (spread-rising es) (found-has e es is h) a.0)
     ]) h
       where
-        some_is : (x y : Place) → Some x ≡ Some y → x ≡ y
-        some_is x y h = cc
-
         here : f.1 ≡ p → spread es ≡ take_resident e.offset (spread (f ∷ es))
         here same =
             let lies : f.1.standing.extent ≡ Some e = ap (λ (q : Place). q.standing.extent) same ∙ is in
@@ -200,9 +195,6 @@ module _ (id : ObjectId) (p : Place) where
     | false ↦ λ h. ap (spread_one f.1.standing) (spread-removed_nowhere es is h)
   ]) h
     where
-      some_is : (x y : Place) → Some x ≡ Some y → x ≡ y
-      some_is x y h = cc
-
       here : f.1 ≡ p → spread es ≡ spread (f ∷ es)
       here same = ap (λ r. option_map_or (λ x. put_resident (resident x f.1.standing.choices) (spread es)) r (spread es)) (sym (ap (λ (q : Place). q.standing.extent) same ∙ is))
 
@@ -272,9 +264,6 @@ module _ (id : ObjectId) (p : Place) where
       | false ↦ λ h. ap (spread_one f.1.standing) (spread-chosen es a.1 h) ∙ sym (one-choose f.1.standing (spread es) e.offset c (found-has e es is h) a.0)
     ]) h
       where
-        some_is : (x y : Place) → Some x ≡ Some y → x ≡ y
-        some_is x y h = cc
-
         here : f.1 ≡ p → put_resident (resident e c) (spread es) ≡ choose_resident e.offset c (spread (f ∷ es))
         here same =
             let lies : f.1.standing.extent ≡ Some e = ap (λ (q : Place). q.standing.extent) same ∙ is in
@@ -290,9 +279,6 @@ module _ (id : ObjectId) (p : Place) where
         apart-chosen es a.1 h,
       )
     ]) h
-      where
-        some_is : (x y : Place) → Some x ≡ Some y → x ≡ y
-        some_is x y h = cc
 
   -- it lies nowhere now, or lay nowhere and does so still
   module _ (c : Choices) (turn : ℕ) where
@@ -328,9 +314,6 @@ module _ (id : ObjectId) (p : Place) where
           ∙ sym (one-one (lying e c) (spread es) f.1.standing (ap not none))
     ]) h
       where
-        some_is : (x y : Place) → Some x ≡ Some y → x ≡ y
-        some_is x y h = cc
-
         here : f.1 ≡ p → put_resident (resident e c) (spread es) ≡ put_resident (resident e c) (spread (f ∷ es))
         here same = ap (λ r. put_resident (resident e c) (option_map_or (λ x. put_resident (resident x f.1.standing.choices) (spread es)) r (spread es))) (sym (ap (λ (q : Place). q.standing.extent) same ∙ is))
 
@@ -381,9 +364,6 @@ module _ (id : ObjectId) (turn next : ℕ) where
             let rest = same_spread s es h a.1 in
             (ap (spread_one f.1.standing) rest.0, (ap (is_clear f.1.standing) rest.0 ∙ a.0, rest.1))
       ]) h
-    where
-      some_is : (x y : Place) → Some x ≡ Some y → x ≡ y
-      some_is x y h = cc
 
 pub stands-same : (before after : Standing) (xs : List Resident) → before ≡ after → Stands before after xs xs
 stands-same before after xs same id turn next es found shown apart =

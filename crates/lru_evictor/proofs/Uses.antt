@@ -1,8 +1,9 @@
 -- What the uses of copies say of the copies' entries, the most recently used first.
 use Rattle.std.proofs.Common.{◌≡◌, ℕ, ◌-◌, ◌<◌, ◌≤◌, Bool, is_some, length, take, true, false, ◌&&◌, List, [], ◌∷◌, ◌++◌, Option, Some, None, refl, sym, ap, subst, ◌∙◌, arith, cond, map, filter, reverse}
-use Rattle.std.specs.Prelude.{nat_lt, nat_eq, if◌then◌else◌, unwrap_or}
+use Rattle.std.specs.Prelude.{nat_lt, nat_eq, if◌then◌else◌}
 use Rattle.std.specs.Map.{keys_of, lookup, lookup_entry, remove_entry, set_value}
 use Rattle.std.specs.Option.{option_map_or}
+use Rattle.augmented_tree.specs.Lists.{AllOf}
 use Rattle.lru.specs.LruCache.{LruCache, promoted, put_entries}
 use Rattle.std.specs.List.{IsDistinct, AllByRecursion}
 use Rattle.std.proofs.lemmas.Bool.Decides.{nat_tests}
@@ -16,18 +17,16 @@ use Rattle.use_tree.specs.declared.choices.Choice.{Choice}
 use Rattle.lru_evictor.specs.declared.facts.Standing.{Standing}
 use Rattle.use_tree.specs.declared.uses.Use.{Use}
 use Rattle.use_tree.specs.Choices.{has}
-use Rattle.use_tree.specs.Uses.{AllUses, IsRising, take_use, choose_use, either, last_chosen}
+use Rattle.use_tree.specs.Uses.{IsRising, take_use, choose_use, either, last_chosen}
 use Rattle.lru_evictor.specs.declared.index.Place.{Place}
 use Rattle.lru_evictor.specs.Orders.{AllPass, OthersPass}
 use Rattle.lru_evictor.specs.Indexed.{use_of, chosen_ids, shown}
+use Rattle.lru_evictor.proofs.Truths.{some_is}
 use Rattle.lru_evictor.proofs.CacheOrders.{filter-reverse, order-has}
 
 pub keys-shown : (es : List (ObjectId × Place)) → keys_of (shown es) ≡ keys_of es
 keys-shown [] = refl
 keys-shown (e ∷ es) = ap (λ ks. e.0 ∷ ks) (keys-shown es)
-
-some_is : {X : Type 0} (x y : X) → Some x ≡ Some y → x ≡ y
-some_is x y h = ap (λ o. unwrap_or o x) h
 
 pub order-shown : (es : List (ObjectId × Place)) → reverse (keys_of (shown es)) ≡ reverse (keys_of es)
 order-shown es = ap reverse (keys-shown es)
@@ -75,7 +74,7 @@ module _ (id : ObjectId) where
 module _ (id : ObjectId) (p : Place) where
   -- ---- the use of a copy
 
-  above_found : (t : ℕ) (es : List (ObjectId × Place)) → AllUses (λ u. t < u.turn) (map use_of es) → lookup (id_eq id) es ≡ Some p → t < p.turn
+  above_found : (t : ℕ) (es : List (ObjectId × Place)) → AllOf (λ u. t < u.turn) (map use_of es) → lookup (id_eq id) es ≡ Some p → t < p.turn
   above_found t [] a h = cc
   above_found t (e ∷ es) a h = (elim (id_eq id e.0) as (λ b. cond b (Some e.1) (lookup (id_eq id) es) ≡ Some p → t < p.turn) [
     | true ↦ λ h. subst (λ (q : Place). t < q.turn) (some_is e.1 p h) a.0
@@ -152,18 +151,18 @@ module _ (k : Choice) where
   abbrev ids_below : ℕ → List Use → List ObjectId
   ids_below b us = map (λ u. u.id) (filter (λ u. nat_lt u.turn b && has k u.choices) us)
 
-  none_below : (b : ℕ) (us : List Use) → AllUses (λ u. b ≤ u.turn) us → ids_below b us ≡ []
+  none_below : (b : ℕ) (us : List Use) → AllOf (λ u. b ≤ u.turn) us → ids_below b us ≡ []
   none_below b [] a = refl
   none_below b (u ∷ us) a =
       let t : nat_lt u.turn b ≡ false = grind (arith, nat_tests, a.0) in
       rw t (none_below b us a.1)
 
-  weaker : (b : ℕ) (us : List Use) → AllUses (λ u. b < u.turn) us → AllUses (λ u. b ≤ u.turn) us
+  weaker : (b : ℕ) (us : List Use) → AllOf (λ u. b < u.turn) us → AllOf (λ u. b ≤ u.turn) us
   weaker b [] a = tt
   weaker b (u ∷ us) a = (omega (arith, a.0), weaker b us a.1)
 
   -- a use that is found lies below b, and is one of these
-  last_within : (b t : ℕ) (us : List Use) (u : Use) → AllUses (λ v. t < v.turn) us → last_chosen k b us ≡ Some u → (t < u.turn) × (u.turn < b)
+  last_within : (b t : ℕ) (us : List Use) (u : Use) → AllOf (λ v. t < v.turn) us → last_chosen k b us ≡ Some u → (t < u.turn) × (u.turn < b)
   last_within b t [] u a h = cc
   last_within b t (x ∷ xs) u a h = by (last_within b t xs u a.1) (last_chosen k b xs) refl h
     where
@@ -228,7 +227,7 @@ module _ (k : Choice) where
 
   -- all that a walk chooses are candidates
   module _ (test : ObjectId → Standing → Bool) (chosen : ObjectId → Bool) (covered : (x : ObjectId) (c : Standing) → test x c ≡ true → chosen x ≡ true → has k c.choices ≡ true) where
-    kept : (b : ℕ) (es : List (ObjectId × Place)) → AllPass test (shown es) → AllUses (λ u. u.turn < b) (map use_of es) → filter chosen (ids_below b (map use_of es)) ≡ filter chosen (keys_of (shown es))
+    kept : (b : ℕ) (es : List (ObjectId × Place)) → AllPass test (shown es) → AllOf (λ u. u.turn < b) (map use_of es) → filter chosen (ids_below b (map use_of es)) ≡ filter chosen (keys_of (shown es))
     kept b [] c a = refl
     kept b (e ∷ es) c a =
         let t : nat_lt e.1.turn b ≡ true = grind (arith, nat_tests, a.0) in
@@ -240,5 +239,5 @@ module _ (k : Choice) where
         by rest false h true is = let no = sym h ∙ covered e.0 e.1.standing c.0 is in cc
         by rest false h false is = rw is rest
 
-    pub candidates-kept : (b : ℕ) (es : List (ObjectId × Place)) → AllPass test (shown es) → AllUses (λ u. u.turn < b) (map use_of es) → filter chosen (chosen_ids k b (map use_of es)) ≡ filter chosen (reverse (keys_of (shown es)))
+    pub candidates-kept : (b : ℕ) (es : List (ObjectId × Place)) → AllPass test (shown es) → AllOf (λ u. u.turn < b) (map use_of es) → filter chosen (chosen_ids k b (map use_of es)) ≡ filter chosen (reverse (keys_of (shown es)))
     candidates-kept b es c a = filter-reverse chosen (ids_below b (map use_of es)) ∙ ap reverse (kept b es c a) ∙ sym (filter-reverse chosen (keys_of (shown es)))

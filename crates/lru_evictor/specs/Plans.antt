@@ -11,18 +11,13 @@ use Rattle.private_store.specs.Extents.{rounded}
 use Rattle.private_store.specs.Shape.{Copy, Shape}
 use Rattle.private_store.specs.Copies.{extent_of, is_evictable, is_passing, is_spillable, device_used}
 use Rattle.private_store.specs.Room.{Plan, fits, wait, full, busy, evict, spill}
-use Rattle.std.specs.List.Sorted.{IsPermutation, IsNonDecreasingBy}
-use Rattle.private_store.specs.Extents.{first}
-use Rattle.job_region.specs.Region.{Region, extents_of, without}
+use Rattle.job_region.specs.Region.{Region, extents_of}
 use Rattle.lru_evictor.specs.declared.facts.CopyFacts.{CopyFacts}
 use Rattle.lru_evictor.specs.declared.facts.DeviceRoom.{DeviceRoom}
 use Rattle.lru_evictor.specs.declared.facts.Plan.{Plan as Found}
 use Rattle.lru_evictor.specs.declared.facts.Plan.TheVariants as found
-use Rattle.lru_evictor.specs.declared.facts.RoomFound.{RoomFound}
-use Rattle.lru_evictor.specs.declared.facts.RoomFound.TheVariants as room
-use Rattle.lru_evictor.specs.declared.facts.Vacancy.{Vacancy}
 use Rattle.lru_evictor.specs.declared.facts.Standing.{Standing}
-use Rattle.lru_evictor.specs.Facts.{Looked, standing_at, device_bytes, gone_of, fits_without}
+use Rattle.lru_evictor.specs.Facts.{Looked, standing_at, device_bytes, fits_without}
 use Rattle.lru_evictor.specs.Orders.{ids_of, AllPass, same_standing}
 
 -- the plan as the rule of room has it
@@ -87,17 +82,3 @@ makes_room window facts n wait = true
 makes_room window facts n full = true
 makes_room window facts n busy = true
 makes_room window facts n (spill ids) = true
-
--- the plan that was found, with the place
-abbrev pub plan_of : RoomFound → Plan
-plan_of (room.Place v) = evict_here v.victims
-plan_of room.Wait = wait
-plan_of room.Full = full
-plan_of room.Busy = busy
-plan_of (room.Spill ids) = spill ids
-
--- n bytes go there once the victims have gone, whose extents these are
-pub record IsVacant (window : Region) (facts : Looked) (n : ℕ) (v : Vacancy) : Type 0 where
-  pub gone : IsPermutation (gone_of facts v.victims) v.gone
-  pub rising : IsNonDecreasingBy (λ (e : Extent). e.offset) v.gone
-  pub least : first (extents_of (without v.gone window.placed)) window.quota n ≡ Some v.offset

@@ -1,7 +1,7 @@
 //! The ids that a walk for room goes over.
 ghost use Rattle.std.specs.Prelude.{◌≡◌, ◌<◌};
-ghost use Rattle.use_tree.specs.Uses.{AllUses};
 ghost use Rattle.std.specs.Map.Iter.{TakesFirst};
+ghost use Rattle.augmented_tree.specs.Lists.{AllOf};
 ghost use Rattle.lru_evictor.specs.Indexed.{chosen_ids};
 
 use crate::index::Index;
@@ -32,7 +32,7 @@ impl<'a> Candidates<'a> {
     /// Those of the index.
     pub(crate) fn chosen(index: &'a Index, choice: Choice) -> Candidates<'a>
         ensures ids { result ≡ chosen_ids choice 4611686018427387904 index.now.0 }
-        ensures all { AllUses (λ u. u.turn < 4611686018427387904) index.now.0 }
+        ensures all { AllOf (λ u. u.turn < 4611686018427387904) index.now.0 }
     {
         Candidates {
             index,

@@ -97,32 +97,6 @@ pub enum Plan {
     Spill(Items<ObjectId>),
 }
 
-/// Where an object goes once some copies have gone.
-#[derive(Debug, Drop)]
-pub struct Vacancy {
-    /// The copies that are to be evicted, in this order: none if there is room as it is.
-    pub victims: Items<ObjectId>,
-    /// Their extents, by rising offset.
-    pub gone: Items<Extent>,
-    /// The least offset at which the object then fits, in bytes.
-    pub offset: u64,
-}
-
-/// How room is made, with what was found on the way.
-#[derive(Debug, Drop)]
-pub enum RoomFound {
-    /// The object goes here.
-    Place(Vacancy),
-    /// Once the works in flight have ended there is room.
-    Wait,
-    /// There is none, or no device bytes for what would have to be spilled.
-    Full,
-    /// As many works are in flight as may be.
-    Busy,
-    /// These copies are to be spilled, in this order.
-    Spill(Items<ObjectId>),
-}
-
 /// Whether a walk chooses the copy.
 pub(crate) fn is_chosen(choice: Choice, facts: CopyFacts) -> bool
     ensures { result ≡ passes choice facts }

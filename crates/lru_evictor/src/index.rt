@@ -2,9 +2,10 @@
 //! uses.
 ghost use Rattle.std.specs.Prelude.{◌≡◌, ◌<◌, ◌∷◌, [], List, Some, None, true};
 ghost use Rattle.std.specs.Map.{lookup, remove_entry, set_value};
+ghost use Rattle.augmented_tree.specs.Lists.{AllOf};
 ghost use Rattle.obj_id.specs.Ids.{id_eq};
 ghost use Rattle.obj_id.specs.declared.ids.ObjectId.{ObjectId};
-ghost use Rattle.use_tree.specs.Uses.{AllUses, IsRising, take_use as take_use_lem, choose_use as choose_use_lem, last_chosen};
+ghost use Rattle.use_tree.specs.Uses.{IsRising, take_use as take_use_lem, choose_use as choose_use_lem, last_chosen};
 ghost use Rattle.lru_evictor.specs.declared.index.Place.{Place};
 ghost use Rattle.lru_evictor.specs.Facts.{nowhere};
 ghost use Rattle.lru_evictor.specs.Indexed.{IsOf, IsIndexed, Stands};
@@ -34,14 +35,14 @@ pub(crate) struct Index {
 
 impl Model for Index {
     ghost use Rattle.std.specs.Prelude.{◌≤◌};
-    ghost use Rattle.use_tree.specs.Uses.{AllUses};
+    ghost use Rattle.augmented_tree.specs.Lists.{AllOf};
     ghost use Rattle.lru_evictor.specs.Indexed.{Listed};
 
     ghost Value = { Listed };
 
     ghost view = { λ a. (a.uses, a.left, a.residents) };
 
-    ghost invariant = { λ a. AllUses (λ u. a.left ≤ u.turn) a.uses × (a.left ≤ 4611686018427387904) };
+    ghost invariant = { λ a. AllOf (λ u. a.left ≤ u.turn) a.uses × (a.left ≤ 4611686018427387904) };
 }
 
 impl Index {
@@ -156,7 +157,7 @@ impl Index {
     /// What all turns are below.
     pub(crate) fn end(&self) -> u64
         ensures end { result ≡ 4611686018427387904 }
-        ensures range { AllUses (λ u. u.turn < 4611686018427387904) self.now.0 }
+        ensures range { AllOf (λ u. u.turn < 4611686018427387904) self.now.0 }
     {
         self.uses.end()
     }

@@ -13,7 +13,7 @@ mod plans;
 mod search;
 mod use_order;
 
-pub use facts::{CopyFacts, CopyLookup, DeviceRoom, Plan, RoomFound, Standing, Vacancy};
+pub use facts::{CopyFacts, CopyLookup, DeviceRoom, Plan, Standing};
 pub use laws::orders_follow_the_steps;
 pub use search::extents_by_offset;
 pub use use_order::{Order, UseOrder};

@@ -13,14 +13,13 @@ ghost use Rattle.lru_evictor.specs.declared.facts.Standing.{Standing};
 ghost use Rattle.lru_evictor.specs.Facts.{bytes_at, device_bytes, fits_without as is_room_without};
 ghost use Rattle.lru_evictor.specs.Indexed.{HasIndex};
 ghost use Rattle.lru_evictor.specs.Orders.{ids_of};
-ghost use Rattle.lru_evictor.specs.Plans.{shown, plan_of, makes_room, IsDescribed, IsOfCopies, IsVacant, evict_here, spill_here};
-ghost use Rattle.lru_evictor.specs.declared.facts.RoomFound.TheVariants.{Place};
+ghost use Rattle.lru_evictor.specs.Plans.{shown, makes_room, IsDescribed, IsOfCopies, evict_here, spill_here};
 
 use crate::area::Area;
 use crate::candidates::Candidates;
-use crate::facts::{CopyLookup, DeviceRoom, Plan, RoomFound, Vacancy};
+use crate::facts::{CopyLookup, DeviceRoom, Plan};
 use crate::index::Index;
-use crate::search::{extents_by_offset, shortest};
+use crate::search::shortest;
 use crate::use_order::UseOrder;
 use extent_tree::has_gap;
 use job_region::Window;
@@ -61,35 +60,7 @@ impl UseOrder {
         let Some(index) = order.index() else {
             return Err(Refusal::NoMemory);
         };
-        let plan = plan_over(index, alloc, len, device, window, copies)?;
-        Ok(plan)
-    }
-
-    /// The plan, and where the object goes if it can be placed at once: the extents that go for it and the
-    /// offset, so that nobody has to look for them again. `NoMemory` alone; changes nothing.
-    ///
-    /// Takes what `plan` takes, and one search of the window more.
-    pub fn find_room<C: CopyLookup>(
-        &self,
-        alloc: Global,
-        len: u32,
-        device: DeviceRoom,
-        window: &Window,
-        copies: &C,
-    ) -> Result<RoomFound, Refusal>
-        ensures plan { IfOk result (λ r. (store : Shape) → IsOfCopies self.now (C.facts copies.now) → IsDescribed store window.now device (C.facts copies.now)
-            → plan_of r ≡ room_plan (ids_of self.now) store len) }
-        ensures place { IfOk result (λ r. (v : Vacancy) → r ≡ Place v → IsVacant window.now (C.facts copies.now) len v) }
-        ensures memory { (r : Refusal) → result ≡ Err r → r ≡ Refusal.NoMemory }
-    {
-        match self.plan(alloc, len, device, window, copies)? {
-            Plan::Fits => place(alloc, window, copies, Items::new(alloc), len),
-            Plan::Evict(ids) => place(alloc, window, copies, ids, len),
-            Plan::Wait => Ok(RoomFound::Wait),
-            Plan::Full => Ok(RoomFound::Full),
-            Plan::Busy => Ok(RoomFound::Busy),
-            Plan::Spill(ids) => Ok(RoomFound::Spill(ids)),
-        }
+        Ok(plan_over(index, alloc, len, device, window, copies)?)
     }
 }
 
@@ -164,30 +135,6 @@ fn leaves_room(index: &Index, choice: Choice, window: &Window, len: u32) -> bool
 {
     let span = index.residents().span(choice);
     has_gap(span, window.quota(), rounded(len))
-}
-
-/// The place that there is without these copies.
-fn place<C: CopyLookup>(
-    alloc: Global,
-    window: &Window,
-    copies: &C,
-    victims: Items<ObjectId>,
-    len: u32,
-) -> Result<RoomFound, Refusal>
-    requires { is_room_without window.now (C.facts copies.now) len victims ≡ true }
-    ensures plan { IfOk result (λ r. plan_of r ≡ evict_here victims) }
-    ensures place { IfOk result (λ r. (v : Vacancy) → r ≡ Place v → IsVacant window.now (C.facts copies.now) len v) }
-    ensures memory { (r : Refusal) → result ≡ Err r → r ≡ Refusal.NoMemory }
-{
-    let gone = extents_by_offset(alloc, copies, victims.as_slice())?;
-    let Some(offset) = window.fits_without(&gone, len) else {
-        unreachable!()
-    };
-    Ok(RoomFound::Place(Vacancy {
-        victims,
-        gone: Items::from_vec(gone),
-        offset,
-    }))
 }
 
 /// The plan that evicts these copies, if there are any.

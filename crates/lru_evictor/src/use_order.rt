@@ -1,5 +1,5 @@
 //! The order of use of one job's copies.
-ghost use Rattle.std.specs.Prelude.{◌≡◌, Bool, ◌++◌, ◌∷◌, [], true, Some, IfOk, OnOk, OnErr, IsOk, length, reverse};
+ghost use Rattle.std.specs.Prelude.{◌≡◌, Bool, [], true, Some, OnOk, OnErr, IsOk, length, reverse};
 ghost use Rattle.std.specs.Map.{keys_of};
 ghost use Rattle.obj_id.specs.declared.refusals.Refusal.{Refusal};
 ghost use Rattle.obj_id.specs.declared.ids.ObjectId.{ObjectId};

@@ -152,9 +152,9 @@ work_before (w ∷ ws) vs q none = by (same_id q w.id) (work_before ws vs q) non
     by true rest none = none_some (cond w.writes Write Read) (sym none)
     by false rest none = rest none
 
-pub work_behind : (ws vs : List WorkInFlight) (q : ObjectId) → work_on vs q ≡ None → work_on (ws ++ vs) q ≡ work_on ws q
-work_behind [] vs q none = none
-work_behind (w ∷ ws) vs q none = by (same_id q w.id) (work_behind ws vs q none)
+pub work_after : (ws vs : List WorkInFlight) (q : ObjectId) → work_on vs q ≡ None → work_on (ws ++ vs) q ≡ work_on ws q
+work_after [] vs q none = none
+work_after (w ∷ ws) vs q none = by (same_id q w.id) (work_after ws vs q none)
   where
     by : (b : Bool) → work_on (ws ++ vs) q ≡ work_on ws q → option_map (λ (w : WorkInFlight). cond w.writes Write Read) (cond b (Some w) (find (λ w. same_id q w.id) (ws ++ vs)))
         ≡ option_map (λ (w : WorkInFlight). cond w.writes Write Read) (cond b (Some w) (find (λ w. same_id q w.id) ws))
@@ -268,7 +268,7 @@ module _ (node : ℕ) (row : Row) (line : WorkLine) (hands : List Hand) (bytes :
           ap (λ b. (cond b (spilling z) z).working) m.1
           ∙ sym (work_before s.works (numbered_works Write s.works_asked ids) q (sym (h.working q z found) ∙ m.0) ∙ work_asked s.works_asked ids q ∙ ap (λ b. cond b (Some Write) None) among)
       by z found false among =
-          h.working q z found ∙ sym (work_behind s.works (numbered_works Write s.works_asked ids) q (work_asked s.works_asked ids q ∙ ap (λ b. cond b (Some Write) None) among))
+          h.working q z found ∙ sym (work_after s.works (numbered_works Write s.works_asked ids) q (work_asked s.works_asked ids q ∙ ap (λ b. cond b (Some Write) None) among))
 
   there_now : AreThere (copies_of new.copies) row.order
   there_now = subst (λ t. AreThere t row.order) (sym copies_same) h.there

@@ -40,7 +40,7 @@ use Rattle.node_table.specs.MadeRooms.{BringsNothing}
 use Rattle.node_table.specs.RoomPlans.{MakesPlace}
 use Rattle.node_table.specs.Row.{Row, Beside, beside_of, shape_of, place_of, ArePlaced}
 use Rattle.node_table.specs.Shown.{seen, work_on, IsShown, only, TakesStep}
-use Rattle.node_table.proofs.Asking.{work_before, work_behind}
+use Rattle.node_table.proofs.Asking.{work_before, work_after}
 use Rattle.node_table.proofs.CopyTables.{at-copies_found}
 use Rattle.node_table.proofs.Described.{working-on}
 use Rattle.node_table.proofs.Faults.{fault_is}
@@ -150,7 +150,7 @@ module _ (node : ℕ) (row : Row) (beside : Beside) (contents : Contents) (sessi
             subst (λ ps. TakesStep node row beside contents x (record { reply = reply.Refused Pending; posts = ps; erased = [] }) (replaced row None id (restoring offset k) n offset victims) after) (append-nil (removals node row.copies victims))
             (placed_done node row beside contents h x quiet n f by_room victims makes placed id (restoring offset k) nowhere stays_here offset refl refl least free
             after.works after.used None refl refl (λ u none. none_some u none) (λ _. h.listed id k found) (λ now. h.digests id k found keeps)
-            (sym (work_before beside.works (work ∷ []) id no_work ∙ one_work work id refl refl)) (λ q differs. work_behind beside.works (work ∷ []) q (no_other work q differs)) (h.granted id k found) [] refl)
+            (sym (work_before beside.works (work ∷ []) id no_work ∙ one_work work id refl refl)) (λ q differs. work_after beside.works (work ∷ []) q (no_other work q differs)) (h.granted id k found) [] refl)
 
 -- what a job sees once a read was asked for
 pub asked_beside : (old new : WorkLine) (job number : ℕ) (id : ObjectId) (hands : List Hand) (bytes : ObjectId → List ℕ) → Asks old (record { job = record { 0 = job }; number = number; id = id; kind = Read }) new

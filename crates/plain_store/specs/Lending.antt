@@ -13,7 +13,7 @@ use Rattle.plain_store.specs.Granted.{with_seen}
 abbrev pub with_copy : Brief → ObjectId → Copy → Brief
 with_copy brief id copy = record brief { shape = set_copy brief.shape id copy }
 
--- the store ends with the copy that is left behind r under the id, and as it was if there is none
+-- the store ends with the copy that r leaves under the id, and as it was if there is none
 abbrev pub LendsCopy : MutBor Brief → ObjectId → Option (MutBor Copy) → Fml
 LendsCopy s id r = LendsIf the_row copy_row s r (with_copy s.now id) s.now
 

@@ -1,31 +1,23 @@
--- What may cross threads: a node. `search` doesn't get through the tree of holes, which reaches itself.
-use denote.Hole.Fix.{holes}
-use denote.Hole.FixSend.{Sends, fix_send}
+-- What may cross threads: a node.
 use denote.Param.{copied}
 use denote.Param.Send.{IsSend, IsSync, sendable}
-use denote.Param.SendFields.{as_row_send, variants_send, declared_send, declared_sync}
+use denote.Param.SendFields.{as_row_send, declared_send, declared_sync}
 use denote.RattleType.{RattleType}
 use denote.Struct.Field.{row_field}
 use denote.Struct.Tuple.{TupleAt, type_at}
 use mathlib.Core.List.{[], ◌∷◌}
 use mir.Syntax.{Sym}
 use Rattle.std.specs.contracts.alloc.Global as Heap
-use Rattle.std.specs.contracts.boxed.Box as Box
 use Rattle.std.specs.contracts.impls.GlobalAllocator.TheImpl.{ghosts}
 use Rattle.std.specs.contracts.sync.Arc as Arc
-use Rattle.std.proofs.Crossing.{crosses, send, Box-send, Arc-send}
+use Rattle.std.proofs.Crossing.{crosses, send, Arc-send}
 use Rattle.indexmap.proofs.map.IndexMap.TheSendSync.{the_send as map_send}
 use Rattle.indexmap.proofs.set.IndexSet.TheSendSync.{the_send as set_send}
 use Rattle.obj_id.proofs.ids.JobNo.TheSendSync.{the_send as job_send}
 use Rattle.obj_id.proofs.ids.TaskNo.TheSendSync.{the_send as task_send}
-use Rattle.hole_tree.specs.contracts.Holes as Holes
-use Rattle.hole_tree.specs.contracts.Holes.TheInside as Inside
-use Rattle.hole_tree.specs.contracts.Node as Fork
-use Rattle.hole_tree.specs.contracts.Room as Room
-use Rattle.hole_tree.specs.contracts.Tree as Tree
-use Rattle.hole_tree.specs.contracts.Tree.TheKnot as knot
-use Rattle.hole_tree.specs.declared.Tree.TheBlock as block
+use Rattle.hole_tree.proofs.Crossing.{holes_send, room_send}
 use Rattle.job_region.specs.contracts.Window as Window
+use Rattle.lru_evictor.proofs.Crossing.{order_send}
 use Rattle.spill_work.proofs.Works.TheSendSync.{the_send as works_send}
 use Rattle.job_admission.proofs.Admission.TheSendSync.{the_send as admission_send}
 use Rattle.node_table.specs.contracts.row.JobRow as JobRow
@@ -35,32 +27,9 @@ use Rattle.node_journal.specs.contracts.kept.Kept as Kept
 use Rattle.node_journal.proofs.logs.Logs.TheSendSync.{the_send as logs_send}
 use Rattle.std.specs.declared.sync.ledger.Ledger.{Ghosts}
 use Rattle.std.proofs.sync.ledger.Share.TheSendSync.{the_send as share_send}
-use Rattle.session_threads.proofs.OrdersCross.{order_send}
 use Rattle.session_threads.proofs.upkeep.Upkeep.TheSendSync.{the_send as upkeep_send, the_sync as upkeep_sync}
 use Rattle.session_threads.proofs.posting.Ways.TheSendSync.{the_send as ways_send, the_sync as ways_sync}
 use Rattle.session_threads.specs.contracts.shared.SharedNode as Shared
-
-layer_sends : (i : block.the_members) → Sends knot.ring i
-layer_sends block.member-Tree = record { send = λ h s. variants_send (knot.type-Tree (h block.member-Node)) (tt, ((as_row_send (row_field (Box.the_row (h block.member-Node) Heap.the_row ghosts)) (Box-send (h block.member-Node) (s block.member-Node)), tt), tt)) }
-layer_sends block.member-Node = record { send = λ h s. declared_send (knot.type-Node (h block.member-Tree) (h block.member-Tree)) (search sendable, (search sendable, (search sendable, (as_row_send (row_field (h block.member-Tree)) (s block.member-Tree), (as_row_send (row_field (h block.member-Tree)) (s block.member-Tree), tt))))) }
-
-hole_send : (i : block.the_members) → IsSend (holes knot.ring i)
-hole_send = fix_send knot.ring layer_sends
-
-pub tree_send : IsSend Tree.the_row
-tree_send = variants_send Tree.enum (tt, ((as_row_send (Box.the_field knot.hole-Node Heap.the_row ghosts) (Box-send knot.hole-Node (hole_send block.member-Node)), tt), tt))
-
-pub fork_send : IsSend Fork.the_row
-fork_send = declared_send Fork.the_type (search sendable, (search sendable, (search sendable, (tree_send, (tree_send, tt)))))
-
-pub room_send : IsSend Room.the_row
-room_send = search (fork_send, sendable, crosses) depth 40
-
-inside_send : IsSend Inside.the_row
-inside_send = declared_send Inside.the_type (tree_send, tt)
-
-pub holes_send : IsSend Holes.the_row
-holes_send = search (inside_send, sendable)
 
 pub window_send : IsSend Window.the_row
 window_send = search (holes_send, room_send, sendable, crosses) depth 40

@@ -1,4 +1,2 @@
-mod ExtentsCross
-mod OrdersCross
 mod Crossing
 mod SmallLists

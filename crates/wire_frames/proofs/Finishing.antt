@@ -82,13 +82,13 @@ completed before piece n m size middle after part f long number g =
     let same : number_at after 0 ≡ size = ap (λ b. number_at b 0) g.bytes ∙ number_at-append middle more long ∙ sym number in
     let few : length middle ≤ 4 + size = subst (λ k. length middle ≤ 4 + k) (sym number) (short_enough before middle part long f.no_more) in
     let short : length after ≤ 4 + size = short_still (4 + size) middle after few g.no_more in
-    let behind : length (drop n piece) ≡ length piece - n = length-drop n piece in
+    let following : length (drop n piece) ≡ length piece - n = length-drop n piece in
     record {
       bytes = g.bytes ∙ ap (λ b. b ++ more) f.bytes ∙ append_assoc before (take n piece) more ∙ ap (λ b. before ++ b) (sym (take-add n m piece));
-      within = omega (arith, f.within, g.within, behind);
+      within = omega (arith, f.within, g.within, following);
       all = λ still.
           let e : m ≡ length (drop n piece) = part_takes_all size m (drop n piece) after (omega (arith, longer)) same g.no_less still in
-          omega (arith, e, f.within, behind);
+          omega (arith, e, f.within, following);
       no_more = λ _ whole. omega (arith, whole, short, same);
     }
 
@@ -103,9 +103,9 @@ parted before piece n after is =
 pub fed-fault : (before piece : List ℕ) (n : ℕ) (after rest : List ℕ) → IsCompleted before piece n after
     → stream_of after ≡ stopped after malformed → fed (unfinished before) piece ≡ fed_by [] true rest
 fed-fault before piece n after rest c is =
-    let behind = drop n piece in
-    fed-stream_read before piece [] true (after ++ behind)
-    (ap stream_of (parted before piece n after c.bytes) ∙ stream_of-append after behind ∙ ap (λ s. onward s behind) is)
+    let following = drop n piece in
+    fed-stream_read before piece [] true (after ++ following)
+    (ap stream_of (parted before piece n after c.bytes) ∙ stream_of-append after following ∙ ap (λ s. onward s following) is)
 
 after_item-stream_read : (x : Item) (items : List Item) (faulty : Bool) (rest : List ℕ)
     → after_item x (stream_read items faulty rest) ≡ stream_read (x ∷ items) faulty rest
@@ -113,9 +113,9 @@ after_item-stream_read x items true rest = refl
 after_item-stream_read x items false rest = refl
 
 -- a whole frame, and the frames after it
-pub fed-whole_frame : (said : Said) (kept behind : List ℕ) (items : List Item) (faulty : Bool) (rest : List ℕ) → IsWholeFrame said kept
-    → stream_of behind ≡ stream_read items faulty rest → fed (unfinished kept) behind ≡ fed_by (filled said (drop 5 kept) ∷ items) faulty rest
-fed-whole_frame said kept behind items faulty rest whole is =
+pub fed-whole_frame : (said : Said) (kept following : List ℕ) (items : List Item) (faulty : Bool) (rest : List ℕ) → IsWholeFrame said kept
+    → stream_of following ≡ stream_read items faulty rest → fed (unfinished kept) following ≡ fed_by (filled said (drop 5 kept) ∷ items) faulty rest
+fed-whole_frame said kept following items faulty rest whole is =
     let x = filled said (drop 5 kept) in
-    fed-stream_read kept behind (x ∷ items) faulty rest
-    (stream_of-append kept behind ∙ ap (λ s. onward s behind) whole.stream ∙ ap (after_item x) is ∙ after_item-stream_read x items faulty rest)
+    fed-stream_read kept following (x ∷ items) faulty rest
+    (stream_of-append kept following ∙ ap (λ s. onward s following) whole.stream ∙ ap (after_item x) is ∙ after_item-stream_read x items faulty rest)

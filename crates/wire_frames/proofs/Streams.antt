@@ -10,8 +10,8 @@ use Rattle.private_store.specs.declared.frames.Item.{Item}
 use Rattle.private_store.specs.Frames.{clean, mid_frame, malformed, Stream, stopped, after_item, frames_of, is_command_length, item_of, number_at, stream_of}
 
 -- the bytes after a frame
-abbrev pub behind : List ℕ → List ℕ
-behind bytes = drop (4 + number_at bytes 0) bytes
+abbrev pub following : List ℕ → List ℕ
+following bytes = drop (4 + number_at bytes 0) bytes
 
 -- one step of the grammar, where what is after the frame says `rest`
 abbrev pub step : List ℕ → Stream → Stream
@@ -33,7 +33,7 @@ step (b ∷ bs) rest =
       ]
     ]
 
-frames_of-step : (n : ℕ) (bytes : List ℕ) → frames_of (suc n) bytes ≡ step bytes (frames_of n (behind bytes))
+frames_of-step : (n : ℕ) (bytes : List ℕ) → frames_of (suc n) bytes ≡ step bytes (frames_of n (following bytes))
 frames_of-step n [] = refl
 frames_of-step n (b ∷ bs) = refl
 
@@ -47,17 +47,17 @@ fuel (suc n) (suc m) [] h k = refl
 fuel (suc n) (suc m) (b ∷ bs) h k =
     let size = number_at (b ∷ bs) 0 in
     frames_of-step n (b ∷ bs)
-    ∙ ap (step (b ∷ bs)) (fuel n m (behind (b ∷ bs)) (shorter b bs size n h) (shorter b bs size m k))
+    ∙ ap (step (b ∷ bs)) (fuel n m (following (b ∷ bs)) (shorter b bs size n h) (shorter b bs size m k))
     ∙ sym (frames_of-step m (b ∷ bs))
 
 -- a stream is its first frame and the stream after it
-pub stream_of-step : (bytes : List ℕ) → stream_of bytes ≡ step bytes (stream_of (behind bytes))
+pub stream_of-step : (bytes : List ℕ) → stream_of bytes ≡ step bytes (stream_of (following bytes))
 stream_of-step [] = refl
 stream_of-step (b ∷ bs) =
     let size = number_at (b ∷ bs) 0 in
     let n = length (b ∷ bs) in
     frames_of-step n (b ∷ bs)
-    ∙ ap (step (b ∷ bs)) (fuel n (suc (length (behind (b ∷ bs)))) (behind (b ∷ bs)) (shorter b bs size n (omega arith)) (omega arith))
+    ∙ ap (step (b ∷ bs)) (fuel n (suc (length (following (b ∷ bs)))) (following (b ∷ bs)) (shorter b bs size n (omega arith)) (omega arith))
 
 -- so many bytes after a length stand at the head of these bytes, and are read so
 pub record IsHead (bytes : List ℕ) (size : ℕ) (read : Option Item) : Type 0 where

@@ -96,15 +96,15 @@ alone_fits : (id : ObjectId) → IsId id → (length (id_bytes id) == 28) ≡ tr
 alone_fits id is = is_of_length (id_bytes id) 28 (length-id_bytes id is)
 
 -- an id and a task
-task_behind : (id : ObjectId) (task : TaskNo) → IsId id → IsTask task → task_at (id_bytes id ++ task.0) 28 ≡ task
-task_behind id task is t = ap (λ rest. task_at (id_bytes id ++ rest) 28) (sym (append-nil task.0)) ∙ task_back (id_bytes id) task [] 28 (length-id_bytes id is) t
+task_after : (id : ObjectId) (task : TaskNo) → IsId id → IsTask task → task_at (id_bytes id ++ task.0) 28 ≡ task
+task_after id task is t = ap (λ rest. task_at (id_bytes id ++ rest) 28) (sym (append-nil task.0)) ∙ task_back (id_bytes id) task [] 28 (length-id_bytes id is) t
 
 task_fits : (id : ObjectId) (task : TaskNo) → IsId id → IsTask task → (length (id_bytes id ++ task.0) == 48) ≡ true
 task_fits id task is t = is_of_length (id_bytes id ++ task.0) 48 (omega (arith, length-id_bytes id is, t.task_length, length-append (id_bytes id) task.0))
 
 -- an id and a number
-number_behind : (id : ObjectId) (n : ℕ) (rest : List ℕ) → IsId id → n < 2 ^ 32 → number_at (id_bytes id ++ (be4 n ++ rest)) 28 ≡ n
-number_behind id n rest is small = number_back (id_bytes id) n rest 28 (length-id_bytes id is) small
+number_after : (id : ObjectId) (n : ℕ) (rest : List ℕ) → IsId id → n < 2 ^ 32 → number_at (id_bytes id ++ (be4 n ++ rest)) 28 ≡ n
+number_after id n rest is small = number_back (id_bytes id) n rest 28 (length-id_bytes id is) small
 
 number_fits : (id : ObjectId) (n : ℕ) → IsId id → (length (id_bytes id ++ be4 n) == 32) ≡ true
 number_fits id n is = is_of_length (id_bytes id ++ be4 n) 32 (omega (arith, length-id_bytes id is, length-append (id_bytes id) (be4 n)))
@@ -120,7 +120,7 @@ front_of_two : (id : ObjectId) (offset : ℕ) → IsId id → length (id_bytes i
 front_of_two id offset is = omega (arith, length-id_bytes id is, length-append (id_bytes id) (be4 offset))
 
 first_of_two : (id : ObjectId) (offset : ℕ) (rest : List ℕ) → IsId id → offset < 2 ^ 32 → number_at (two id offset rest) 28 ≡ offset
-first_of_two id offset rest is small = subst (λ b. number_at b 28 ≡ offset) (two_parts id offset rest) (number_behind id offset rest is small)
+first_of_two id offset rest is small = subst (λ b. number_at b 28 ≡ offset) (two_parts id offset rest) (number_after id offset rest is small)
 
 read_about-two : (kind : ObjectKind) (id : ObjectId) (offset : ℕ) (rest : List ℕ) → IsId id → fits kind (two id offset rest) ≡ true
     → read_about kind (two id offset rest) ≡ Some (said kind id (two id offset rest))
@@ -134,15 +134,15 @@ range_fits id offset n is = is_of_length (range_body id offset n) 36 (omega (ari
 second_of_two : (id : ObjectId) (offset n : ℕ) → IsId id → n < 2 ^ 32 → number_at (range_body id offset n) 32 ≡ n
 second_of_two id offset n is small = number_back (id_bytes id ++ be4 offset) n [] 32 (front_of_two id offset is) small
 
-bytes_behind : (id : ObjectId) (offset : ℕ) (bytes : List ℕ) → IsId id → drop 32 (two id offset bytes) ≡ bytes
-bytes_behind id offset bytes is = back (id_bytes id ++ be4 offset) bytes 32 (front_of_two id offset is)
+bytes_after : (id : ObjectId) (offset : ℕ) (bytes : List ℕ) → IsId id → drop 32 (two id offset bytes) ≡ bytes
+bytes_after id offset bytes is = back (id_bytes id ++ be4 offset) bytes 32 (front_of_two id offset is)
 
 write_fits : (id : ObjectId) (offset : ℕ) (bytes : List ℕ) → IsId id → nat_le 32 (length (two id offset bytes)) ≡ true
 write_fits id offset bytes is = le-leb 32 (length (two id offset bytes)) (omega (arith, front_of_two id offset is, length-append (id_bytes id ++ be4 offset) bytes))
 
 -- a copy to be made
-kind_behind : (id : ObjectId) (kind : Kind) (n : ℕ) → IsId id → slice_index (create_body id kind n) 28 ≡ kind_byte kind
-kind_behind id kind n is = subst (λ k. slice_index (create_body id kind n) k ≡ kind_byte kind) (length-id_bytes id is) (get_or-append_seam (id_bytes id) (kind_byte kind) (be4 n) 0)
+kind_after : (id : ObjectId) (kind : Kind) (n : ℕ) → IsId id → slice_index (create_body id kind n) 28 ≡ kind_byte kind
+kind_after id kind n is = subst (λ k. slice_index (create_body id kind n) k ≡ kind_byte kind) (length-id_bytes id is) (get_or-append_seam (id_bytes id) (kind_byte kind) (be4 n) 0)
 
 pub kind_of-kind_byte : (kind : Kind) → kind_of (kind_byte kind) ≡ kind
 kind_of-kind_byte Primary = refl
@@ -154,18 +154,18 @@ is_kind_byte Secondary = refl
 
 create_fits : (id : ObjectId) (kind : Kind) (n : ℕ) → IsId id → (is_create (create_body id kind n) && (length (create_body id kind n) == 33)) ≡ true
 create_fits id kind n is =
-    let there : is_create (create_body id kind n) ≡ true = ap (λ b. nat_le b 1) (kind_behind id kind n is) ∙ is_kind_byte kind in
+    let there : is_create (create_body id kind n) ≡ true = ap (λ b. nat_le b 1) (kind_after id kind n is) ∙ is_kind_byte kind in
     let long : length (create_body id kind n) ≡ 33 = omega (arith, length-id_bytes id is, length-append (id_bytes id) (kind_byte kind ∷ be4 n)) in
     rw (there, is_of_length (create_body id kind n) 33 long)
 
-length_behind : (id : ObjectId) (kind : Kind) (n : ℕ) → IsId id → n < 2 ^ 32 → number_at (create_body id kind n) 29 ≡ n
-length_behind id kind n is small =
+length_after : (id : ObjectId) (kind : Kind) (n : ℕ) → IsId id → n < 2 ^ 32 → number_at (create_body id kind n) 29 ≡ n
+length_after id kind n is small =
     let front = id_bytes id ++ kind_byte kind ∷ [] in
     let long : length front ≡ 29 = omega (arith, length-id_bytes id is, length-append (id_bytes id) (kind_byte kind ∷ [])) in
     ap (λ b. number_at b 29) (sym (append_assoc (id_bytes id) (kind_byte kind ∷ []) (be4 n))) ∙ number_back front n [] 29 long small
 
 kind_read : (id : ObjectId) (kind : Kind) (n : ℕ) → IsId id → kind_of (slice_index (create_body id kind n) 28) ≡ kind
-kind_read id kind n is = ap kind_of (kind_behind id kind n is) ∙ kind_of-kind_byte kind
+kind_read id kind n is = ap kind_of (kind_after id kind n is) ∙ kind_of-kind_byte kind
 
 -- ---- what is written is read
 
@@ -174,10 +174,10 @@ pub item_of-command_body : (c : Command (List ℕ)) → IsCommand c → item_of 
 item_of-command_body (command.Create id kind n) is =
     item_of-byte_of (frame.About object.Create) (create_body id kind n)
     ∙ read_about-written object.Create id (kind_byte kind ∷ be4 n) is.0 (create_fits id kind n is.0)
-    ∙ (λ i. Some (item.Command (command.Create id (kind_read id kind n is.0 i) (length_behind id kind n is.0 is.1 i))))
+    ∙ (λ i. Some (item.Command (command.Create id (kind_read id kind n is.0 i) (length_after id kind n is.0 is.1 i))))
 item_of-command_body (command.Write id offset bytes) is =
     read_about-two object.Write id offset bytes is.0 (write_fits id offset bytes is.0)
-    ∙ (λ i. Some (item.Command (command.Write id (first_of_two id offset bytes is.0 is.1 i) (bytes_behind id offset bytes is.0 i))))
+    ∙ (λ i. Some (item.Command (command.Write id (first_of_two id offset bytes is.0 is.1 i) (bytes_after id offset bytes is.0 i))))
 item_of-command_body (command.Seal id) is = alone object.Seal id is (alone_fits id is)
 item_of-command_body (command.Get id) is = alone object.Get id is (alone_fits id is)
 item_of-command_body (command.Read id offset n) is =
@@ -185,11 +185,11 @@ item_of-command_body (command.Read id offset n) is =
     ∙ (λ i. Some (item.Command (command.Read id (first_of_two id offset (be4 n) is.0 is.1 i) (second_of_two id offset n is.0 is.2 i))))
 item_of-command_body (command.Release id) is = alone object.Release id is (alone_fits id is)
 item_of-command_body (command.Unpin id task) is =
-    read_about-written object.Unpin id task.0 is.0 (task_fits id task is.0 is.1) ∙ ap (λ t. Some (item.Command (command.Unpin id t))) (task_behind id task is.0 is.1)
+    read_about-written object.Unpin id task.0 is.0 (task_fits id task is.0 is.1) ∙ ap (λ t. Some (item.Command (command.Unpin id t))) (task_after id task is.0 is.1)
 item_of-command_body (command.Borrow id task) is =
-    read_about-written object.Borrow id task.0 is.0 (task_fits id task is.0 is.1) ∙ ap (λ t. Some (item.Command (command.Borrow id t))) (task_behind id task is.0 is.1)
+    read_about-written object.Borrow id task.0 is.0 (task_fits id task is.0 is.1) ∙ ap (λ t. Some (item.Command (command.Borrow id t))) (task_after id task is.0 is.1)
 item_of-command_body (command.GiveUp id task) is =
-    read_about-written object.GiveUp id task.0 is.0 (task_fits id task is.0 is.1) ∙ ap (λ t. Some (item.Command (command.GiveUp id t))) (task_behind id task is.0 is.1)
+    read_about-written object.GiveUp id task.0 is.0 (task_fits id task is.0 is.1) ∙ ap (λ t. Some (item.Command (command.GiveUp id t))) (task_after id task is.0 is.1)
 item_of-command_body (command.Delete id) is = alone object.Delete id is (alone_fits id is)
 item_of-command_body (command.EndTask task) is =
     let body : task_at task.0 0 ≡ task = ap (λ b. task_at b 0) (sym (append-nil task.0)) ∙ task_back [] task [] 0 refl is in
@@ -197,10 +197,10 @@ item_of-command_body (command.EndTask task) is =
     ∙ ap (λ t. Some (item.Command (command.EndTask t))) body
 item_of-command_body (command.Grant id target) is =
     read_about-written object.Grant id (be4 target.0) is.0 (number_fits id target.0 is.0)
-    ∙ ap (λ n. Some (item.Command (command.Grant id (record { 0 = n })))) (number_behind id target.0 [] is.0 is.1)
+    ∙ ap (λ n. Some (item.Command (command.Grant id (record { 0 = n })))) (number_after id target.0 [] is.0 is.1)
 item_of-command_body (command.Withdraw id target) is =
     read_about-written object.Withdraw id (be4 target.0) is.0 (number_fits id target.0 is.0)
-    ∙ ap (λ n. Some (item.Command (command.Withdraw id (record { 0 = n })))) (number_behind id target.0 [] is.0 is.1)
+    ∙ ap (λ n. Some (item.Command (command.Withdraw id (record { 0 = n })))) (number_after id target.0 [] is.0 is.1)
 item_of-command_body (command.Peek id offset n) is =
     read_about-two object.Peek id offset (be4 n) is.0 (range_fits id offset n is.0)
     ∙ (λ i. Some (item.Command (command.Peek id (first_of_two id offset (be4 n) is.0 is.1 i) (second_of_two id offset n is.0 is.2 i))))
@@ -213,7 +213,7 @@ item_of-awaited_body (awaited.Get id) is = alone object.GetWait id is (alone_fit
 item_of-awaited_body (awaited.Create id kind n) is =
     item_of-byte_of (frame.About object.CreateWait) (create_body id kind n)
     ∙ read_about-written object.CreateWait id (kind_byte kind ∷ be4 n) is.0 (create_fits id kind n is.0)
-    ∙ (λ i. Some (item.Wait (awaited.Create id (kind_read id kind n is.0 i) (length_behind id kind n is.0 is.1 i))))
+    ∙ (λ i. Some (item.Wait (awaited.Create id (kind_read id kind n is.0 i) (length_after id kind n is.0 is.1 i))))
 
 item_of-hello : (job : JobNo) (key : JobKey) → job.0 < 2 ^ 32 → length key.0 ≡ 32 → item_of 0x01 (be4 job.0 ++ key.0) ≡ Some (item.Hello job key)
 item_of-hello job key small long =

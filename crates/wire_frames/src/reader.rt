@@ -132,29 +132,29 @@ fn finish_frame(alloc: Global, kept: &mut BytesMut, piece: &[u8]) -> Result<Gain
             items: Vec::new(alloc),
             faulty: true,
         }),
-        Head::Frame(said, _) => read_behind(alloc, said, kept, &piece[taken..]),
+        Head::Frame(said, _) => read_after(alloc, said, kept, &piece[taken..]),
     }
 }
 
 /// Reads on if a whole frame is kept, and no more: its bytes become its item's, and what is after it is read from
 /// the piece itself. If memory runs out, what was kept stays.
-fn read_behind(
+fn read_after(
     alloc: Global,
     said: Said,
     kept: &mut BytesMut,
-    behind: &[u8],
+    following: &[u8],
 ) -> Result<Gain, AllocError>
     requires { IsWholeFrame said kept.old.items }
-    ensures fed { IfOk result (λ g. fed (unfinished kept.old.items) behind.now ≡ fed_by g.items.items g.faulty kept.new.items) }
+    ensures fed { IfOk result (λ g. fed (unfinished kept.old.items) following.now ≡ fed_by g.items.items g.faulty kept.new.items) }
     ensures err { OnErr result (kept.new.items ≡ kept.old.items) }
 {
     let Frames {
         mut items,
         used,
         faulty,
-    } = read_frames(alloc, behind)?;
+    } = read_frames(alloc, following)?;
     items.reserve(1)?;
-    let left = beginning(alloc, &behind[used..])?;
+    let left = beginning(alloc, &following[used..])?;
     let mut body = kept.freeze_to(kept.len())?;
     body.advance(BEFORE_BODY);
     *kept = left;

@@ -17,8 +17,8 @@ returns-clause-before c =
     let is : get_or c.split_at.result.0.now k d ≡ get_or es k d = ap (λ xs. get_or xs k d) c.split_at.ensures.front ∙ get_or-take n es k d below in
     subst (λ (e : Extent). e.offset < c.args.offset) (sym is) (less (get_or es k d).offset c.args.offset (point.0 k d (omega arith) below))
 
-pub returns-clause-behind : goal.returns-clause-behind
-returns-clause-behind c =
+pub returns-clause-after : goal.returns-clause-after
+returns-clause-after c =
     let n = c.partition_point.result in
     let es = c.args.extents.now in
     let point = IsPartitionPoint-from_clause (λ (e : Extent). nat_lt e.offset c.args.offset) es n c.partition_point.ensures.partitioned

@@ -8,5 +8,5 @@ invariant-loop-id g l = record {
   within : l.few ≤ length l.ids.items;
   few : fits_without l.area (g.C.CopyLookup.facts l.copies) l.len (take l.few l.ids.items) ≡ false;
   left : 0 < l.left;
-  behind : l.ids.items ++ chosen (g.C.CopyLookup.facts l.copies) l.choice l.id-iterator ≡ chosen (g.C.CopyLookup.facts l.copies) l.choice l.fn.candidates;
+  whole : l.ids.items ++ chosen (g.C.CopyLookup.facts l.copies) l.choice l.id-iterator ≡ chosen (g.C.CopyLookup.facts l.copies) l.choice l.fn.candidates;
 }

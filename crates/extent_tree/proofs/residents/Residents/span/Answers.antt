@@ -1,14 +1,14 @@
 use Rattle.std.proofs.Common.{subst}
-use Rattle.extent_tree.specs.Residents.{AllResidents, IsRising}
-use Rattle.extent_tree.specs.Shape.{Fits}
-use Rattle.extent_tree.proofs.Kept.{told, rises, all_fit}
+use Rattle.augmented_tree.specs.Lists.{AllOf}
+use Rattle.extent_tree.specs.Residents.{offset_of, Fits, AreOf, IsRising}
+use Rattle.augmented_tree.proofs.Kept.{told, rises, all_fit}
 use Rattle.extent_tree.proofs.residents.Residents.span.Goals as goal
 
-pub all_spans-requires : goal.all_spans-requires
-all_spans-requires c = told 0 536870912 c.self.inside.tree c.self.invariant
+pub summary-requires : goal.summary-requires
+summary-requires c = told offset_of Fits AreOf 0 536870912 c.self.inside.tree c.self.invariant
 
 pub returns-clause-rising : goal.returns-clause-rising
-returns-clause-rising c = subst IsRising c.self.view_is (rises 0 536870912 c.self.inside.tree c.self.invariant)
+returns-clause-rising c = subst IsRising c.self.view_is (rises offset_of Fits AreOf 0 536870912 c.self.inside.tree c.self.invariant)
 
 pub returns-clause-small : goal.returns-clause-small
-returns-clause-small c = subst (AllResidents Fits) c.self.view_is (all_fit c.self.inside.tree (told 0 536870912 c.self.inside.tree c.self.invariant))
+returns-clause-small c = subst (AllOf Fits) c.self.view_is (all_fit offset_of Fits AreOf c.self.inside.tree (told offset_of Fits AreOf 0 536870912 c.self.inside.tree c.self.invariant))

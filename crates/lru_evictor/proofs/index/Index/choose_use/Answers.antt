@@ -1,7 +1,9 @@
 use Rattle.std.proofs.Common.{◌≤◌, sym, subst}
-use Rattle.use_tree.specs.Uses.{AllUses}
-use Rattle.use_tree.proofs.Order.{all_rechosen}
+use Rattle.augmented_tree.specs.Lists.{AllOf}
+use Rattle.augmented_tree.proofs.Order.{all_changed}
+use Rattle.use_tree.specs.declared.uses.Use.{Use}
+use Rattle.use_tree.specs.Uses.{turn_of, with_choices}
 use Rattle.lru_evictor.proofs.index.Index.choose_use.Goals as goal
 
 pub invariant_of-self : goal.invariant_of-self
-invariant_of-self c = (subst (AllUses (λ u. c.self.inside.left ≤ u.turn)) (sym c.choose.ensures.uses) (all_rechosen (λ u. c.self.inside.left ≤ u.turn) c.args.turn c.args.choices c.self.inside.uses (λ u h. h) c.self.invariant.0), c.self.invariant.1)
+invariant_of-self c = (subst (AllOf (λ (u : Use). c.self.inside.left ≤ u.turn)) (sym c.choose.ensures.uses) (all_changed turn_of (λ (u : Use). c.self.inside.left ≤ u.turn) (with_choices c.args.choices) c.args.turn c.self.inside.uses (λ u h. h) c.self.invariant.0), c.self.invariant.1)

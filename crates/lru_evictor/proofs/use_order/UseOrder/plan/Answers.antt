@@ -23,4 +23,4 @@ pub returns-clause-plan : goal.returns-clause-plan
 returns-clause-plan g c store known described =
     let some = has-bytes c.args.window.now c.args.len c.is_some.result (c.is_some.ensures ∙ ap is_some c.search.ensures.offset) c.if-is_some.false in
     let here = ap (λ o. unwrap_or o []) (sym c.in-Some.is) ∙ c.self.view_is in
-    c.in_ok-plan.ensures.plan store c.args.self.now some (subst (HasIndex c.in-Some-index.index.now) here c.in-Some-index.ensures) known described
+    c.in_ok-plan_over.ensures.plan store c.args.self.now some (subst (HasIndex c.in-Some-index.index.now) here c.in-Some-index.ensures) known described
