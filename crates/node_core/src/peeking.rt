@@ -87,9 +87,6 @@ impl Node {
         let Some(row) = self.rows.get(&id.job()) else {
             return &[];
         };
-        match row.lend_granted(id) {
-            Some(bytes) => bytes,
-            None => &[],
-        }
+        row.lend_granted(id)
     }
 }

@@ -1,6 +1,6 @@
 //! The commands of hands: Grant and Withdraw of the job's own objects, and the bytes that are lent to those who were
 //! granted one.
-ghost use Rattle.std.specs.Prelude.{◌≡◌, ◌==◌, ℕ, List, [], true, None, IfSome, IfNone, length};
+ghost use Rattle.std.specs.Prelude.{◌≡◌, ◌==◌, ℕ, List, [], true, None, length};
 ghost use Rattle.std.specs.List.{list_any};
 ghost use Rattle.std.specs.Option.{option_map_or};
 ghost use Rattle.obj_id.specs.declared.ids.ObjectId.{ObjectId};
@@ -92,13 +92,14 @@ impl JobRow {
         self.settle_after(id, Items::new(alloc))
     }
 
-    /// The bytes of an object that the job granted, all of them, lent without a copy; none if it has no place.
-    pub fn lend_granted(&self, id: &ObjectId) -> Option<&[u8]>
-        ensures some { IfSome result (λ bytes. bytes.now ≡ row_bytes self.now id.now) }
-        ensures none { IfNone result (row_bytes self.now id.now ≡ []) }
+    /// The bytes of an object that the job granted, all of them, lent without a copy: none if it has no place.
+    pub fn lend_granted(&self, id: &ObjectId) -> &[u8]
+        ensures { result.now ≡ row_bytes self.now id.now }
     {
-        self.place(id)?;
-        Some(self.bytes(id))
+        if self.place(id).is_none() {
+            return &[];
+        }
+        self.bytes(id)
     }
 
     /// The length of an object that the job granted; 0 if it has no place.
@@ -108,9 +109,6 @@ impl JobRow {
         let Some(copy) = self.copies().get(id) else {
             return 0;
         };
-        let Some(bytes) = self.lend_granted(id) else {
-            return 0;
-        };
-        bytes.len().min(copy.length() as usize) as u32
+        self.lend_granted(id).len().min(copy.length() as usize) as u32
     }
 }
