@@ -65,6 +65,21 @@ module _ {A S : Type 0} (key : A → ℕ) (fits : A → Type 0) (tells : S → L
       let b = deep k (middle low high) high r h.7 (omega (arith, lt, twice, h.0, h.1)) in
       omega (arith, a, b)
 
+  pub kept_empty : (low high : ℕ) (t : Tree A S) → items t ≡ [] → Kept low high t
+  kept_empty low high Leaf none = tt
+  kept_empty low high (Fork' p here s l r) none = cc
+
+  -- the first item of a tree, and the rest of it over a wider range, after whose middle all of them lie
+  module _ (low high : ℕ) (t rest : Tree A S) (here : A) (tree : Kept (middle low high) high t) (is : items t ≡ here ∷ items rest) where
+    pub fits_first : fits here
+    fits_first = (subst (AllOf fits) is (all_fit t (told (middle low high) high t tree))).0
+
+    pub widened : (s : S) → low < high → Kept (middle low high) high rest → tells s (here ∷ items rest) → NodeAt low high here s Leaf rest
+    widened s lt kept of =
+        let range = subst (AllOf (Within (middle low high) high)) is (in_range (middle low high) high t tree) in
+        let rising = subst (IsRisingBy key) is (rises (middle low high) high t tree) in
+        (omega (arith, range.0.0, lt), range.0.1, fits_first, tt, rising.0, of, tt, kept)
+
   module _ (low high : ℕ) (n : Node A S) (old : NodeAt low high n.here n.summary n.left n.right) where
     abbrev y : A
     y = n.here

@@ -175,32 +175,16 @@ pub fn put<T: Keyed<S>, S: Copy>(
     requires fits { T.fits item }
     ensures { IsTree T.key T.fits T.tells low high tree.new × (items tree.new ≡ put_item T.key item (items tree.old)) }
 {
-    let Room { node } = room;
-    put_node(tree, node, item, low, high);
-}
-
-/// Puts an item in its place, into the node.
-fn put_node<T: Keyed<S>, S: Copy>(
-    tree: &mut Tree<T, S>,
-    mut room: Box<Node<T, S>>,
-    item: T,
-    low: u64,
-    high: u64,
-)
-    requires tree { IsTree T.key T.fits T.tells low high tree.old }
-    requires range { (low ≤ T.key item) × (T.key item < high) × (high < 2 ^ 63) }
-    requires fits { T.fits item }
-    ensures { IsTree T.key T.fits T.tells low high tree.new × (items tree.new ≡ put_item T.key item (items tree.old)) }
-{
     match tree {
         Tree::Leaf => {
-            *room = Node {
+            let Room { mut node } = room;
+            *node = Node {
                 here: item,
                 summary: item.alone(),
                 left: Tree::Leaf,
                 right: Tree::Leaf,
             };
-            *tree = Tree::Fork(room);
+            *tree = Tree::Fork(node);
         }
         Tree::Fork(here) => {
             let node = &mut **here;
@@ -213,10 +197,10 @@ fn put_node<T: Keyed<S>, S: Copy>(
             node.here = least;
             let middle = middle(low, high);
             if other.key() < middle {
-                put_node(&mut node.left, room, other, low + 1, middle);
+                put(&mut node.left, room, other, low + 1, middle);
                 node.summary = summary_with(least, &node.left, &node.right);
             } else {
-                put_node(&mut node.right, room, other, middle, high);
+                put(&mut node.right, room, other, middle, high);
                 node.summary = summary_with(least, &node.left, &node.right);
             }
         }
@@ -257,6 +241,27 @@ fn pop<T: Keyed<S>, S: Copy>(tree: &mut Tree<T, S>) -> Option<Box<Node<T, S>>>
     }
 }
 
+/// The same items over a wider range of keys, after whose middle lies the one that the tree was over: the first item comes to
+/// stand before all others. Takes no memory.
+pub fn widen<T: Keyed<S>, S: Copy>(tree: &mut Tree<T, S>, low: u64, high: u64)
+    requires tree { IsTree T.key T.fits T.tells (middle_of low high) high tree.old }
+    requires range { low < high }
+    ensures { IsTree T.key T.fits T.tells low high tree.new × (items tree.new ≡ items tree.old) }
+{
+    let Some(mut node) = pop(tree) else {
+        return;
+    };
+    let here = node.here;
+    let rest = mem::replace(tree, Tree::Leaf);
+    *node = Node {
+        here,
+        summary: summary_with(here, &Tree::Leaf, &rest),
+        left: Tree::Leaf,
+        right: rest,
+    };
+    *tree = Tree::Fork(node);
+}
+
 /// Takes out the item of a key, if there is one, and gives the room that it leaves. Takes no memory.
 pub fn take<T: Keyed<S>, S: Copy>(
     tree: &mut Tree<T, S>,
@@ -269,38 +274,23 @@ pub fn take<T: Keyed<S>, S: Copy>(
     ensures less { IsTree T.key T.fits T.tells low high tree.new × (items tree.new ≡ take_item T.key key (items tree.old)) }
     ensures there { is_some result ≡ has_item T.key key (items tree.old) }
 {
-    match take_node(tree, key, low, high) {
-        None => None,
-        Some(node) => Some(Room { node }),
-    }
-}
-
-/// Takes out the item of a key, and gives the node that it leaves.
-fn take_node<T: Keyed<S>, S: Copy>(
-    tree: &mut Tree<T, S>,
-    key: u64,
-    low: u64,
-    high: u64,
-) -> Option<Box<Node<T, S>>>
-    requires tree { IsTree T.key T.fits T.tells low high tree.old }
-    requires range { high < 2 ^ 63 }
-    ensures less { IsTree T.key T.fits T.tells low high tree.new × (items tree.new ≡ take_item T.key key (items tree.old)) }
-    ensures there { is_some result ≡ has_item T.key key (items tree.old) }
-{
     match tree {
         Tree::Leaf => None,
         Tree::Fork(here) => {
             let node = &mut **here;
             if node.here.key() == key {
-                return pop(tree);
+                return match pop(tree) {
+                    None => None,
+                    Some(node) => Some(Room { node }),
+                };
             }
             let middle = middle(low, high);
             if key < middle {
-                let room = take_node(&mut node.left, key, low + 1, middle);
+                let room = take(&mut node.left, key, low + 1, middle);
                 node.summary = summary_with(node.here, &node.left, &node.right);
                 room
             } else {
-                let room = take_node(&mut node.right, key, middle, high);
+                let room = take(&mut node.right, key, middle, high);
                 node.summary = summary_with(node.here, &node.left, &node.right);
                 room
             }

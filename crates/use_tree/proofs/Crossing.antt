@@ -9,7 +9,7 @@ use Rattle.use_tree.specs.contracts.uses.Uses as Uses
 use Rattle.use_tree.specs.contracts.uses.Uses.TheInside as Inside
 
 inside_send : IsSend Inside.the_row
-inside_send = declared_send Inside.the_type (search (tree_send, use_send, choices_send, sendable, crosses) depth 40, tt)
+inside_send = declared_send Inside.the_type (search (tree_send, use_send, choices_send, sendable, crosses) depth 40, (search sendable, tt))
 
 pub uses_send : IsSend Uses.the_row
 uses_send = search (inside_send, sendable)

@@ -1,5 +1,5 @@
 -- Lists of uses by rising turn.
-use Rattle.std.specs.Prelude.{◌≡◌, ℕ, Bool, false, ◌&&◌, ◌||◌, nat_lt, if◌then◌else◌, List, [], ◌∷◌, Option, Some, None}
+use Rattle.std.specs.Prelude.{◌≡◌, ℕ, ◌-◌, ◌^◌, Bool, false, ◌&&◌, ◌||◌, nat_lt, if◌then◌else◌, List, [], ◌∷◌, Option, Some, None}
 use Rattle.augmented_tree.specs.Lists.{IsRisingBy, take_item, has_item, change_item}
 use Rattle.use_tree.specs.declared.choices.Choice.{Choice}
 use Rattle.use_tree.specs.declared.choices.Choices.{Choices}
@@ -50,3 +50,7 @@ either None o = o
 abbrev pub last_chosen : Choice → ℕ → List Use → Option Use
 last_chosen k b [] = None
 last_chosen k b (x ∷ xs) = either (last_chosen k b xs) (if nat_lt x.turn b && has k x.choices then Some x else None)
+
+-- where the last turns begin that are 2 to this many
+abbrev pub start : ℕ → ℕ
+start bits = 4611686018427387904 - 2 ^ bits

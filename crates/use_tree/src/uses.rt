@@ -1,10 +1,10 @@
 //! Uses in a tree by turn, each node of which knows the choices of all uses at it and below.
-ghost use Rattle.std.specs.Prelude.{◌≡◌, ◌<◌, List, [], ◌∷◌, is_some};
+ghost use Rattle.std.specs.Prelude.{◌≡◌, ◌<◌, ◌≤◌, List, [], ◌∷◌, is_some};
 ghost use Rattle.augmented_tree.specs.Lists.{AllOf};
-ghost use Rattle.augmented_tree.specs.Shape.{items, IsTold};
+ghost use Rattle.augmented_tree.specs.Shape.{items, IsTold, IsTree};
 ghost use Rattle.use_tree.specs.declared.choices.Choice.{Choice};
 ghost use Rattle.use_tree.specs.declared.uses.Use.{Use};
-ghost use Rattle.use_tree.specs.Uses.{turn_of, IsAny, AreOf, with_choices, IsRising, take_use, has_use, choose_use, last_chosen};
+ghost use Rattle.use_tree.specs.Uses.{turn_of, IsAny, AreOf, with_choices, IsRising, take_use, has_use, choose_use, last_chosen, start as start_lem};
 
 use crate::choices::{Choice, Choices};
 use augmented_tree::{Keyed, Marked, Tree, summary};
@@ -93,27 +93,33 @@ impl Room {
 
 /// Uses by rising turn, the latest first.
 pub struct Uses {
+    // Over the last turns of all, 2 to the number of bits. Turns count down from the end, so a tree over all turns would be as deep
+    // as a turn has bits, however few have been given out.
     tree: Tree<Use, Choices>,
+    bits: u32,
 }
 
 // By hand, so that it is proved here and not in each crate above.
 impl Drop for Uses {
     fn drop(self) {
-        let Uses { tree: _tree } = self;
+        let Uses {
+            tree: _tree,
+            bits: _bits,
+        } = self;
     }
 }
 
 impl Model for Uses {
-    ghost use Rattle.std.specs.Prelude.{List};
+    ghost use Rattle.std.specs.Prelude.{◌≤◌, List};
     ghost use Rattle.augmented_tree.specs.Shape.{items, IsTree};
-    ghost use Rattle.use_tree.specs.Uses.{turn_of, IsAny, AreOf};
+    ghost use Rattle.use_tree.specs.Uses.{turn_of, IsAny, AreOf, start};
     ghost use Rattle.use_tree.specs.declared.uses.Use.{Use};
 
     ghost Value = { List Use };
 
     ghost view = { λ a. items a.tree };
 
-    ghost invariant = { λ a. IsTree turn_of IsAny AreOf 0 4611686018427387904 a.tree };
+    ghost invariant = { λ a. (a.bits ≤ 62) × IsTree turn_of IsAny AreOf (start a.bits) 4611686018427387904 a.tree };
 }
 
 /// Where the turns end.
@@ -124,7 +130,10 @@ impl Uses {
     pub fn new() -> Uses
         ensures { result ≡ [] }
     {
-        Uses { tree: Tree::Leaf }
+        Uses {
+            tree: Tree::Leaf,
+            bits: 0,
+        }
     }
 
     /// Puts a use before all others, whose turns are greater. It uses the room, and takes no memory.
@@ -133,7 +142,14 @@ impl Uses {
         requires range { latest.turn < 4611686018427387904 }
         ensures { self.new ≡ latest ∷ self.old }
     {
-        augmented_tree::put(&mut self.tree, room.into_node(), latest, 0, END);
+        self.bits = widen_to(&mut self.tree, self.bits, latest.turn);
+        augmented_tree::put(
+            &mut self.tree,
+            room.into_node(),
+            latest,
+            start(self.bits),
+            END,
+        );
     }
 
     /// Takes out the use of a turn, if there is one, and gives the room that it leaves. Takes no memory.
@@ -142,7 +158,7 @@ impl Uses {
         ensures uses { self.new ≡ take_use turn self.old }
         ensures there { is_some result ≡ has_use turn self.old }
     {
-        match augmented_tree::take(&mut self.tree, turn, 0, END) {
+        match augmented_tree::take(&mut self.tree, turn, start(self.bits), END) {
             None => None,
             Some(node) => Some(Room { node }),
         }
@@ -153,7 +169,7 @@ impl Uses {
         ensures rising { IsRising self.old }
         ensures uses { self.new ≡ choose_use turn choices self.old }
     {
-        augmented_tree::set_mark(&mut self.tree, turn, choices, 0, END);
+        augmented_tree::set_mark(&mut self.tree, turn, choices, start(self.bits), END);
     }
 
     /// What all turns are below.
@@ -166,14 +182,34 @@ impl Uses {
         END
     }
 
-    /// The use of the greatest turn below this one whose copy the walk chooses. Visits some 120 nodes at most, however many
-    /// there are.
+    /// The use of the greatest turn below this one whose copy the walk chooses.
     pub fn last(&self, choice: Choice, below: u64) -> Option<Use>
         ensures rising { IsRising self.now }
         ensures last { result ≡ last_chosen choice below self.now }
     {
         last(&self.tree, choice, below)
     }
+}
+
+/// Where the last turns begin that are 2 to this many.
+fn start(bits: u32) -> u64
+    requires { bits ≤ 62 }
+    ensures { result ≡ start_lem bits }
+{
+    END - (1 << bits)
+}
+
+/// Widens the tree until it is over the turn too, and answers over how many turns it is then, in bits.
+fn widen_to(tree: &mut Tree<Use, Choices>, bits: u32, turn: u64) -> u32
+    requires tree { (bits ≤ 62) × IsTree turn_of IsAny AreOf (start_lem bits) 4611686018427387904 tree.old }
+    ensures range { (result ≤ 62) × (start_lem result ≤ turn) }
+    ensures tree { IsTree turn_of IsAny AreOf (start_lem result) 4611686018427387904 tree.new × (items tree.new ≡ items tree.old) }
+{
+    if turn >= start(bits) {
+        return bits;
+    }
+    augmented_tree::widen(tree, start(bits + 1), END);
+    widen_to(tree, bits + 1, turn)
 }
 
 /// The use of the greatest turn below this one whose copy the walk chooses. Goes into at most two nodes of each depth.

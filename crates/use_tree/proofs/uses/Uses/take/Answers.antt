@@ -1,7 +1,7 @@
 use Rattle.std.proofs.Common.{subst}
 use Rattle.augmented_tree.proofs.Kept.{rises}
-use Rattle.use_tree.specs.Uses.{turn_of, IsAny, AreOf, IsRising}
+use Rattle.use_tree.specs.Uses.{turn_of, IsAny, AreOf, IsRising, start}
 use Rattle.use_tree.proofs.uses.Uses.take.Goals as goal
 
 pub returns-clause-rising : goal.returns-clause-rising
-returns-clause-rising c = subst IsRising c.self.view_is (rises turn_of IsAny AreOf 0 4611686018427387904 c.self.inside.tree c.self.invariant)
+returns-clause-rising c = subst IsRising c.self.view_is (rises turn_of IsAny AreOf (start c.self.inside.bits) 4611686018427387904 c.self.inside.tree c.self.invariant.1)
