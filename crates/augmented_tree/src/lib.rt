@@ -122,14 +122,19 @@ pub fn summary<T: Keyed<S>, S: Copy>(tree: &Tree<T, S>) -> S
     }
 }
 
-/// The summary of a node's own item and those on its sides.
+/// The summary of a node's own item and those on its sides. Many nodes have nothing on a side, and then it counts for nothing.
 fn summary_with<T: Keyed<S>, S: Copy>(here: T, left: &Tree<T, S>, right: &Tree<T, S>) -> S
     requires fits { T.fits here }
     requires told { IsTold T.fits T.tells left.now × IsTold T.fits T.tells right.now }
     ensures { T.tells result (here ∷ items left.now ++ items right.now) }
 {
-    let below = T::joined(summary(left), summary(right));
-    T::joined(here.alone(), below)
+    let own = here.alone();
+    match (left, right) {
+        (Tree::Leaf, Tree::Leaf) => own,
+        (Tree::Leaf, _) => T::joined(own, summary(right)),
+        (_, Tree::Leaf) => T::joined(own, summary(left)),
+        _ => T::joined(own, T::joined(summary(left), summary(right))),
+    }
 }
 
 /// Whether there is an item of a key.

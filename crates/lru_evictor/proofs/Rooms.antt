@@ -38,13 +38,6 @@ module _ {X : Type 0} (test : List X → Bool) where
   passes xs ys e = passes-from [] xs ys e
 
 module _ (window : Region) (facts : Looked) (n : ℕ) where
-  made : (ids : List ObjectId) → fits_without window facts n ids ≡ true → makes_room window facts n (evict_here ids) ≡ true
-  made [] fits = fits
-  made (id ∷ ids) fits = fits
-
-  pub evicts_room : (ids : List ObjectId) (told : Plan) → told ≡ evict_here ids → fits_without window facts n ids ≡ true → makes_room window facts n told ≡ true
-  evicts_room ids told says fits = ap (makes_room window facts n) says ∙ made ids fits
-
   -- the copies that are found make room
   pub victims_room : (may : List ObjectId) (r : Option (List ObjectId)) → r ≡ shortest (fits_without window facts n) may → IfSome r (λ ids. fits_without window facts n ids ≡ true)
   victims_room may None found = tt
