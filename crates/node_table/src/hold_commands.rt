@@ -23,11 +23,7 @@ impl JobRow {
         ensures silent { result.messages ≡ [] }
     {
         match self.release_copy(id, session) {
-            Ok(true) => Outcome {
-                reply: Reply::Ok,
-                messages: Items::new(alloc),
-                erase: Erase::of(self.settle(id)),
-            },
+            Ok(true) => self.settle_after(id, Items::new(alloc)),
             Ok(false) => Outcome::only(alloc, Reply::Ok),
             Err(refusal) => Outcome::only(alloc, Reply::Refused(refusal)),
         }

@@ -11,12 +11,12 @@ use Rattle.node_table.proofs.row.JobRow.release.Goals as goal
 pub returns-in-Ok-true-clause-step : goal.returns-in-Ok-true-clause-step
 returns-in-Ok-true-clause-step c node beside contents mine h =
     let was = c.in-Ok-true.ensures.ok in
-    let keys = c.of.ensures ∙ c.settle.ensures.keys ∙ ap (λ r. keys_settled r c.args.id.now) was in
-    subst (λ g. TakesStep node c.args.self.now beside contents (input.Call c.args.session (command.Release c.args.id.now)) g c.settle.new.self beside) (sym (λ i. record { reply = reply.Ok; posts = c.new.ensures i; erased = keys i }))
+    subst (λ g. TakesStep node c.args.self.now beside contents (input.Call c.args.session (command.Release c.args.id.now)) g c.settle_after.new.self beside)
+    (sym (c.settle_after.ensures.given ∙ (λ i. record { reply = reply.Ok; posts = c.new.ensures i; erased = keys_settled (was i) c.args.id.now })))
     (subst (λ r. TakesStep node c.args.self.now beside contents (input.Call c.args.session (command.Release c.args.id.now)) (record { reply = reply.Ok; posts = []; erased = keys_settled (row_released node c.args.self.now beside contents c.args.session c.args.id.now mine h) c.args.id.now }) r beside)
-    (sym (c.settle.ensures.row ∙ ap (λ r. settled_row r c.args.id.now) was))
+    (sym (c.settle_after.ensures.row ∙ ap (λ r. settled_row r c.args.id.now) was))
     (release_done_so node c.args.self.now beside contents c.args.session c.args.id.now mine h (c.in-Ok-true.ensures.passed refl)
-    (subst (λ r. ArePlaced r.window.placed (place_of r.copies)) was c.settle.ensures.placed)))
+    (subst (λ r. ArePlaced r.window.placed (place_of r.copies)) was c.settle_after.ensures.placed)))
 
 -- what something keeps is neither removed nor erased
 pub returns-in-Ok-false-clause-step : goal.returns-in-Ok-false-clause-step
