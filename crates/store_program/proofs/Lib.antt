@@ -3,3 +3,4 @@ mod Crews
 mod Running
 mod Serves
 mod Within
+pub mod Ordering

@@ -16,41 +16,6 @@ begun nodes a b = record { lines = []; counted = refl; obeyed = tt; consumed = C
 
 module _ (nodes number : ℕ) (a r b w : Option (List ℕ)) (so_far : Serving nodes number a r b w) where
   module _ (r1 : Option (List ℕ)) (bytes : List ℕ) (read : Consumes r r1 bytes) where
-    ended : (w1 : Option (List ℕ)) (result : Result ⊤ Fault) → IsWritten b w1 (answers_of so_far.lines) result
-        → ServingEnds (suc (length so_far.lines)) a (orders_of so_far.lines) bytes result → Served nodes a r1 b w1 result
-    ended w1 result written ends =
-        record {
-          lines = so_far.lines;
-          rest = bytes;
-          obeyed = so_far.obeyed;
-          consumed = Consumes-then a r r1 (orders_of so_far.lines) bytes so_far.consumed read;
-          written = written;
-          ends = ends;
-        }
-
-    pub reading_failed : (fault : Fault) → IsReadingFault fault → Served nodes a r1 b w (Err fault)
-    reading_failed (NotAStep n) is = absurd is
-    reading_failed Output is = absurd is
-    reading_failed Socket is = absurd is
-    reading_failed Folded is = absurd is
-    reading_failed Input is = ended w (Err Input) so_far.written tt
-    reading_failed NoMemory is = ended w (Err NoMemory) so_far.written tt
-
-    pub input_ended : IsAtEnd r → Served nodes a r1 b w (Ok tt)
-    input_ended end = ended w (Ok tt) so_far.written (inr (Consumes-all a r (orders_of so_far.lines) so_far.consumed end))
-
-    pub closed : (w1 : Option (List ℕ)) → bytes ≡ close_line → Keeps w w1 → Served nodes a r1 b w1 (Ok tt)
-    closed w1 is kept = ended w1 (Ok tt) (Appends-kept b w w1 (answers_of so_far.lines) so_far.written kept) (inl is)
-
-    pub line_stopped : IfSome r (λ left. bytes ≡ take_through 10 left) → (w1 : Option (List ℕ)) (fault : Fault) → StopsOrder number w w1 fault → Served nodes a r1 b w1 (Err fault)
-    line_stopped whole w1 (NotAStep n) stops =
-        ended w1 (Err (NotAStep n)) (Appends-kept b w w1 (answers_of so_far.lines) so_far.written stops.1) (stops.0 ∙ sym so_far.counted, next_line a r (orders_of so_far.lines) bytes so_far.consumed whole)
-    line_stopped whole w1 Input stops = absurd stops
-    line_stopped whole w1 Socket stops = absurd stops
-    line_stopped whole w1 Folded stops = absurd stops
-    line_stopped whole w1 Output stops = ended w1 (Err Output) tt tt
-    line_stopped whole w1 NoMemory stops = ended w1 (Err NoMemory) (Appends-kept b w w1 (answers_of so_far.lines) so_far.written stops) tt
-
     pub line_more : (w1 : Option (List ℕ)) → Obeys nodes bytes w w1 → Serving nodes (number + 1) a r1 b w1
     line_more w1 obeys =
         let counted = so_far.counted in
@@ -62,5 +27,41 @@ module _ (nodes number : ℕ) (a r b w : Option (List ℕ)) (so_far : Serving no
           written = Appends-then b w w1 (answers_of so_far.lines) _ so_far.written obeys.written;
         }
 
-  pub too_many : Served nodes a r b w (Err Input)
-  too_many = reading_failed r [] (Consumes-none r) Input tt
+    module _ (count : ℕ) where
+      ended : (w1 : Option (List ℕ)) (result : Result ⊤ Fault) → IsWritten b w1 (answers_of so_far.lines) result
+          → ServingEnds nodes count (suc (length so_far.lines)) a (orders_of so_far.lines) bytes result → Served nodes count a r1 b w1 result
+      ended w1 result written ends =
+          record {
+            lines = so_far.lines;
+            rest = bytes;
+            obeyed = so_far.obeyed;
+            consumed = Consumes-then a r r1 (orders_of so_far.lines) bytes so_far.consumed read;
+            written = written;
+            ends = ends;
+          }
+
+      pub reading_failed : (fault : Fault) → IsReadingFault fault → Served nodes count a r1 b w (Err fault)
+      reading_failed (NotAStep n) is = absurd is
+      reading_failed Output is = absurd is
+      reading_failed Socket is = absurd is
+      reading_failed Folded is = absurd is
+      reading_failed Input is = ended w (Err Input) so_far.written tt
+      reading_failed NoMemory is = ended w (Err NoMemory) so_far.written tt
+
+      pub input_ended : IsAtEnd r → Served nodes count a r1 b w (Ok tt)
+      input_ended end = ended w (Ok tt) so_far.written (inr (Consumes-all a r (orders_of so_far.lines) so_far.consumed end))
+
+      pub closed : (w1 : Option (List ℕ)) → bytes ≡ close_line → Keeps w w1 → Served nodes count a r1 b w1 (Ok tt)
+      closed w1 is kept = ended w1 (Ok tt) (Appends-kept b w w1 (answers_of so_far.lines) so_far.written kept) (inl is)
+
+      pub line_stopped : IfSome r (λ left. bytes ≡ take_through 10 left) → (w1 : Option (List ℕ)) (fault : Fault) → StopsOrder nodes count number bytes w w1 fault → Served nodes count a r1 b w1 (Err fault)
+      line_stopped whole w1 (NotAStep n) stops =
+          ended w1 (Err (NotAStep n)) (Appends-kept b w w1 (answers_of so_far.lines) so_far.written stops.2) (stops.0 ∙ sym so_far.counted, stops.1, next_line a r (orders_of so_far.lines) bytes so_far.consumed whole)
+      line_stopped whole w1 Input stops = absurd stops
+      line_stopped whole w1 Socket stops = absurd stops
+      line_stopped whole w1 Folded stops = absurd stops
+      line_stopped whole w1 Output stops = ended w1 (Err Output) tt tt
+      line_stopped whole w1 NoMemory stops = ended w1 (Err NoMemory) (Appends-kept b w w1 (answers_of so_far.lines) so_far.written stops) tt
+
+  pub too_many : (count : ℕ) → Served nodes count a r b w (Err Input)
+  too_many count = reading_failed r [] (Consumes-none r) count Input tt

@@ -1,6 +1,7 @@
 -- The operator's lines that were carried out, and what was printed for them.
 use Rattle.std.specs.Prelude.{◌≡◌, ℕ, suc, false, true, Bool, List, [], ◌∷◌, ◌++◌, length, Option, IfSome, Result, Ok, Err, codes, ⊤, ◌⊎◌}
 use Rattle.std.specs.Io.KnownBytes.{Appends, Consumes, Keeps}
+use Rattle.std.specs.Str.{IsUtf8}
 use Rattle.obj_id.specs.declared.commands.Reply.{Reply}
 use Rattle.private_store.specs.declared.schedules.StepAnswer.TheVariants.{Told}
 use Rattle.schedule_text.specs.declared.prefixes.Prefix.TheVariants.{Operator}
@@ -8,9 +9,10 @@ use Rattle.schedule_text.specs.Printing.{line_text}
 use Rattle.store_program.specs.declared.fault.Fault.{Fault}
 use Rattle.store_program.specs.declared.fault.Fault.TheVariants.{NotAStep, Input, Output, Socket, Folded, NoMemory}
 use Rattle.store_program.specs.declared.operator.Change.{Change}
+use Rattle.store_program.specs.declared.operator.Order.{Order}
 use Rattle.store_program.specs.declared.operator.Order.TheVariants as order
 use Rattle.store_program.specs.Lines.{with_feed}
-use Rattle.store_program.specs.Orders.{IsOrder}
+use Rattle.store_program.specs.Orders.{IsOrder, IsWithin}
 use Rattle.store_program.specs.Runs.{IsNextLine}
 
 -- a line, without its line feed, and the answer to it
@@ -69,14 +71,18 @@ StopsReply written_old written_new Socket = ⊥
 StopsReply written_old written_new Folded = ⊥
 StopsReply written_old written_new NoMemory = Keeps written_old written_new
 
+-- bytes that aren't a line of the operator's: its line feed is missing, or its text spells no order for so many nodes
+pub record IsNoOrder (nodes count : ℕ) (bytes : List ℕ) : Type 0 where
+  pub none : (text : List ℕ) → bytes ≡ with_feed text → IsUtf8 text → (asked : Order) → IsOrder nodes text asked → IsWithin count asked → ⊥
+
 -- a line at which the serving stops: nothing is written, unless the output failed
-abbrev pub StopsOrder : ℕ → Option (List ℕ) → Option (List ℕ) → Fault → Type 0
-StopsOrder number written_old written_new (NotAStep n) = (n ≡ number) × Keeps written_old written_new
-StopsOrder number written_old written_new Input = ⊥
-StopsOrder number written_old written_new Output = ⊤
-StopsOrder number written_old written_new Socket = ⊥
-StopsOrder number written_old written_new Folded = ⊥
-StopsOrder number written_old written_new NoMemory = Keeps written_old written_new
+abbrev pub StopsOrder : ℕ → ℕ → ℕ → List ℕ → Option (List ℕ) → Option (List ℕ) → Fault → Type 0
+StopsOrder nodes count number bytes written_old written_new (NotAStep n) = (n ≡ number) × IsNoOrder nodes count bytes × Keeps written_old written_new
+StopsOrder nodes count number bytes written_old written_new Input = ⊥
+StopsOrder nodes count number bytes written_old written_new Output = ⊤
+StopsOrder nodes count number bytes written_old written_new Socket = ⊥
+StopsOrder nodes count number bytes written_old written_new Folded = ⊥
+StopsOrder nodes count number bytes written_old written_new NoMemory = Keeps written_old written_new
 
 -- the serving so far
 pub record Serving (nodes number : ℕ) (read_old read_new written_old written_new : Option (List ℕ)) : Type 0 where
@@ -89,15 +95,15 @@ pub record Serving (nodes number : ℕ) (read_old read_new written_old written_n
   pub written : Appends written_old written_new (answers_of lines)
 
 -- it ends without a fault at `close`, or once the lines are the whole input; a fault for a line tells its number, and the line is
--- the next one of the input
-abbrev pub ServingEnds : ℕ → Option (List ℕ) → List ℕ → List ℕ → Result ⊤ Fault → Type 0
-ServingEnds number read_old input rest (Ok u) = (rest ≡ close_line) ⊎ IfSome read_old (λ all. all ≡ input)
-ServingEnds number read_old input rest (Err (NotAStep n)) = (n ≡ number) × IsNextLine read_old input rest
-ServingEnds number read_old input rest (Err Input) = ⊤
-ServingEnds number read_old input rest (Err Output) = ⊤
-ServingEnds number read_old input rest (Err Socket) = ⊥
-ServingEnds number read_old input rest (Err Folded) = ⊥
-ServingEnds number read_old input rest (Err NoMemory) = ⊤
+-- the next one of the input, and none of the operator's
+abbrev pub ServingEnds : ℕ → ℕ → ℕ → Option (List ℕ) → List ℕ → List ℕ → Result ⊤ Fault → Type 0
+ServingEnds nodes count number read_old input rest (Ok u) = (rest ≡ close_line) ⊎ IfSome read_old (λ all. all ≡ input)
+ServingEnds nodes count number read_old input rest (Err (NotAStep n)) = (n ≡ number) × IsNoOrder nodes count rest × IsNextLine read_old input rest
+ServingEnds nodes count number read_old input rest (Err Input) = ⊤
+ServingEnds nodes count number read_old input rest (Err Output) = ⊤
+ServingEnds nodes count number read_old input rest (Err Socket) = ⊥
+ServingEnds nodes count number read_old input rest (Err Folded) = ⊥
+ServingEnds nodes count number read_old input rest (Err NoMemory) = ⊤
 
 -- what was written; if the output failed, nobody knows
 abbrev pub IsWritten : Option (List ℕ) → Option (List ℕ) → List ℕ → Result ⊤ Fault → Type 0
@@ -109,8 +115,8 @@ IsWritten written_old written_new text (Err Socket) = ⊥
 IsWritten written_old written_new text (Err Folded) = ⊥
 IsWritten written_old written_new text (Err NoMemory) = Appends written_old written_new text
 
--- the whole of it
-pub record Served (nodes : ℕ) (read_old read_new written_old written_new : Option (List ℕ)) (result : Result ⊤ Fault) : Type 0 where
+-- the whole of it, at a cluster of so many nodes, which lines may name up to another number
+pub record Served (nodes count : ℕ) (read_old read_new written_old written_new : Option (List ℕ)) (result : Result ⊤ Fault) : Type 0 where
   -- newest first
   pub lines : List Obeyed
   -- what was read of the line after them
@@ -118,4 +124,4 @@ pub record Served (nodes : ℕ) (read_old read_new written_old written_new : Opt
   pub obeyed : AreObeyed nodes lines
   pub consumed : Consumes read_old read_new (orders_of lines ++ rest)
   pub written : IsWritten written_old written_new (answers_of lines) result
-  pub ends : ServingEnds (suc (length lines)) read_old (orders_of lines) rest result
+  pub ends : ServingEnds nodes count (suc (length lines)) read_old (orders_of lines) rest result

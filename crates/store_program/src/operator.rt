@@ -1,11 +1,11 @@
 //! The operator's lines of a cluster that serves.
-ghost use Rattle.std.specs.Prelude.{◌≡◌, IfOk, IfSome};
-ghost use Rattle.hex.specs.Hex.{encode_lower};
-ghost use Rattle.store_program.specs.Orders.{IsOrder};
+ghost use Rattle.std.specs.Prelude.{◌≡◌, IfOk, map};
+ghost use Rattle.schedule_text.specs.Fields.{Reads};
+ghost use Rattle.store_program.specs.Orders.{IsAdmission, IsAdmissionAfter, IsAdmissionFields, IsAdmissionLine, IsKey, IsOrder, admission_order, order_of as order_of_lem};
 
 use obj_id::{JobKey, JobNo, Quota};
 use private_store::{Event, Step};
-use schedule_text::{Line, read_line};
+use schedule_text::{Line, fields, fields_of, quota, read_line};
 use std::alloc::{AllocError, Global};
 
 /// What is to become of a job at a node.
@@ -29,56 +29,141 @@ pub enum Order {
 }
 
 /// What the text of a line, without its line feed, asks of a cluster with this number of nodes: `admit NODE JOB WINDOW DEVICE
-/// KEY`, `quota NODE JOB WINDOW DEVICE`, `end NODE JOB` or `close`. `None` if it is no such line.
+/// KEY`, `quota NODE JOB WINDOW DEVICE`, `end NODE JOB` or `close`. `None` exactly if it is no such line.
 pub fn read_order(alloc: Global, text: &str, nodes: u32) -> Result<Option<Order>, AllocError>
-    ensures { IfOk result (λ found. IfSome found (IsOrder nodes text.now)) }
+    ensures { IfOk result (λ found. Reads found (IsOrder nodes text.now)) }
 {
     if text == "close" {
         return Ok(Some(Order::Close));
     }
-    match read_line(alloc, text, nodes)? {
+    let fields = fields_of(alloc, text)?;
+    if let Some(admission) = admission_line(alloc, &fields, nodes)? {
+        return Ok(Some(admission.order()));
+    }
+    let line = read_line(alloc, text, nodes)?;
+    Ok(order_of(&line))
+}
+
+/// What a line of a schedule asks, if it is one of those that an operator gives as they are.
+fn order_of(line: &Option<Line>) -> Option<Order>
+    ensures { result ≡ order_of_lem line.now }
+{
+    match line {
         Some(Line::Step(Step::At(node, Event::Requota(job, quota)))) => {
-            Ok(Some(Order::Change(node, Change::Requota(job, quota))))
+            Some(Order::Change(*node, Change::Requota(*job, *quota)))
         }
         Some(Line::Step(Step::At(node, Event::JobEnd(job)))) => {
-            Ok(Some(Order::Change(node, Change::End(job))))
+            Some(Order::Change(*node, Change::End(*job)))
         }
-        Some(_) => Ok(None),
-        None => read_admission(alloc, text, nodes),
+        _ => None,
     }
 }
 
-/// An admission as in a schedule, and after it the key.
-fn read_admission(alloc: Global, text: &str, nodes: u32) -> Result<Option<Order>, AllocError>
-    ensures { IfOk result (λ found. IfSome found (IsOrder nodes text.now)) }
+/// A job that is to be admitted at a node.
+#[derive(Clone, Copy, Debug, PartialEq, Eq)]
+struct Admission {
+    node: u32,
+    job: JobNo,
+    quota: Quota,
+    key: JobKey,
+}
+
+impl Admission {
+    /// What the operator asks by it.
+    fn order(self) -> Order
+        ensures { result ≡ admission_order self }
+    {
+        Order::Change(self.node, Change::Admit(self.job, self.quota, self.key))
+    }
+}
+
+/// `admit NODE JOB WINDOW DEVICE KEY`.
+fn admission_line(
+    alloc: Global,
+    fields: &[&str],
+    nodes: u32,
+) -> Result<Option<Admission>, AllocError>
+    ensures { IfOk result (λ found. Reads found (IsAdmissionLine nodes (map (λ field. field.now) fields.now))) }
 {
-    let Some((admission, digits)) = text.rsplit_once(' ') else {
+    let [first, fields @ ..] = fields else {
+        return Ok(None)
+    };
+    admission_after(alloc, first, fields, nodes)
+}
+
+/// `NODE JOB WINDOW DEVICE KEY`, if the word before them is `admit`.
+fn admission_after(
+    alloc: Global,
+    word: &str,
+    fields: &[&str],
+    nodes: u32,
+) -> Result<Option<Admission>, AllocError>
+    ensures { IfOk result (λ found. Reads found (IsAdmissionAfter nodes word.now (map (λ field. field.now) fields.now))) }
+{
+    if word == "admit" {
+        admission_fields(alloc, fields, nodes)
+    } else {
+        Ok(None)
+    }
+}
+
+/// `NODE JOB WINDOW DEVICE KEY`.
+fn admission_fields(
+    alloc: Global,
+    fields: &[&str],
+    nodes: u32,
+) -> Result<Option<Admission>, AllocError>
+    ensures { IfOk result (λ found. Reads found (IsAdmissionFields nodes (map (λ field. field.now) fields.now))) }
+{
+    let [node, job, window, device, key] = fields else {
+        return Ok(None)
+    };
+    read_admission(alloc, node, job, window, device, key, nodes)
+}
+
+/// `NODE JOB WINDOW DEVICE KEY`, each in its field.
+fn read_admission(
+    alloc: Global,
+    at: &str,
+    name: &str,
+    window: &str,
+    device: &str,
+    digits: &str,
+    nodes: u32,
+) -> Result<Option<Admission>, AllocError>
+    ensures { IfOk result (λ found. Reads found (IsAdmission nodes at.now name.now window.now device.now digits.now)) }
+{
+    let Some(node) = fields::node(at, nodes) else {
+        return Ok(None)
+    };
+    let Some(job) = fields::job(name) else {
+        return Ok(None)
+    };
+    let Some(quota) = quota(window, device) else {
         return Ok(None)
     };
     let Some(key) = read_key(alloc, digits)? else {
         return Ok(None)
     };
-    match read_line(alloc, admission, nodes)? {
-        Some(Line::Step(Step::At(node, Event::Admit(job, quota, _)))) => {
-            Ok(Some(Order::Change(node, Change::Admit(job, quota, key))))
-        }
-        _ => Ok(None),
-    }
+    Ok(Some(Admission {
+        node,
+        job,
+        quota,
+        key,
+    }))
 }
 
 /// A key of 64 lower-case hexadecimal digits.
 fn read_key(alloc: Global, digits: &str) -> Result<Option<JobKey>, AllocError>
-    ensures { IfOk result (λ key. IfSome key (λ k. encode_lower k.0 ≡ digits.now)) }
+    ensures { IfOk result (λ key. Reads key (IsKey digits.now)) }
 {
-    let mut bytes = [0u8; 32];
-    if hex::decode_to_slice(digits, &mut bytes).is_err() {
+    let Some(bytes) = fields::bytes(alloc, digits)? else {
+        return Ok(None)
+    };
+    let mut key = [0; 32];
+    if bytes.len() != key.len() {
         return Ok(None);
     }
-    // upper-case digits are decoded as well
-    let printed = hex::encode(alloc, bytes.as_slice())?;
-    if printed.as_str() == digits {
-        Ok(Some(JobKey(bytes)))
-    } else {
-        Ok(None)
-    }
+    key.copy_from_slice(bytes.as_slice());
+    Ok(Some(JobKey(key)))
 }

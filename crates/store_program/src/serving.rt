@@ -1,8 +1,10 @@
 //! A cluster that serves, as its operator has it.
-ghost use Rattle.std.specs.Prelude.{◌≡◌, IfOk, OnOk, IfErr, IfSome};
+ghost use Rattle.std.specs.Prelude.{◌≡◌, IfOk, OnOk, IfErr, IfSome, vec_len};
 ghost use Rattle.std.specs.Io.KnownBytes.{Appends};
+ghost use Rattle.std.specs.Str.{IsUtf8};
 ghost use Rattle.private_store.specs.declared.schedules.StepAnswer.TheVariants.{Told};
 ghost use Rattle.schedule_text.specs.declared.prefixes.Prefix.TheVariants.{Operator};
+ghost use Rattle.schedule_text.specs.Fields.{Reads};
 ghost use Rattle.schedule_text.specs.Printing.{line_text};
 ghost use Rattle.store_program.specs.declared.fault.Fault.TheVariants.{Output};
 ghost use Rattle.store_program.specs.Orders.{IsOrder};
@@ -27,7 +29,8 @@ use std::sync::ledger::Ledger;
 ///
 /// What was read is those lines, each of which spells a change at a node, and `close` if it came; what was written is the
 /// answers' lines, in that order. `NotAStep` has the number of the first line, counted from 1, that is none of the operator's,
-/// or that lacks its line feed.
+/// names a node that the cluster doesn't have, or lacks its line feed; every other line is carried out, but for want of memory or a
+/// failure of the output.
 pub fn serve_text<L: Ledger, R: Wait, I: BufRead, O: Write>(
     rt: &R,
     alloc: Global,
@@ -36,7 +39,7 @@ pub fn serve_text<L: Ledger, R: Wait, I: BufRead, O: Write>(
     reader: &mut I,
     writer: &mut O,
 ) -> Result<(), Fault>
-    ensures { Served nodes (I.remaining reader.old) (I.remaining reader.new) (O.contents writer.old) (O.contents writer.new) result }
+    ensures { Served nodes (vec_len cluster.now.nodes) (I.remaining reader.old) (I.remaining reader.new) (O.contents writer.old) (O.contents writer.new) result }
 {
     let mut line = Vec::new(alloc);
     for number in 1..u64::MAX {
@@ -67,7 +70,7 @@ fn serve_line<L: Ledger, R: Wait, O: Write>(
     writer: &mut O,
 ) -> Result<bool, Fault>
     ensures ok { IfOk result (ServesLine nodes line.now (O.contents writer.old) (O.contents writer.new)) }
-    ensures err { IfErr result (StopsOrder number (O.contents writer.old) (O.contents writer.new)) }
+    ensures err { IfErr result (StopsOrder nodes (vec_len cluster.now.nodes) number line.now (O.contents writer.old) (O.contents writer.new)) }
 {
     let Some((b'\n', text)) = line.split_last() else {
         return Err(Fault::NotAStep(number))
@@ -88,7 +91,8 @@ fn serve_line<L: Ledger, R: Wait, O: Write>(
 
 /// What a line asks for.
 fn hear_order(alloc: Global, text: &[u8], nodes: u32) -> Result<Option<Order>, AllocError>
-    ensures { IfOk result (λ found. IfSome found (IsOrder nodes text.now)) }
+    ensures sound { IfOk result (λ found. IfSome found (IsOrder nodes text.now)) }
+    ensures whole { IfOk result (λ found. IsUtf8 text.now → Reads found (IsOrder nodes text.now)) }
 {
     match str::from_utf8(text) {
         Ok(text) => read_order(alloc, text, nodes),
