@@ -9,6 +9,7 @@ use std::fs::Files;
 use std::io::{BufRead, BufReader, Read, Write};
 use std::marker::Brand;
 use std::net::Net;
+use std::os::unix::fs::FileTypeExt;
 use std::os::unix::net::{UnixListener, UnixStream};
 use std::sync::ledger::{Blank, Ledger};
 use std::sync::{Arc, Wait};
@@ -31,8 +32,8 @@ struct Served<L: Ledger> {
     doors: Vec<Door>,
 }
 
-/// Serves the sockets of all nodes, which fetch from one another, carries out the operator's lines that the reader gives, and writes their answers, and a
-/// report at the end.
+/// Serves the sockets of all nodes, which fetch from one another, carries out the operator's lines that the reader gives, and
+/// writes their answers, and a report at the end.
 ///
 /// After a fault nothing is reported. Sessions that are open are waited for, whatever ended the operator's lines.
 pub fn serve<
@@ -182,15 +183,24 @@ fn open_door<
     }
 }
 
-/// Opens the socket of this path. A file that an earlier process left there, and that nobody listens on, is removed.
+/// Opens the socket of this path. A socket that an earlier process left there, and that nobody listens on, is removed. Any other
+/// file stays, and then there is no socket.
 fn bind<R: Files + Net>(rt: &R, path: &str) -> io::Result<UnixListener> {
     if let Ok(listener) = UnixListener::bind(rt, path) {
         return Ok(listener);
     }
-    if UnixStream::connect(rt, path).is_err() {
+    if is_left(rt, path) {
         fs::remove_file(rt, path)?;
     }
     UnixListener::bind(rt, path)
+}
+
+/// Whether there is a socket of this path that nobody listens on.
+fn is_left<R: Files + Net>(rt: &R, path: &str) -> bool {
+    match fs::symlink_metadata(rt, path) {
+        Ok(there) => there.file_type().is_socket() && UnixStream::connect(rt, path).is_err(),
+        Err(_) => false,
+    }
 }
 
 /// Accepts no stream any more, removes the sockets' files, waits for the open sessions, and ends the workers.
