@@ -13,22 +13,13 @@ from __future__ import annotations
 import array
 import contextlib
 import multiprocessing
-import os
-import subprocess
-import sys
-import tempfile
-from pathlib import Path
 from typing import Iterator
 
-ROOT = Path(__file__).resolve().parents[1]
-sys.path.insert(0, str(ROOT / "clients/python"))
+from serving import KEYS, served
 
-import store_client  # noqa: E402
-from store_client import NotGranted, ObjectId  # noqa: E402
-from store_client.frames import MOST_BYTES  # noqa: E402
+import store_client
+from store_client import NotGranted, ObjectId
 
-PROGRAM = os.environ.get("STORE_PROGRAM", str(ROOT / "crates/store_server/out/store_server"))
-KEYS = {1: bytes([1]) * 32, 2: bytes([2]) * 32}
 ROUNDS = 3
 NUMBERS = 100_000
 
@@ -62,10 +53,11 @@ def make_squares(path: str, stored: multiprocessing.Queue, granted: multiprocess
 
 
 def add_up(path: str, granted: multiprocessing.Queue, told: multiprocessing.Queue) -> None:
-    """Job 2: peeks at what it was granted, and at what it wasn't."""
+    """Job 2: gets what it was granted, and tries to peek at what it wasn't."""
     with closing(told), store_client.connect(path, 2, KEYS[2]) as store:
         for numbers, squares in iter(granted.get, None):
-            total = sum(peek_whole(store, ObjectId.from_bytes(squares)))
+            with store.get(ObjectId.from_bytes(squares)) as view:
+                total = sum(view.cast("q"))
             try:
                 store.peek(ObjectId.from_bytes(numbers), 0, 1)
                 refusal = "no refusal"
@@ -75,32 +67,9 @@ def add_up(path: str, granted: multiprocessing.Queue, told: multiprocessing.Queu
         told.put(f"job 2 has {len(store.list()[0])} copies of its own, and {len(store.list()[1])} objects were granted to it")
 
 
-def peek_whole(store: store_client.Connection, id: ObjectId) -> array.array:
-    """The whole numbers of an object that another job granted."""
-    length = next(item.length for item in store.list()[1] if item.id == id)
-    numbers = array.array("q")
-    for offset in range(0, length, MOST_BYTES):
-        numbers.frombytes(store.peek(id, offset, min(MOST_BYTES, length - offset)))
-    return numbers
-
-
-def serve(folder: str) -> subprocess.Popen:
-    """A node with jobs 1 and 2, which has answered both admissions."""
-    words = [PROGRAM, "serve", "--socket", f"{folder}/store", "--nodes", "1", "--memory", str(2**24), "--spill", f"{folder}/spill"]
-    server = subprocess.Popen(words, stdin=subprocess.PIPE, stdout=subprocess.PIPE, text=True)
-    for job, window in ((1, 2**23), (2, 2**10)):
-        server.stdin.write(f"admit 0 {job} {window} 0 {KEYS[job].hex()}\n")
-        server.stdin.flush()
-        if server.stdout.readline() != "n0 op ok\n":
-            raise SystemExit("the server admits no job")
-    return server
-
-
 def main() -> None:
     """Starts the server and the three processes, and prints what the last one tells."""
-    with tempfile.TemporaryDirectory() as folder:
-        server = serve(folder)
-        path = f"{folder}/store.0"
+    with served() as path:
         stored, granted, told = multiprocessing.Queue(), multiprocessing.Queue(), multiprocessing.Queue()
         processes = [
             multiprocessing.Process(target=make_numbers, args=(path, stored)),
@@ -113,7 +82,6 @@ def main() -> None:
             print(line)
         for process in processes:
             process.join()
-        server.communicate("close\n")
 
 
 if __name__ == "__main__":

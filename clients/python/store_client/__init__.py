@@ -10,9 +10,12 @@
 What a command does is said in docs/rules/commands.md, and what a frame is in docs/rules/frames.md.
 """
 
-from .connection import Connection, Held, Placed, connect
+from .calls import Calls, JobTask
+from .connection import Connection, connect
+from .held import Held
 from .ids import ObjectId, Task
-from .items import GrantedItem, Kind, OwnItem, State, Usage
+from .items import GrantedItem, Kind, OwnItem, Placed, State, Usage
+from .pool import Pool
 from .refusals import (
     Absent,
     AlreadySealed,
@@ -39,10 +42,14 @@ from .refusals import (
     Pending,
     ProtocolError,
     Refused,
+    ServerSilent,
     Stale,
     StoreError,
+    TimedOut,
     TooMany,
 )
+
+__version__ = "0.2.0"
 
 __all__ = [
     "Absent",
@@ -50,6 +57,7 @@ __all__ = [
     "BadId",
     "BadSize",
     "Busy",
+    "Calls",
     "Connection",
     "ConnectionLost",
     "Damaged",
@@ -60,6 +68,7 @@ __all__ = [
     "Granted",
     "GrantedItem",
     "Held",
+    "JobTask",
     "Kind",
     "Malformed",
     "NoMemory",
@@ -75,12 +84,15 @@ __all__ = [
     "OwnItem",
     "Pending",
     "Placed",
+    "Pool",
     "ProtocolError",
     "Refused",
+    "ServerSilent",
     "Stale",
     "State",
     "StoreError",
     "Task",
+    "TimedOut",
     "TooMany",
     "Usage",
     "connect",

@@ -1,16 +1,23 @@
-"""The command line: python3 -m store_client --socket PATH.0 --job 1 --key HEX COMMAND .."""
+"""The command line: store-client COMMAND .., or python3 -m store_client COMMAND .."""
 
 from __future__ import annotations
 
 import argparse
+import os
 import sys
 import time
-from typing import Optional, Sequence
+from typing import Callable, Optional, Sequence
 
-from . import Connection, ObjectId, StoreError, Usage, connect
+from . import Connection, ObjectId, State, StoreError, Task, Usage, __version__, connect
+from .checks import LAST_NUMBER, key_bytes, seconds, whole_number
+from .putting import Progress
+
+_ABOUT = """\
+Puts, gets and lists objects of a running store. The key is 64 hexadecimal digits. --key stands in the list of processes for
+all users to see: give it in a file, by --key-file, or in the environment, as STORE_KEY. STORE_SOCKET and STORE_JOB are read, too."""
 
 
-def _progress(what: str):
+def _progress(what: str) -> Optional[Progress]:
     """Shows how far a transfer is, if the error stream is a terminal."""
     if not sys.stderr.isatty():
         return None
@@ -29,32 +36,54 @@ def _usage_line(usage: Usage) -> str:
     )
 
 
+def _id(store: Connection, words: argparse.Namespace) -> ObjectId:
+    return ObjectId.parse(words.id, store.job)
+
+
 def put(store: Connection, words: argparse.Namespace) -> None:
     if words.file == "-":
         data = sys.stdin.buffer.read()
     else:
         with open(words.file, "rb") as file:
             data = file.read()
-    id = ObjectId.parse(words.id, store.job) if words.id else None
-    print(store.put(data, id, _progress("put")).text(store.job))
+    id = _id(store, words) if words.id else None
+    print(store.put(data, id, _progress("put"), words.timeout).text(store.job))
 
 
 def get(store: Connection, words: argparse.Namespace) -> None:
-    with store.get(ObjectId.parse(words.id, store.job), words.timeout, _progress("get")) as view:
+    with store.get(_id(store, words), words.timeout, _progress("get")) as view:
         sys.stdout.buffer.write(view)
         sys.stdout.buffer.flush()
 
 
+def peek(store: Connection, words: argparse.Namespace) -> None:
+    sys.stdout.buffer.write(store.peek(_id(store, words), words.offset, words.count))
+    sys.stdout.buffer.flush()
+
+
 def delete(store: Connection, words: argparse.Namespace) -> None:
-    store.delete(ObjectId.parse(words.id, store.job))
+    store.delete(_id(store, words))
+
+
+def grant(store: Connection, words: argparse.Namespace) -> None:
+    store.grant(_id(store, words), words.taker)
+
+
+def withdraw(store: Connection, words: argparse.Namespace) -> None:
+    store.withdraw(_id(store, words), words.taker)
+
+
+def end_task(store: Connection, words: argparse.Namespace) -> None:
+    store.end_task(Task.parse(words.task))
 
 
 def list_all(store: Connection, words: argparse.Namespace) -> None:
     own, granted = store.list()
     for item in own:
-        print(f"{item.id.text(store.job)} {item.state.name.lower()} {item.kind.name.lower()} {item.length}")
-    for item in granted:
-        print(f"{item.id.text(store.job)} granted {item.length} depth {item.depth}")
+        if item.state is State.CREATED or not words.created:
+            print(f"{item.id.text(store.job)} {item.state.name.lower()} {item.kind.name.lower()} {item.length}")
+    for given in [] if words.created else granted:
+        print(f"{given.id.text(store.job)} granted {given.length} depth {given.depth}")
 
 
 def usage(store: Connection, words: argparse.Namespace) -> None:
@@ -72,36 +101,99 @@ def watch(store: Connection, words: argparse.Namespace) -> None:
         time.sleep(words.every)
 
 
+def _number(what: str, least: int = 0) -> Callable[[str], int]:
+    """Reads a number in its range."""
+
+    def read(text: str) -> int:
+        try:
+            return whole_number(int(text), what, least, LAST_NUMBER)
+        except ValueError as error:
+            raise argparse.ArgumentTypeError(str(error)) from None
+
+    return read
+
+
+def _seconds(text: str) -> float:
+    try:
+        return seconds(float(text)) or 0.0
+    except ValueError as error:
+        raise argparse.ArgumentTypeError(str(error)) from None
+
+
+def _key(text: str) -> bytes:
+    try:
+        return key_bytes(bytes.fromhex(text.strip()))
+    except ValueError:
+        # what was given isn't repeated: it may be most of a key
+        raise argparse.ArgumentTypeError("a key is 64 hexadecimal digits") from None
+
+
+def _key_file(path: str) -> bytes:
+    try:
+        with open(path, encoding="ascii") as file:
+            return _key(file.read())
+    except (OSError, UnicodeDecodeError) as error:
+        raise argparse.ArgumentTypeError(f"{path}: {getattr(error, 'strerror', None) or 'no text of a key'}") from None
+
+
 def arguments() -> argparse.ArgumentParser:
-    parser = argparse.ArgumentParser(prog="store_client", description="Puts, gets and lists objects of a running store.")
-    parser.add_argument("--socket", required=True, help="the socket of a node, PATH.0 for the first")
-    parser.add_argument("--job", required=True, type=int, help="the job's number")
-    parser.add_argument("--key", required=True, type=bytes.fromhex, help="the job's key: 64 hexadecimal digits")
+    """What the command line may say. What the environment says is its default, which is read likewise."""
+    place = os.environ
+    parser = argparse.ArgumentParser(prog="store_client", description=_ABOUT)
+    parser.add_argument("--version", action="version", version=__version__)
+    parser.add_argument("--socket", default=place.get("STORE_SOCKET"), help="the socket of a node, PATH.0 for the first")
+    parser.add_argument("--job", default=place.get("STORE_JOB"), type=_number("a job", 1), help="the job's number")
+    keys = parser.add_mutually_exclusive_group()
+    keys.add_argument("--key", default=place.get("STORE_KEY"), type=_key, help="the job's key")
+    keys.add_argument("--key-file", type=_key_file, metavar="FILE", help="a file with the job's key")
     commands = parser.add_subparsers(required=True, metavar="COMMAND")
 
-    command = commands.add_parser("put", help="stores a file's bytes, and prints the object's id")
-    command.add_argument("file", help="- reads the standard input")
-    command.add_argument("--id", help="tN.I or 56 hexadecimal digits; a new one otherwise")
-    command.set_defaults(run=put)
-    command = commands.add_parser("get", help="writes an object's bytes to the standard output")
-    command.add_argument("id")
-    command.add_argument("--timeout", type=float, help="waits so many seconds for the object; without end otherwise")
-    command.set_defaults(run=get)
-    command = commands.add_parser("delete", help="removes an object once nobody holds it")
-    command.add_argument("id")
-    command.set_defaults(run=delete)
-    commands.add_parser("list", help="shows the job's copies at the node").set_defaults(run=list_all)
-    commands.add_parser("usage", help="shows what the job uses of its quotas").set_defaults(run=usage)
-    command = commands.add_parser("watch", help="shows usage again whenever it has changed")
-    command.add_argument("--every", type=float, default=0.5, help="how often it looks, in seconds")
-    command.set_defaults(run=watch)
+    def command(word: str, run: Callable[[Connection, argparse.Namespace], None], help: str) -> argparse.ArgumentParser:
+        added = commands.add_parser(word, help=help, description=f"{help[0].upper()}{help[1:]}.")
+        added.set_defaults(run=run)
+        return added
+
+    added = command("put", put, "stores a file's bytes, and prints the object's id")
+    added.add_argument("file", help="- reads the standard input")
+    added.add_argument("--id", help="tN.I or 56 hexadecimal digits; a new one otherwise")
+    added.add_argument("--timeout", type=_seconds, help="waits at most so many seconds for room; without end otherwise")
+    added = command("get", get, "writes an object's bytes to the standard output, also of one that another job granted")
+    added.add_argument("id", help="tN.I, or J/tN.I for an object of job J")
+    added.add_argument(
+        "--timeout", type=_seconds, help="waits at most so many seconds until somebody has put the object; otherwise it has to be there"
+    )
+    added = command("peek", peek, "writes some bytes of an object that another job granted")
+    added.add_argument("id", help="J/tN.I")
+    added.add_argument("offset", type=_number("an offset"))
+    added.add_argument("count", type=_number("a number of bytes"), help="at most 65536")
+    added = command("delete", delete, "removes an object once nobody holds it")
+    added.add_argument("id")
+    added = command("grant", grant, "lets another job peek at an object")
+    added.add_argument("id")
+    added.add_argument("taker", metavar="job", type=_number("a job"))
+    added = command("withdraw", withdraw, "ends a grant")
+    added.add_argument("id")
+    added.add_argument("taker", metavar="job", type=_number("a job"))
+    added = command("end-task", end_task, "removes all objects of a task once nobody holds them")
+    added.add_argument("task", help="tN or 40 hexadecimal digits")
+    added = command("list", list_all, "shows the job's copies at the node, and what others granted")
+    added.add_argument("--created", action="store_true", help="only copies that are still being written, or were left so")
+    command("usage", usage, "shows what the job uses of its quotas")
+    added = command("watch", watch, "shows usage again whenever it has changed")
+    added.add_argument("--every", type=_seconds, default=0.5, help="how often it looks, in seconds")
     return parser
 
 
 def main(words: Optional[Sequence[str]] = None) -> int:
-    chosen = arguments().parse_args(words)
+    """Runs a command line. 0, or 1 after a fault or a refusal, which is told, or 130 if it is interrupted."""
+    parser = arguments()
+    chosen = parser.parse_args(words)
+    key = chosen.key_file or chosen.key
+    for name, value in (("--socket", chosen.socket), ("--job", chosen.job), ("--key-file", key)):
+        if value is None:
+            parser.error(f"{name} is needed, or STORE_{name[2:].split('-')[0].upper()} in the environment")
     try:
-        with connect(chosen.socket, chosen.job, chosen.key) as store:
+        with connect(chosen.socket, chosen.job, key) as store:
             chosen.run(store, chosen)
     except (StoreError, OSError, ValueError) as error:
         print(f"store_client: {error}", file=sys.stderr)

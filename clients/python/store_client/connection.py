@@ -4,91 +4,91 @@ from __future__ import annotations
 
 import contextlib
 import os
-import socket
-import struct
 import threading
 import time
-from typing import Callable, Iterator, NamedTuple, Optional, Union
+import weakref
+from typing import Any, List, Optional, Sequence, TypeVar, Union
 
-from . import frames
-from .frames import MOST_BYTES, Command, Reply, frame, head, numbers
+from .checks import LAST_NUMBER, PathLike, key_bytes, seconds, socket_path, whole_number
+from .frames import Command
+from .held import Holder
 from .ids import ObjectId, Task
-from .items import GrantedItem, Kind, OwnItem, Usage
-from .refusals import BY_NUMBER, ConnectionLost, Pending, ProtocolError, Refused, StoreError
+from .refusals import ConnectionLost, ProtocolError, StoreError, TimedOut, of_another_process
+from .requests import Answer, Request, hello, value_of
+from .steps import Ask, Effect, Over, Rest, Steps, TakeBack, Together, fail, go_on
+from .stream import Stream
+from .values import ValueCalls
 
-# what `put` takes: anything with the buffer protocol
-Buffer = Union[bytes, bytearray, memoryview]
+T = TypeVar("T")
 
-# called with the bytes moved so far and the bytes in all
-Progress = Callable[[int, int], None]
+# a server that answers has so long for the exchange in which a timeout ends, in seconds: it isn't given up for a late look
+GRACE = 1.0
+# how long the server has to do what it was sent before, and to delete what was left, once a put was cut off, in seconds
+_LAST_RESPECTS = 0.5
+# by which an object comes to be
+_MAKING = (Command.CREATE, Command.CREATE_WAIT, Command.WRITE, Command.SEAL)
 
-# the longest rest between two tries, in seconds
-_LONGEST_REST = 0.05
-
-
-class Placed(NamedTuple):
-    """Where a new copy lies in the job's window, in bytes."""
-
-    offset: int
-    length: int
+_open: weakref.WeakSet[Connection] = weakref.WeakSet()
 
 
-class Held:
-    """An object's bytes, read, and a hold of the session on the object until the end of a `with`."""
+class NewIds:
+    """Ids that no other process, thread or connection makes: of a random task of 20 bytes."""
 
-    def __init__(self, connection: Connection, id: ObjectId, view: memoryview) -> None:
-        self._connection = connection
-        self._held = True
-        self.id = id
-        self.view = view
-
-    def release(self) -> None:
-        """The session's hold is given up, once; the bytes that were read stay."""
-        if self._held:
-            self._held = False
-            self._connection.release(self.id)
-
-    def __enter__(self) -> memoryview:
-        return self.view
-
-    def __exit__(self, *_: object) -> None:
-        self.release()
-
-    def __len__(self) -> int:
-        return len(self.view)
-
-
-class Connection:
-    """A session. One thread at a time uses it; others wait. A refused command raises its class of `Refused`.
-
-    After `ConnectionLost` or `ProtocolError` each call raises `ConnectionLost`.
-    """
-
-    def __init__(self, path: str, job: int, key: bytes) -> None:
-        if len(key) != 32:
-            raise ValueError("a key has 32 bytes")
-        self.job = job
+    def __init__(self, job: int) -> None:
+        self._job = job
         self._lock = threading.Lock()
-        self._lost: Optional[str] = None
-        # of the objects that are put without an id
         self._task = Task(os.urandom(20))
         self._index = 0
-        self._socket = socket.socket(socket.AF_UNIX)
+
+    def next(self) -> ObjectId:
+        with self._lock:
+            if self._index == LAST_NUMBER:
+                self._task, self._index = Task(os.urandom(20)), 0
+            self._index += 1
+            return ObjectId(self._task, self._job, self._index)
+
+
+class Connection(ValueCalls):
+    """A session. Threads may share it: their exchanges with the server take turns. No process may use another's.
+
+    After `ConnectionLost` or `ProtocolError` each call raises `ConnectionLost`. So it is after a call that was interrupted while
+    the server's answer was due.
+    """
+
+    def __init__(self, path: PathLike, job: int, key: bytes, timeout: Optional[float] = None) -> None:
+        """See `connect`."""
+        self._path, self._key = socket_path(path), key_bytes(key)
+        self._timeout = seconds(timeout)
+        super().__init__(whole_number(job, "a job", 0, LAST_NUMBER))
+        self._process = os.getpid()
+        self._lock = threading.Lock()
+        self._lost: Optional[str] = None
+        # whether the server has done all that it was sent, once the connection is lost
+        self._is_settled = False
+        # holds that were dropped while the connection was in use
+        self._dropped: List[ObjectId] = []
+        self._ids = NewIds(self.job)
+        self._stream = Stream(self._path, self._end_of([], None))
         try:
-            self._socket.connect(path)
-            self._tell(frame(Command.HELLO, numbers(job) + key))
-        except OSError as error:
-            self._socket.close()
-            raise ConnectionLost(f"{path}: {error.strerror}") from error
+            value_of(self._exchange([hello(self.job, self._key)], self._end_of([], None))[0])
         except BaseException:
-            self._socket.close()
+            self._stream.close()
             raise
+        _open.add(self)
 
     def close(self) -> None:
-        """The session ends, and gives up its holds. Nothing is sent any more."""
+        """The session ends, and gives up its holds. Nothing is sent any more; a call that waits in another thread is told that the
+        connection is lost."""
+        self._lost = self._lost or "the connection is closed"
+        if os.getpid() == self._process:
+            self._stream.interrupt()
         with self._lock:
-            self._lost = self._lost or "the connection is closed"
-            self._socket.close()
+            self._stream.close()
+
+    @property
+    def is_usable(self) -> bool:
+        """Whether the connection is neither lost nor closed, and is this process's."""
+        return self._lost is None and os.getpid() == self._process
 
     def __enter__(self) -> Connection:
         return self
@@ -96,246 +96,137 @@ class Connection:
     def __exit__(self, *_: object) -> None:
         self.close()
 
-    # ---- objects, whole
+    def __repr__(self) -> str:
+        return f"<Connection of job {self.job} to {self._path}{': ' + self._lost if self._lost else ''}>"
 
-    def task(self, number: int) -> _Tasks:
-        """The job's task of this number, whose objects are `store.task(n).object(i)`."""
-        return _Tasks(Task.numbered(number), self.job)
+    def __reduce__(self) -> Any:
+        raise TypeError("a connection isn't pickled: each process opens its own, or uses a Pool, which can be pickled")
 
-    def put(self, data: Buffer, id: Optional[ObjectId] = None, progress: Optional[Progress] = None) -> ObjectId:
-        """A sealed object of these bytes, under the id or a new one of a task of the connection's own.
+    def new_id(self) -> ObjectId:
+        self._check_process()
+        return self._ids.next()
 
-        Waits while room is to come. If the object can't be written whole it is deleted again.
-        """
-        with memoryview(data) as whole, whole.cast("B") as view:
-            id = id or self._next_id()
-            self.create(id, len(view), wait=True)
+    def release_later(self, id: ObjectId) -> None:
+        """One hold of the session less, now or with the next call. This raises nothing; it is what a dropped `Held` does."""
+        if not self.is_usable:
+            return
+        self._dropped.append(id)
+        # whoever has the lock, perhaps this very thread, is in a call; the next one sends it
+        if self._lock.acquire(blocking=False):
             try:
-                for at in range(0, len(view), MOST_BYTES):
-                    self.write(id, at, view[at : at + MOST_BYTES])
-                    if progress:
-                        progress(min(at + MOST_BYTES, len(view)), len(view))
-                self.seal(id)
-            except BaseException:
-                with contextlib.suppress(StoreError):
-                    self.delete(id)
-                raise
-        return id
-
-    def get(self, id: ObjectId, timeout: Optional[float] = None, progress: Optional[Progress] = None) -> Held:
-        """The object's bytes, held until `release` or the end of a `with`.
-
-        Waits until the object is here, fetched from another node if need be; `Absent` is raised if no node has it sealed. With a
-        timeout, in seconds, `Pending` is raised once that is over, and 0 waits not at all.
-        """
-        length = self._got(id, timeout)
-        try:
-            buffer = memoryview(bytearray(length))
-            for at in range(0, length, MOST_BYTES):
-                part = buffer[at : at + MOST_BYTES]
-                self._ask_into(part, frame(Command.READ, id.to_bytes() + numbers(at, len(part))))
-                if progress:
-                    progress(at + len(part), length)
-        except BaseException:
-            with contextlib.suppress(StoreError):
-                self.release(id)
-            raise
-        return Held(self, id, buffer.toreadonly())
-
-    # ---- the commands
-
-    def create(self, id: ObjectId, length: int, kind: Kind = Kind.PRIMARY, wait: bool = False) -> Placed:
-        """A copy of zeros to be written, of this length in bytes."""
-        command = Command.CREATE_WAIT if wait else Command.CREATE
-        body = self._ask(Reply.PLACED, frame(command, id.to_bytes() + bytes([kind]) + numbers(length)))
-        return Placed(*self._numbers(body, 2))
-
-    def write(self, id: ObjectId, offset: int, data: Buffer) -> None:
-        """At most 65,536 bytes from the offset on, while the copy is being written."""
-        fields = id.to_bytes() + numbers(offset)
-        with memoryview(data) as whole, whole.cast("B") as view:
-            self._tell(head(Command.WRITE, len(fields) + len(view)) + fields, view)
-
-    def seal(self, id: ObjectId) -> None:
-        """The copy is immutable from now on."""
-        self._tell(frame(Command.SEAL, id.to_bytes()))
-
-    def hold(self, id: ObjectId, wait: bool = False) -> int:
-        """One more hold of the session on the sealed copy, or what brings it here. Its length in bytes."""
-        body = self._ask(Reply.GOT, frame(Command.GET_WAIT if wait else Command.GET, id.to_bytes()))
-        return self._numbers(body, 1)[0]
-
-    def read(self, id: ObjectId, offset: int, length: int) -> bytes:
-        """At most 65,536 bytes of an object that the session holds."""
-        return self._ask(Reply.BYTES, frame(Command.READ, id.to_bytes() + numbers(offset, length)))
-
-    def release(self, id: ObjectId) -> None:
-        """One hold of the session less."""
-        self._tell(frame(Command.RELEASE, id.to_bytes()))
-
-    def unpin(self, id: ObjectId, task: Task) -> None:
-        """The owner task keeps the object no longer."""
-        self._tell(frame(Command.UNPIN, id.to_bytes() + task.value))
-
-    def borrow(self, id: ObjectId, task: Task) -> None:
-        """The task refers to the object, and keeps it."""
-        self._tell(frame(Command.BORROW, id.to_bytes() + task.value))
-
-    def give_up(self, id: ObjectId, task: Task) -> None:
-        """The task refers to the object no longer."""
-        self._tell(frame(Command.GIVE_UP, id.to_bytes() + task.value))
-
-    def delete(self, id: ObjectId) -> None:
-        """The copy is removed once nobody holds it."""
-        self._tell(frame(Command.DELETE, id.to_bytes()))
-
-    def end_task(self, task: Task) -> None:
-        """The task's objects go out of scope, and what it borrowed is given up."""
-        self._tell(frame(Command.END_TASK, task.value))
-
-    def grant(self, id: ObjectId, job: int) -> None:
-        """The job may peek at the object, also one that another job granted to this one."""
-        self._tell(frame(Command.GRANT, id.to_bytes() + numbers(job)))
-
-    def withdraw(self, id: ObjectId, job: int) -> None:
-        """The job may peek at the object no longer."""
-        self._tell(frame(Command.WITHDRAW, id.to_bytes() + numbers(job)))
-
-    def peek(self, id: ObjectId, offset: int, length: int) -> bytes:
-        """At most 65,536 bytes of an object that another job granted."""
-        return self._ask(Reply.BYTES, frame(Command.PEEK, id.to_bytes() + numbers(offset, length)))
-
-    def list(self) -> tuple[list[OwnItem], list[GrantedItem]]:
-        """The job's copies at the node in order of id, and what others granted to it."""
-        return self._read(frames.read_list, self._ask(Reply.LIST, frame(Command.LIST)))
-
-    def usage(self) -> Usage:
-        """The job's quotas at the node, and what is used of them."""
-        return self._read(frames.read_usage, self._ask(Reply.USAGE, frame(Command.USAGE)))
-
-    def leave(self) -> None:
-        """All holds of the session are given up."""
-        self._tell(frame(Command.LEAVE))
+                self._exchange_locked([], time.monotonic() + GRACE)
+            except StoreError:
+                pass
+            finally:
+                self._lock.release()
 
     # ---- how
 
-    def _next_id(self) -> ObjectId:
-        with self._lock:
-            self._index += 1
-            return ObjectId(self._task, self.job, self._index)
+    def _holder(self) -> Holder:
+        return self
 
-    def _got(self, id: ObjectId, timeout: Optional[float]) -> int:
-        if timeout is None:
-            return self.hold(id, wait=True)
-        end = time.monotonic() + timeout
-        rest = 0.001
-        while True:
-            try:
-                return self.hold(id)
-            except Pending:
-                left = end - time.monotonic()
-                if left <= 0:
-                    raise
-                time.sleep(min(rest, left))
-                rest = min(2 * rest, _LONGEST_REST)
+    def _run(self, steps: Steps[T], timeout: Optional[float] = None) -> T:
+        return self._drive(steps, None if timeout is None else time.monotonic() + timeout)
 
-    def _tell(self, *parts: Buffer) -> None:
-        """A command that is answered Ok."""
-        if self._ask(Reply.OK, *parts):
-            raise self._broken("an Ok came with more bytes")
+    def _drive(self, steps: Steps[T], end: Optional[float]) -> T:
+        effect = go_on(steps)
+        while not isinstance(effect, Over):
+            effect = self._advance(steps, effect, end)
+        result: T = effect.result
+        return result
 
-    def _ask(self, due: Reply, *parts: Buffer) -> bytes:
-        """The body of the reply, which is of this kind."""
-        with self._lock, self._whole():
-            body = bytearray(self._exchange(due, parts))
-            self._receive(memoryview(body))
-            return bytes(body)
-
-    def _ask_into(self, into: memoryview, *parts: Buffer) -> None:
-        """The same of a reply of bytes, which fill the buffer."""
-        with self._lock, self._whole():
-            length = self._exchange(Reply.BYTES, parts)
-            if length != len(into):
-                raise self._broken(f"{length} bytes came, and {len(into)} were asked for")
-            self._receive(into)
-
-    @contextlib.contextmanager
-    def _whole(self) -> Iterator[None]:
-        """A call that is cut short, as by a signal, leaves a reply unread: no other can follow it."""
+    def _advance(self, steps: Steps[Any], effect: Effect, end: Optional[float]) -> Union[Effect, Over]:
+        """Does what the steps ask for, and tells them what came of it, also if that is a fault."""
         try:
-            yield
-        except Refused:
-            raise
-        except BaseException:
-            self._lost = self._lost or "a call was cut short"
-            raise
+            outcome = self._do(effect, end)
+        except BaseException as error:
+            return fail(steps, error)
+        return go_on(steps, outcome)
 
-    def _exchange(self, due: Reply, parts: tuple[Buffer, ...]) -> int:
-        """Sends a command. The length of the body that follows in its reply, which is of this kind."""
+    def _do(self, effect: Effect, end: Optional[float]) -> Any:
+        if isinstance(effect, Ask):
+            return self._exchange(effect.requests, self._end_of(effect.requests, end))
+        if isinstance(effect, Rest):
+            return time.sleep(effect.seconds)
+        if isinstance(effect, Together):
+            return self._drive_all(effect.all, end)
+        return self._take_back(effect, end)
+
+    def _drive_all(self, all: Sequence[Steps[Any]], end: Optional[float]) -> List[Any]:
+        """What each of the steps gives: here one after the other."""
+        return [self._drive(steps, end) for steps in all]
+
+    def _end_of(self, requests: Sequence[Request[Any]], end: Optional[float]) -> Optional[float]:
+        """Until when the server has to have answered."""
+        if end is not None:
+            return max(end, time.monotonic() + GRACE)
+        if self._timeout is None or any(request.waits for request in requests):
+            return None
+        return time.monotonic() + self._timeout
+
+    def _exchange(self, requests: Sequence[Request[Any]], end: Optional[float]) -> List[Answer]:
+        self._check_process()
+        if not self._lock.acquire(timeout=-1 if end is None else min(max(0.0, end - time.monotonic()), threading.TIMEOUT_MAX)):
+            raise TimedOut("the connection was in use by other threads all the time")
+        try:
+            return self._exchange_locked(requests, end)
+        finally:
+            self._lock.release()
+
+    def _exchange_locked(self, requests: Sequence[Request[Any]], end: Optional[float]) -> List[Answer]:
         if self._lost is not None:
             raise ConnectionLost(self._lost)
-        self._send(parts)
-        start = bytearray(5)
-        self._receive(memoryview(start))
-        length, kind = struct.unpack(">IB", start)
-        if not 1 <= length <= frames.LONGEST_REPLY:
-            raise self._broken("what came is no frame")
-        if kind == Reply.REFUSED and length == 2:
-            number = bytearray(1)
-            self._receive(memoryview(number))
-            if number[0] not in BY_NUMBER:
-                raise self._broken(f"there is no refusal {number[0]}")
-            raise BY_NUMBER[number[0]]()
-        if kind != due:
-            raise self._broken(f"a reply of kind {kind:#04x} came, and {due:#04x} is due")
-        return length - 1
-
-    def _send(self, parts: tuple[Buffer, ...]) -> None:
+        dropped, self._dropped = self._dropped, []
+        releases = [self._requests.release(id) for id in dropped]
         try:
-            for part in parts:
-                # the last part of a Write of no bytes
-                if len(part):
-                    self._socket.sendall(part)
-        except OSError as error:
-            raise self._gone(error.strerror or "the server is gone") from error
+            return self._stream.exchange([*releases, *requests], end)[len(releases) :]
+        except BaseException as error:
+            self._give_up(error, requests)
+            raise
 
-    def _receive(self, into: memoryview) -> None:
-        while into:
-            try:
-                count = self._socket.recv_into(into)
-            except OSError as error:
-                raise self._gone(error.strerror or "the server is gone") from error
-            if count == 0:
-                raise self._gone("the server closed the session")
-            into = into[count:]
-
-    def _numbers(self, body: bytes, count: int) -> tuple[int, ...]:
-        return self._read(lambda body: struct.unpack(f">{count}I", body), body)
-
-    def _read(self, reader: Callable, body: bytes):
+    def _give_up(self, error: BaseException, requests: Sequence[Request[Any]]) -> None:
+        """Which replies are still to come isn't known any more, so no other call can follow."""
+        if isinstance(error, ProtocolError):
+            self._lost = self._lost or f"the connection was given up: {error}"
+        else:
+            self._lost = self._lost or (str(error) if isinstance(error, StoreError) else "the connection was lost: a call was cut short")
         try:
-            return reader(body)
-        except (ValueError, struct.error) as error:
-            raise self._broken(f"what came is no such reply: {error}") from error
+            if any(request.command in _MAKING for request in requests):
+                self._is_settled = self._stream.finish(time.monotonic() + _LAST_RESPECTS)
+        finally:
+            self._stream.close()
 
-    def _gone(self, why: str) -> ConnectionLost:
-        self._lost = f"the connection was lost: {why}"
-        return ConnectionLost(self._lost)
+    def _take_back(self, effect: TakeBack, end: Optional[float]) -> None:
+        deletes = [self._requests.delete(id) for id in effect.ids]
+        with contextlib.suppress(StoreError):
+            if self._lost is None:
+                self._exchange(deletes, self._end_of(deletes, end))
+            elif self._is_settled and os.getpid() == self._process:
+                with Connection(self._path, self.job, self._key, _LAST_RESPECTS) as other:
+                    other._exchange(deletes, time.monotonic() + _LAST_RESPECTS)
 
-    def _broken(self, why: str) -> ProtocolError:
-        self._lost = f"the connection was given up: {why}"
-        return ProtocolError(why)
+    def _check_process(self) -> None:
+        if os.getpid() != self._process:
+            raise of_another_process(self._process, os.getpid())
+
+    def _forget(self) -> None:
+        """In a process that was forked off: the session is the parent's. The lock may be held by a thread that isn't here."""
+        self._lock = threading.Lock()
+        self._stream.close()
 
 
-class _Tasks(NamedTuple):
-    task: Task
-    job: int
-
-    def object(self, index: int) -> ObjectId:
-        """The task's object of this index, from 1."""
-        return self.task.object(index, self.job)
+def _forget_all() -> None:
+    for connection in list(_open):
+        connection._forget()
 
 
-def connect(path: str, job: int, key: bytes) -> Connection:
-    """A session of the job at the node whose socket this is; the operator gave the key. `NotAdmitted`, `ConnectionLost`."""
-    return Connection(path, job, key)
+os.register_at_fork(after_in_child=_forget_all)
+
+
+def connect(path: PathLike, job: int, key: bytes, timeout: Optional[float] = None) -> Connection:
+    """A session of the job at the node whose socket this is; the operator gave the key of 32 bytes. `NotAdmitted`, `ConnectionLost`.
+
+    With a timeout, in seconds, the server has so long to answer: now, and to each call that has no timeout of its own.
+    A server that doesn't is `ServerSilent`, and the connection is lost. Without one it may take any time.
+    """
+    return Connection(path, job, key, timeout)

@@ -5,6 +5,9 @@ from __future__ import annotations
 import re
 import struct
 from dataclasses import dataclass
+from typing import Any
+
+from .checks import LAST_NUMBER, whole_number
 
 _NUMBERED = bytes(12)
 _SHORT_TASK = re.compile(r"t(0|[1-9][0-9]*)")
@@ -18,20 +21,20 @@ class Task:
     value: bytes
 
     def __post_init__(self) -> None:
+        if not isinstance(self.value, bytes):
+            raise TypeError(f"a task has 20 bytes, not {type(self.value).__name__}: Task.numbered and Task.parse make one")
         if len(self.value) != 20:
-            raise ValueError("a task has 20 bytes")
+            raise ValueError(f"a task has 20 bytes, not {len(self.value)}")
 
     @classmethod
     def numbered(cls, number: int) -> Task:
         """The task of this number, 0 to 18,446,744,073,709,551,615: its text is `tN`."""
-        if not 0 <= number < 2**64:
-            raise ValueError("a task's number has 64 bits")
-        return cls(_NUMBERED + struct.pack(">Q", number))
+        return cls(_NUMBERED + struct.pack(">Q", whole_number(number, "a task's number", 0, 2**64 - 1)))
 
     @classmethod
     def parse(cls, text: str) -> Task:
         """The task of a text: `tN`, or 40 lower-case hexadecimal digits."""
-        short = _SHORT_TASK.fullmatch(text)
+        short = _SHORT_TASK.fullmatch(_text(text, "a task"))
         if short:
             return cls.numbered(int(short.group(1)))
         return cls(_from_hex(text, 20, "task"))
@@ -41,7 +44,7 @@ class Task:
             return f"t{int.from_bytes(self.value[12:], 'big')}"
         return self.value.hex()
 
-    def object(self, index: int, job: int) -> ObjectId:
+    def object(self, index: int, *, job: int) -> ObjectId:
         """The job's object of this index, from 1, in the task."""
         return ObjectId(self, job, index)
 
@@ -55,22 +58,26 @@ class ObjectId:
     index: int
 
     def __post_init__(self) -> None:
-        for name, number in (("job", self.job), ("index", self.index)):
-            if not 1 <= number < 2**32:
-                raise ValueError(f"the {name} of an object is 1 to 4294967295")
+        expect_task(self.task)
+        for name in ("job", "index"):
+            number = whole_number(getattr(self, name), f"the {name} of an object", 1, LAST_NUMBER)
+            # an int, also if it was one of numpy's
+            object.__setattr__(self, name, number)
 
     @classmethod
     def from_bytes(cls, value: bytes) -> ObjectId:
         """The object of 28 bytes."""
+        if not isinstance(value, (bytes, bytearray, memoryview)):
+            raise TypeError(f"an id has 28 bytes, not {type(value).__name__}")
         if len(value) != 28:
-            raise ValueError("an id has 28 bytes")
+            raise ValueError(f"an id has 28 bytes, not {len(value)}")
         job, index = struct.unpack(">II", value[20:])
         return cls(Task(bytes(value[:20])), job, index)
 
     @classmethod
     def parse(cls, text: str, job: int) -> ObjectId:
         """The object of a text, spoken by this job: `tN.I`, `J/tN.I`, or 56 lower-case hexadecimal digits."""
-        short = _SHORT_OBJECT.fullmatch(text)
+        short = _SHORT_OBJECT.fullmatch(_text(text, "an id"))
         if short:
             owner, number, index = short.groups()
             if owner is not None and int(owner) == job:
@@ -91,6 +98,30 @@ class ObjectId:
 
     def __str__(self) -> str:
         return self.text(0)
+
+
+def expect_id(value: Any) -> ObjectId:
+    """The value, which is an id."""
+    if isinstance(value, ObjectId):
+        return value
+    if isinstance(value, str):
+        raise TypeError("an ObjectId was expected, not str: ObjectId.parse reads its text")
+    if isinstance(value, (bytes, bytearray)):
+        raise TypeError(f"an ObjectId was expected, not {type(value).__name__}: ObjectId.from_bytes reads its 28 bytes")
+    raise TypeError(f"an ObjectId was expected, not {type(value).__name__}")
+
+
+def expect_task(value: Any) -> Task:
+    """The value, which is a task."""
+    if isinstance(value, Task):
+        return value
+    raise TypeError(f"a Task was expected, not {type(value).__name__}: Task.numbered and Task.parse make one")
+
+
+def _text(value: Any, what: str) -> str:
+    if not isinstance(value, str):
+        raise TypeError(f"the text of {what} was expected, not {type(value).__name__}")
+    return value
 
 
 def _from_hex(text: str, length: int, what: str) -> bytes:

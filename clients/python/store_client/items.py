@@ -1,9 +1,10 @@
-"""What List and Usage tell."""
+"""What Create, List and Usage tell."""
 
 from __future__ import annotations
 
 import enum
 from dataclasses import dataclass
+from typing import NamedTuple
 
 from .ids import ObjectId
 
@@ -23,6 +24,13 @@ class Kind(enum.IntEnum):
 
     PRIMARY = 0
     SECONDARY = 1
+
+
+class Placed(NamedTuple):
+    """Where a new copy lies in the job's window, in bytes: its length is the object's, rounded up to a multiple of 16."""
+
+    offset: int
+    length: int
 
 
 @dataclass(frozen=True)

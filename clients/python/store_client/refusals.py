@@ -1,14 +1,34 @@
-"""What a call raises: a class for each refusal of a store, and the faults of a connection."""
+"""What a call raises: a class for each refusal of a store, and the faults of a connection. All can be pickled and copied."""
 
 from __future__ import annotations
 
+from typing import ClassVar, Dict, Optional, Type
+
+from .ids import ObjectId
+
 
 class StoreError(Exception):
-    """Any error of this package."""
+    """Any error of this package that isn't a wrong argument."""
 
 
 class ConnectionLost(StoreError):
-    """The server is gone, or closed the session. The connection can't be used any more."""
+    """The server is gone, or closed the session, or the call was cut short. The connection can't be used any more."""
+
+
+SERVER_GONE = "the connection was lost: the server is gone or closed the session, as it does at once beyond 1024 sessions of a node"
+
+
+def of_another_process(opened: int, used: int) -> ConnectionLost:
+    """That a connection is used in a process that didn't open it."""
+    return ConnectionLost(f"the connection was opened in process {opened}, and this is process {used}: each opens its own")
+
+
+class TimedOut(StoreError, TimeoutError):
+    """The time that the call was given is over."""
+
+
+class ServerSilent(ConnectionLost, TimedOut):
+    """The server didn't answer in the time that the call was given. The connection can't be used any more."""
 
 
 class ProtocolError(StoreError):
@@ -16,12 +36,28 @@ class ProtocolError(StoreError):
 
 
 class Refused(StoreError):
-    """A command was refused; which one it is, its class and its number say."""
+    """A command was refused; which refusal it is, its class and its number say."""
 
-    number = 0
+    number: ClassVar[int] = 0
+    # what the refusal means to some commands, if that is more exact than the first line of the class
+    meanings: ClassVar[Dict[str, str]] = {}
 
-    def __init__(self) -> None:
-        super().__init__(f"{self.number} {type(self).__name__}: {(type(self).__doc__ or '').splitlines()[0]}")
+    def __init__(self, command: str = "", id: Optional[ObjectId] = None, job: int = 0, detail: str = "") -> None:
+        super().__init__(command, id, job, detail)
+        #: which command it was, in the words of a schedule: "create", "get", ..
+        self.command = command
+        #: the object that the command named, or None
+        self.id = id
+        #: the job that gave the command
+        self.job = job
+        #: lengths and limits, if these matter
+        self.detail = detail
+
+    def __str__(self) -> str:
+        meaning = self.meanings.get(self.command) or (type(self).__doc__ or "").splitlines()[0]
+        about = " ".join(filter(None, (self.command, self.id.text(self.job) if self.id else "")))
+        said = ", ".join(filter(None, (about, self.detail)))
+        return f"{self.number} {type(self).__name__}: {meaning}" + (f" ({said})" if said else "")
 
 
 class NotAdmitted(Refused):
@@ -40,12 +76,18 @@ class Exists(Refused):
     """It is there already."""
 
     number = 3
+    meanings = {
+        "create": "A copy of it is there already.",
+        "borrow": "The task borrows it already.",
+        "grant": "It is granted to that job already.",
+    }
 
 
 class Absent(Refused):
-    """There is no such copy, borrower, or node to fetch from."""
+    """There is no copy of it here."""
 
     number = 4
+    meanings = {"get": "No node has it sealed.", "giveup": "There is no copy of it here, or the task doesn't borrow it."}
 
 
 class NotSealed(Refused):
@@ -64,6 +106,7 @@ class BadSize(Refused):
     """A length outside its range."""
 
     number = 7
+    meanings = {"get": "Another node has it, and it is longer than this job's window here."}
 
 
 class OutOfBounds(Refused):
@@ -76,6 +119,9 @@ class Full(Refused):
     """No room in the job's window, or no device bytes for what would be spilled."""
 
     number = 9
+    meanings = {
+        "get": "No room to bring it back into the job's window: what would make room for it is in use, or has no device bytes.",
+    }
 
 
 class Pending(Refused):
@@ -85,9 +131,10 @@ class Pending(Refused):
 
 
 class NotHeld(Refused):
-    """This session has no hold on it, or it isn't pinned any more."""
+    """This session has no hold on it."""
 
     number = 11
+    meanings = {"unpin": "It isn't pinned any more."}
 
 
 class Granted(Refused):
@@ -100,6 +147,10 @@ class NotGranted(Refused):
     """Another job's object, which this job may not use so."""
 
     number = 13
+    meanings = {
+        "peek": "It isn't granted to this job, or is its own.",
+        "withdraw": "This job hasn't granted it to that job.",
+    }
 
 
 class DeviceFailed(Refused):
@@ -124,6 +175,13 @@ class TooMany(Refused):
     """A count of this job or copy is at its limit."""
 
     number = 17
+    meanings = {
+        "create": "The job has 1024 copies at this node.",
+        "get": "The copy has 64 holds, or the job 1024 copies at this node.",
+        "borrow": "The copy has 64 borrowers.",
+        "grant": "The job has given 64 grants that stand, or this one would be handed on more than 3 deep.",
+        "endtask": "The job has ended 1024 tasks at this node.",
+    }
 
 
 class Gone(Refused):
@@ -168,4 +226,4 @@ class Stale(Refused):
     number = 24
 
 
-BY_NUMBER = {refusal.number: refusal for refusal in Refused.__subclasses__()}
+BY_NUMBER: Dict[int, Type[Refused]] = {refusal.number: refusal for refusal in Refused.__subclasses__()}

@@ -1,0 +1,128 @@
+"""The stream of a session of asyncio's: frames go out in the order of the calls, and each reply goes to who waits for it."""
+
+from __future__ import annotations
+
+import asyncio
+import collections
+import contextlib
+import os
+import struct
+import time
+from typing import Any, Deque, List, Optional, Sequence, Tuple
+
+from .frames import LONGEST_REPLY
+from .refusals import SERVER_GONE, ConnectionLost, Pending, ProtocolError, Refused, ServerSilent, StoreError, of_another_process
+from .requests import Answer, Request, Requests
+
+
+class Session:
+    """A connected stream, of one loop and one process."""
+
+    def __init__(self, reader: asyncio.StreamReader, writer: asyncio.StreamWriter) -> None:
+        self._reader, self._writer = reader, writer
+        self._process = os.getpid()
+        self._due: Deque[Tuple[Request[Any], asyncio.Future[Answer]]] = collections.deque()
+        self.loop = asyncio.get_running_loop()
+        self.lost: Optional[str] = None
+        self._is_silent = False
+        self._listening = self.loop.create_task(self._listen())
+
+    async def exchange(self, requests: Sequence[Request[Any]], end: Optional[float]) -> List[Answer]:
+        """The answers to the requests. If the server doesn't give them until then, the session is lost."""
+        if os.getpid() != self._process:
+            raise of_another_process(self._process, os.getpid())
+        if self.lost is not None:
+            raise ConnectionLost(self.lost)
+        timer = None if end is None else self.loop.call_later(max(0.0, end - time.monotonic()), self._silence)
+        try:
+            return await self._exchange(requests)
+        except ConnectionLost as error:
+            if self._is_silent:
+                raise ServerSilent(str(error)) from None
+            raise
+        finally:
+            if timer:
+                timer.cancel()
+
+    def _silence(self) -> None:
+        self._is_silent = self.lost is None
+        self.end("the connection was lost: the server didn't answer in time")
+
+    async def _exchange(self, requests: Sequence[Request[Any]]) -> List[Answer]:
+        """All requests are sent before anything is waited for, so of a call that is cancelled it is known that all were."""
+        answers = [self.send(request) for request in requests]
+        try:
+            return await asyncio.gather(*answers)
+        except asyncio.CancelledError:
+            for request, answer in zip(requests, answers):
+                if not answer.cancelled() and answer.done() and not answer.exception():
+                    self._undo(request, answer.result())
+            raise
+
+    def send(self, request: Request[Any]) -> asyncio.Future[Answer]:
+        """Sends a whole frame. Who waits for its answer may be cancelled: the answer is read all the same."""
+        answer: asyncio.Future[Answer] = self.loop.create_future()
+        self._due.append((request, answer))
+        self._writer.writelines(request.parts)
+        return answer
+
+    def _undo(self, request: Request[Any], answer: Answer, looks: int = 2) -> None:
+        """Nobody takes the answer any more: a hold is given up, a copy deleted, and a fetch that found nothing taken away."""
+        if self.lost is not None or request.id is None:
+            return
+        requests = Requests(request.job)
+        if isinstance(answer, Pending) and request.name == "get" and looks:
+            self._send_and_undo(requests.get(request.id), looks - 1)
+        elif not isinstance(answer, Refused) and request.name == "get":
+            self._send_and_undo(requests.release(request.id), 0)
+        elif not isinstance(answer, Refused) and request.name == "create":
+            self._send_and_undo(requests.delete(request.id), 0)
+
+    def _send_and_undo(self, request: Request[Any], looks: int) -> None:
+        def told(answer: asyncio.Future[Answer]) -> None:
+            # a session that is lost has nothing to undo
+            if not answer.cancelled() and not answer.exception():
+                self._undo(request, answer.result(), looks)
+
+        self.send(request).add_done_callback(told)
+
+    async def _listen(self) -> None:
+        try:
+            while True:
+                length, kind = struct.unpack(">IB", await self._reader.readexactly(5))
+                if not 1 <= length <= LONGEST_REPLY or not self._due:
+                    raise ProtocolError("what came is no frame")
+                self._tell(kind, await self._reader.readexactly(length - 1))
+        except (asyncio.IncompleteReadError, OSError):
+            self.end(SERVER_GONE)
+        except ProtocolError as error:
+            self.end(f"the connection was given up: {error}", error)
+
+    def _tell(self, kind: int, body: bytes) -> None:
+        request, waiting = self._due[0]
+        into = request.space_of(kind, len(body))
+        answer = request.answer(kind, body)
+        self._due.popleft()
+        if waiting.done():
+            self._undo(request, answer)
+            return
+        if into is not None:
+            into[:] = body
+        waiting.set_result(answer)
+
+    def end(self, why: str, error: Optional[StoreError] = None) -> None:
+        """Nothing is sent or read any more. Who waits is told why."""
+        self.lost = self.lost or why
+        for _, answer in self._due:
+            if not answer.done():
+                answer.set_exception(error or ConnectionLost(self.lost))
+        self._due.clear()
+        self._listening.cancel()
+        # what is still to be sent isn't waited for
+        self._writer.transport.abort()
+
+    async def ended(self) -> None:
+        with contextlib.suppress(OSError, asyncio.CancelledError):
+            await self._listening
+        with contextlib.suppress(OSError):
+            await self._writer.wait_closed()

@@ -1,0 +1,209 @@
+"""Waiting for objects: how a get looks for what may not be there yet, and leaves nothing in its way.
+
+A Get of an id that this node doesn't know enters a fetch, and answers `10 Pending`. The next Get is told what came of it: if
+no node has the object sealed, `4 Absent`, and the fetch is removed. In between, the fetch lies in the place of the object, and
+a Create of it is `3 Exists`. From this come the rules:
+
+* **A look is asked to its end.** A Get that is Pending is at once followed by another. If no node has the object, that is
+  Absent, and nothing of the look is left, neither in the way of who creates the object nor among the job's copies. From the second
+  look on both are sent together, so a fetch of ours stands as long as the server takes from one command to the next. What is
+  pending after two Gets is a transfer from a node that has the object, or a restore from the device.
+* **A transfer is left to go on.** It is of an object that exists, so nobody has to create it; each Get of it asks for
+  its missing chunks once more, so it is asked about by a Read of no bytes, which changes nothing, and by a Get after 0.1
+  seconds, 0.2, and so on up to 2. If the time is over the transfer goes on by itself. Its copy is a secondary
+  like others, which is evicted if room is needed.
+* **A fetch that finds no room is deleted.** If a Get is answered Full or BadSize, and the copy is listed as one that is being
+  fetched, the look that found it takes it away again. This is the only Delete of a look. It isn't sent if the list shows
+  anything else, such as an object of this node on the device. To lose by it, other sessions would have to get the object room, fetch
+  it in vain, remove it and create it anew, all between the list and the Delete.
+* **Who puts, and meets a fetch** in the place of the object (putting.py), takes it away by a Get, and never by a Delete, so the
+  object of another producer is never in danger.
+
+Consumer and producer at one node: the look is over before the producer creates, or the producer's Create comes between both Gets
+and is Exists, and then its own Get collects the fetch and it creates. Several consumers at one node may take each other's fetches
+away, or enter one after another's look: it is taken away by the next look, at most 0.1 seconds later, or by the producer. A look
+that is cut off by Ctrl-C in the middle of an exchange, with the connection, may leave its fetch to be taken away so. At two nodes:
+a fetch at the consumer's node is in nobody's way at the producer's. An object whose seal the directory hasn't been told of yet is
+Absent, and found by a later look.
+"""
+
+from __future__ import annotations
+
+import enum
+import time
+from typing import Any, List, Optional, Sequence, Tuple
+
+from .checks import seconds, whole_number
+from .ids import ObjectId, expect_id
+from .items import State
+from .refusals import Absent, BadSize, Busy, Full, NotGranted, NotHeld, NotSealed, Pending, Refused
+from .requests import Answer, Request, Requests
+from .steps import Deadline, Pauses, Steps, ask, ask_all
+
+# what is worth another look, if there is time
+NOT_YET = (Absent, NotSealed, Busy, NotGranted, Pending)
+
+# after how many seconds a transfer is asked for again, at first and at most
+_FIRST_REMINDER, _LAST_REMINDER = 0.1, 2.0
+
+
+class _Phase(enum.Enum):
+    """What is asked next of an object."""
+
+    UNKNOWN = enum.auto()  # one Get
+    ENTERED = enum.auto()  # one Get, at once
+    UNDER_WAY = enum.auto()  # a Read of no bytes, or a Get when it is time
+    MISSING = enum.auto()  # two Gets
+    OVER = enum.auto()  # nothing: it is here, or refused for another reason
+
+
+class Search:
+    """What is known of one object that is waited for."""
+
+    def __init__(self, requests: Requests, id: ObjectId) -> None:
+        self._requests = requests
+        self.id = id
+        self.is_foreign = id.job != requests.job
+        self._phase = _Phase.UNKNOWN
+        self._reminder = _FIRST_REMINDER
+        self._remind_at = 0.0
+        #: the object's length, once it is here and is this job's
+        self.length: Optional[int] = None
+        #: how many holds of the session the search has taken
+        self.holds = 0
+        #: the last refusal
+        self.refusal: Optional[Refused] = None
+
+    @property
+    def is_over(self) -> bool:
+        """Whether the object is here, or is there and can't be had."""
+        return self._phase is _Phase.OVER
+
+    @property
+    def is_urgent(self) -> bool:
+        """Whether it is asked about again without a pause."""
+        return self._phase is _Phase.ENTERED
+
+    @property
+    def is_late(self) -> bool:
+        """Whether it isn't here, and may come."""
+        return isinstance(self.refusal, NOT_YET)
+
+    def questions(self) -> List[Request[Any]]:
+        """What is asked now."""
+        if self.is_foreign:
+            return [self._requests.peek(self.id, 0, 0)]
+        if self._phase is _Phase.UNDER_WAY and time.monotonic() < self._remind_at:
+            return [self._requests.read(self.id, 0, 0)]
+        return [self._requests.get(self.id)] * (2 if self._phase is _Phase.MISSING else 1)
+
+    def hear(self, asked: Sequence[Request[Any]], answers: Sequence[Answer]) -> None:
+        """Takes the answers to what was asked."""
+        if asked[0].name == "read":
+            # a copy that is no longer being fetched is here, or being restored, or gone: a Get tells
+            if not isinstance(answers[0], NotSealed):
+                self._phase = _Phase.ENTERED
+            return
+        found = [answer for answer in answers if not isinstance(answer, Refused)]
+        if found:
+            self._phase, self.refusal = _Phase.OVER, None
+            if not self.is_foreign:
+                self.length, self.holds = found[0], len(found)
+            return
+        for answer in answers:
+            self._phase = self._phase_after(answer)
+            self.refusal = answer
+
+    def _phase_after(self, refusal: Refused) -> _Phase:
+        if not isinstance(refusal, Pending):
+            self._reminder = _FIRST_REMINDER
+            return _Phase.MISSING if isinstance(refusal, NOT_YET) else _Phase.OVER
+        # this Get may have entered the fetch
+        if not isinstance(self.refusal, Pending):
+            return _Phase.ENTERED
+        self._remind_at = time.monotonic() + self._reminder
+        self._reminder = min(2 * self._reminder, _LAST_REMINDER)
+        return _Phase.UNDER_WAY
+
+
+def look(requests: Requests, searches: Sequence[Search]) -> Steps[None]:
+    """One look at each of them that isn't over, asked to its end."""
+    asked_of = [search for search in searches if not search.is_over]
+    while asked_of:
+        asked = [search.questions() for search in asked_of]
+        answers = yield from ask_all([request for questions in asked for request in questions])
+        for search, questions in zip(asked_of, asked):
+            search.hear(questions, answers[: len(questions)])
+            answers = answers[len(questions) :]
+            if isinstance(search.refusal, (Full, BadSize)):
+                yield from _drop_fetch(requests, search.id)
+        asked_of = [search for search in asked_of if search.is_urgent]
+
+
+def find(requests: Requests, searches: Sequence[Search], count: int, deadline: Deadline) -> Steps[None]:
+    """Looks until so many of the searches are over, or the time is."""
+    pauses = Pauses(deadline)
+    while True:
+        yield from look(requests, searches)
+        if sum(search.is_over for search in searches) >= count or deadline.is_over:
+            return
+        yield pauses.next()
+
+
+def find_what_is_there(requests: Requests, search: Search) -> Steps[None]:
+    """Looks until the object is here, or nobody has it sealed."""
+    pauses = Pauses(Deadline(None))
+    while True:
+        yield from look(requests, [search])
+        if not isinstance(search.refusal, Pending):
+            return
+        yield pauses.next()
+
+
+def _drop_fetch(requests: Requests, id: ObjectId) -> Steps[None]:
+    """If the copy that found no room is a fetch, it is given up."""
+    state = yield from state_of(requests, id)
+    if state is State.FETCHING:
+        yield from ask_all([requests.delete(id)])
+
+
+def state_of(requests: Requests, id: ObjectId) -> Steps[Optional[State]]:
+    """The state of this job's copy at the node; None if there is none."""
+    own, _ = yield from ask(requests.list())
+    return next((item.state for item in own if item.id == id), None)
+
+
+def wait(requests: Requests, ids: Sequence[ObjectId], count: int, deadline: Deadline) -> Steps[List[bool]]:
+    """Of each id whether it is here, or there and can't be had, once that is so of `count` of them or the time is over."""
+    searches = [Search(requests, id) for id in ids]
+    yield from find(requests, searches, count, deadline)
+    holds = [requests.release(search.id) for search in searches for _ in range(search.holds)]
+    if holds:
+        yield from ask_all(holds)
+    return [search.is_over for search in searches]
+
+
+def checked_wait(ids: Sequence[ObjectId], count: int, timeout: Optional[float]) -> Tuple[List[ObjectId], int, Optional[float]]:
+    """What `wait` was given. `TypeError`, `ValueError`."""
+    names = [expect_id(id) for id in ids]
+    if len(set(names)) != len(names):
+        raise ValueError("an id stands twice among those that are waited for")
+    count = whole_number(count, "how many are waited for", 1, len(names)) if names else 0
+    return names, count, seconds(timeout)
+
+
+def parted(ids: Sequence[ObjectId], here: Sequence[bool]) -> Tuple[List[ObjectId], List[ObjectId]]:
+    """The ids of what is here, and the others."""
+    return [id for id, is_here in zip(ids, here) if is_here], [id for id, is_here in zip(ids, here) if not is_here]
+
+
+def contains(requests: Requests, id: ObjectId) -> Steps[bool]:
+    """Whether the object lies sealed at this node, in memory or on the device, or is granted to the job. Nothing changes."""
+    question = requests.peek(id, 0, 0) if id.job != requests.job else requests.read(id, 0, 0)
+    answer = (yield from ask_all([question]))[0]
+    if isinstance(answer, (Absent, NotSealed, NotGranted)):
+        return False
+    if isinstance(answer, Refused) and not isinstance(answer, NotHeld):
+        raise answer
+    return True
+

@@ -1,0 +1,130 @@
+"""What is longer than one object: put in parts with a manifest, as a whole or not at all.
+
+The manifest is created first, so it is known at once whether its id is free; then the parts are put, several at a time if there
+are several connections; then the manifest is written and sealed. Who finds it sealed finds all parts. If one part finds no room, those
+that are there are deleted again. The parts' ids are of the manifest's task, so they end with it.
+"""
+
+from __future__ import annotations
+
+import random
+from typing import Callable, List, Optional
+
+from .encoding import MANIFEST_HEAD, Manifest, is_manifest
+from .ids import ObjectId
+from .putting import get, get_into, hold, put_named, put_new, reserve, write_and_seal
+from .refusals import BadSize, StoreError
+from .requests import LARGEST, Pieces, Requests
+from .steps import Deadline, Steps, TakeBack, Together, ask, ask_all
+
+# of a job at a node
+_MOST_COPIES = 1024
+# so many parts may be put at once, and have room beside each other in half of the window
+MOST_AT_ONCE = 8
+_PARTS_OF_A_WINDOW = 2 * MOST_AT_ONCE
+# the parts of an object whose id was given have indexes from here on in its task, which hardly anybody gives
+_FIRST_INDEX = 1 << 31
+
+
+def put_whole(
+    requests: Requests, pieces: Pieces, id: Optional[ObjectId], new_id: Callable[[], ObjectId], deadline: Deadline
+) -> Steps[ObjectId]:
+    """One object, or parts with a manifest if it is too long for one. Its id."""
+    name = id or new_id()
+    if pieces.length <= LARGEST:
+        try:
+            yield from (put_named if id else put_new)(requests, pieces, name, deadline)
+            return name
+        except BadSize:
+            # the window is smaller than that
+            pass
+    window = (yield from ask(requests.usage())).window
+    length = min(LARGEST, max(16, window // _PARTS_OF_A_WINDOW // 16 * 16))
+    cut = pieces.cut(length)
+    if len(cut) >= _MOST_COPIES:
+        most = f"a window of {window} takes {_MOST_COPIES - 1} parts of {length}"
+        raise BadSize("create", name, requests.job, f"{pieces.length} bytes; {most}")
+    ids = _beside(id, len(cut)) if id else [new_id() for _ in cut]
+    yield from _put_parts(requests, cut, name, Manifest(pieces.length, length, ids), deadline)
+    return name
+
+
+def _beside(id: ObjectId, count: int) -> List[ObjectId]:
+    """So many ids of the same task, drawn by lot."""
+    first = random.SystemRandom().randrange(_FIRST_INDEX, (1 << 32) - count)
+    return [id.task.object(index, job=id.job) for index in range(first, first + count)]
+
+
+def _put_parts(requests: Requests, cut: List[Pieces], name: ObjectId, manifest: Manifest, deadline: Deadline) -> Steps[None]:
+    pieces = Pieces([memoryview(manifest.encode())])
+    yield from reserve(requests, name, pieces.length, deadline)
+    there = [name]
+    try:
+        yield Together([_put_part(requests, part, id, there, deadline) for part, id in zip(cut, manifest.ids)])
+        yield from write_and_seal(requests, pieces, name)
+    except GeneratorExit:
+        raise
+    except BaseException:
+        yield TakeBack(there)
+        raise
+
+
+def _put_part(requests: Requests, part: Pieces, id: ObjectId, there: List[ObjectId], deadline: Deadline) -> Steps[None]:
+    yield from put_named(requests, part, id, deadline)
+    there.append(id)
+
+
+def get_whole(requests: Requests, id: ObjectId, deadline: Optional[Deadline]) -> Steps[memoryview]:
+    """The bytes of an object, or of all parts if it is a manifest, in one buffer. No hold stays."""
+    whole = yield from get(requests, id, deadline, keep=False)
+    manifest = Manifest.decode(whole, id)
+    if manifest is None:
+        return whole
+    buffer = memoryview(bytearray(manifest.length))
+    parts = [get_into(requests, part, buffer[place], deadline) for part, place in manifest.places()]
+    if not all((yield Together(parts))):
+        raise ValueError(f"{id.text(requests.job)} is a manifest, and a part has another length than it says")
+    return buffer.toreadonly()
+
+
+def parts_of(requests: Requests, id: ObjectId) -> Steps[List[ObjectId]]:
+    """The ids of the parts; none if the object is no manifest. Only the beginning of another object is read."""
+    if id.job != requests.job:
+        whole = yield from get(requests, id, None, keep=False)
+    else:
+        length = yield from hold(requests, id, None)
+        try:
+            whole = memoryview((yield from ask(requests.read(id, 0, min(length, MANIFEST_HEAD)))))
+        finally:
+            yield from ask_all([requests.release(id)])
+        if is_manifest(whole):
+            whole = yield from get(requests, id, None, keep=False)
+    manifest = Manifest.decode(whole, id)
+    return manifest.ids if manifest else []
+
+
+def delete_whole(requests: Requests, id: ObjectId) -> Steps[None]:
+    """The object, and its parts if it is a manifest, are removed."""
+    parts = yield from parts_of(requests, id)
+    yield from ask(requests.delete(id))
+    yield TakeBack(parts)
+
+
+def grant_whole(requests: Requests, id: ObjectId, job: int) -> Steps[None]:
+    """The object is granted, after its parts if it is a manifest. If one can't be, none is."""
+    given: List[ObjectId] = []
+    try:
+        for one in [*(yield from parts_of(requests, id)), id]:
+            yield from ask(requests.grant(one, job))
+            given.append(one)
+    except StoreError:
+        yield from ask_all([requests.withdraw(one, job) for one in given])
+        raise
+
+
+def withdraw_whole(requests: Requests, id: ObjectId, job: int) -> Steps[None]:
+    """The grants of the object and of its parts end."""
+    parts = yield from parts_of(requests, id)
+    yield from ask(requests.withdraw(id, job))
+    yield from ask_all([requests.withdraw(one, job) for one in parts])
+

@@ -1,0 +1,113 @@
+"""What a call does, apart from how it waits: generators that yield what is to be done next, and are sent what came of it.
+
+A connection that blocks runs them (connection.py), a pool with several (pool.py), and one of asyncio (aio.py).
+"""
+
+from __future__ import annotations
+
+import time
+from dataclasses import dataclass
+from typing import Any, Generator, List, Optional, Sequence, TypeVar, Union
+
+from .ids import ObjectId
+from .requests import Answer, Request, value_of
+
+T = TypeVar("T")
+
+
+@dataclass(frozen=True)
+class Ask:
+    """Requests that are sent at once. What comes of it is their answers, refusals among them."""
+
+    requests: Sequence[Request[Any]]
+
+
+@dataclass(frozen=True)
+class Rest:
+    """A pause, in seconds."""
+
+    seconds: float
+
+
+@dataclass(frozen=True)
+class TakeBack:
+    """Objects of ours that are deleted, also if the connection is lost meanwhile, as far as that can be. Nothing is raised."""
+
+    ids: Sequence[ObjectId]
+
+
+@dataclass(frozen=True)
+class Together:
+    """Steps that may be run at the same time. All have ended when they are answered, or one has failed and its fault is raised."""
+
+    all: Sequence[Generator[Any, Any, Any]]
+
+
+Effect = Union[Ask, Rest, TakeBack, Together]
+Steps = Generator[Effect, Any, T]
+
+
+@dataclass(frozen=True)
+class Over:
+    """That there are no more steps, and what they gave."""
+
+    result: Any
+
+
+def go_on(steps: Steps[Any], outcome: Any = None) -> Union[Effect, Over]:
+    """What is to be done next, now that this came of the last; at the beginning None."""
+    try:
+        return steps.send(outcome)
+    except StopIteration as stop:
+        return Over(stop.value)
+
+
+def fail(steps: Steps[Any], error: BaseException) -> Union[Effect, Over]:
+    """What is to be done next, now that the last has failed so. If nothing is, the error is raised."""
+    try:
+        return steps.throw(error)
+    except StopIteration as stop:
+        return Over(stop.value)
+
+
+class Deadline:
+    """When the time of a call is over; never, if it is given none."""
+
+    def __init__(self, timeout: Optional[float]) -> None:
+        self.end = None if timeout is None else time.monotonic() + timeout
+
+    @property
+    def is_over(self) -> bool:
+        return self.end is not None and time.monotonic() >= self.end
+
+    def within(self, seconds: float) -> float:
+        """So many seconds, or what is left if that is less."""
+        return seconds if self.end is None else max(0.0, min(seconds, self.end - time.monotonic()))
+
+
+class Pauses:
+    """Growing pauses between tries, in seconds."""
+
+    FIRST, LONGEST = 0.001, 0.05
+
+    def __init__(self, deadline: Deadline) -> None:
+        self._deadline = deadline
+        self._next = self.FIRST
+
+    def next(self) -> Rest:
+        pause = self._next
+        self._next = min(2 * pause, self.LONGEST)
+        return Rest(self._deadline.within(pause))
+
+
+def ask_all(requests: Sequence[Request[Any]]) -> Steps[List[Answer]]:
+    """The answers, refusals among them."""
+    answers: List[Answer] = yield Ask(requests)
+    return answers
+
+
+def ask(request: Request[T]) -> Steps[T]:
+    """What one command gives; a refusal is raised."""
+    answers = yield from ask_all([request])
+    value: T = value_of(answers[0])
+    return value

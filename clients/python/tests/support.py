@@ -1,0 +1,164 @@
+"""What the tests share: a running server, a script that stands in for one, and the documents that they are held to."""
+
+from __future__ import annotations
+
+import contextlib
+import os
+import re
+import resource
+import socket
+import subprocess
+import sys
+import tempfile
+import threading
+import unittest
+from pathlib import Path
+from typing import Any, Iterator, Optional
+
+ROOT = Path(__file__).resolve().parents[3]
+sys.path.insert(0, str(ROOT / "clients/python"))
+
+import store_client  # noqa: E402
+from store_client import ObjectId, Task  # noqa: E402
+
+VECTORS = ROOT / "docs/rules/frames.vectors"
+REFUSALS = ROOT / "docs/rules/refusals.md"
+# seconds that a process may take, on a machine that does much else
+PATIENCE = int(os.environ.get("STORE_PATIENCE", "120"))
+PROGRAM = os.environ.get("STORE_PROGRAM", str(ROOT / "crates/store_server/out/store_server"))
+
+
+def key(job: int) -> bytes:
+    return bytes([job]) * 32
+
+
+class Server:
+    """A running store: at each node job 1 with a window of 32 MiB, job 2 with one of 64 bytes, job 3 with a device too."""
+
+    def __init__(self, nodes: int = 1, memory: int = 2**26) -> None:
+        self.folder = tempfile.TemporaryDirectory()
+        self.path = f"{self.folder.name}/store.0"
+        words = [PROGRAM, "serve", "--socket", f"{self.folder.name}/store", "--nodes", str(nodes)]
+        words += ["--memory", str(memory), "--spill", f"{self.folder.name}/spill"]
+        self.spill = Path(self.folder.name, "spill/0")
+        self.program = subprocess.Popen(words, stdin=subprocess.PIPE, stdout=subprocess.PIPE, text=True)
+        for node in range(nodes):
+            self.admit(node, 1, 2**25)
+            self.admit(node, 2, 64)
+            self.admit(node, 3, 144, 1024)
+
+    def admit(self, node: int, job: int, window: int, device: int = 0) -> None:
+        self.tell(f"admit {node} {job} {window} {device} {key(job).hex()}", node)
+
+    def tell(self, line: str, node: int = 0) -> None:
+        self.program.stdin.write(line + "\n")
+        self.program.stdin.flush()
+        answer = self.program.stdout.readline()
+        if answer != f"n{node} op ok\n":
+            raise AssertionError(f"{line}: {answer!r}")
+
+    def connect(self, job: int = 1, node: int = 0, timeout: Optional[float] = None) -> store_client.Connection:
+        return store_client.connect(f"{self.folder.name}/store.{node}", job, key(job), timeout)
+
+    @contextlib.contextmanager
+    def without_more_memory(self) -> Iterator[None]:
+        """The process may have as much memory for data as it has now, and no more."""
+        status = Path(f"/proc/{self.program.pid}/status").read_text(encoding="ascii")
+        size = int(re.search(r"^VmData:\s+(\d+) kB$", status, re.MULTILINE).group(1)) * 1024
+        limits = resource.prlimit(self.program.pid, resource.RLIMIT_DATA)
+        resource.prlimit(self.program.pid, resource.RLIMIT_DATA, (size, limits[1]))
+        try:
+            yield
+        finally:
+            resource.prlimit(self.program.pid, resource.RLIMIT_DATA, limits)
+
+    def close(self) -> None:
+        try:
+            self.program.communicate(timeout=PATIENCE)
+        finally:
+            self.program.kill()
+            self.folder.cleanup()
+
+
+class Script:
+    """What stands in for a server: it takes one session, keeps what is sent, and answers with what it was told to."""
+
+    def __init__(self, replies: list[bytes], hang: bool = False) -> None:
+        self.folder = tempfile.TemporaryDirectory()
+        self.path = f"{self.folder.name}/socket"
+        self.sent: list[bytes] = []
+        self.listener = socket.socket(socket.AF_UNIX)
+        self.listener.settimeout(PATIENCE)
+        self.listener.bind(self.path)
+        self.listener.listen()
+        # whether it keeps the session when it has nothing more to say
+        self.hang = hang
+        self.over = threading.Event()
+        self.thread = threading.Thread(target=self.serve, args=(replies,))
+        self.thread.start()
+
+    def serve(self, replies: list[bytes]) -> None:
+        with self.listener, self.listener.accept()[0] as stream, stream.makefile("rb") as file:
+            stream.settimeout(PATIENCE)
+            for reply in replies:
+                start = file.read(4)
+                self.sent.append(start + file.read(int.from_bytes(start, "big")))
+                stream.sendall(reply)
+            if self.hang:
+                self.over.wait(PATIENCE)
+
+    def close(self) -> None:
+        self.over.set()
+        self.thread.join()
+        self.folder.cleanup()
+
+
+def documented_refusals() -> dict[int, tuple[str, str]]:
+    """Of each number its name, and who may be told."""
+    rows = re.findall(r"^\| (\d+) \| (\w+) \|.*\| ([^|]+) \|$", REFUSALS.read_text(encoding="ascii"), re.MULTILINE)
+    return {int(number): (name, told) for number, name, told in rows}
+
+
+def documented() -> tuple[list[tuple[bytes, str]], list[tuple[bytes, str]]]:
+    """The documented frames, and what each says: commands and replies."""
+    text = VECTORS.read_text(encoding="ascii")
+    lines = [line.split(" ", 1) for line in text.splitlines() if line and not line.startswith("#")]
+    vectors = [(bytes.fromhex(digits), said) for digits, said in lines]
+    return [one for one in vectors if one[0][4] < 0x80], [one for one in vectors if one[0][4] >= 0x80]
+
+
+def in_child(work: Any) -> str:
+    """What the function gives, or the error, in a process that is forked off."""
+    reading, writing = os.pipe()
+    child = os.fork()
+    if not child:
+        try:
+            told = str(work())
+        except BaseException as error:
+            told = f"{type(error).__name__}: {error}"
+        os.write(writing, told.encode())
+        os._exit(0)
+    os.close(writing)
+    with os.fdopen(reading, "rb") as file:
+        told = file.read().decode()
+    os.waitpid(child, 0)
+    return told
+
+
+class WithServer(unittest.TestCase):
+    """Tests that share a server; each has a connection, and a task that no other has."""
+
+    server: Server
+
+    @classmethod
+    def setUpClass(cls) -> None:
+        cls.server = Server()
+        cls.addClassCleanup(cls.server.close)
+
+    def setUp(self) -> None:
+        self.store = self.server.connect()
+        self.addCleanup(self.store.close)
+        self.task = Task(os.urandom(20))
+
+    def id(self, index: int = 1) -> ObjectId:
+        return self.task.object(index, job=1)

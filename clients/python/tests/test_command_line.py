@@ -1,0 +1,124 @@
+"""The command line at a running server."""
+
+from __future__ import annotations
+
+import os
+import pty
+import signal
+import subprocess
+import sys
+import tempfile
+import unittest
+from typing import Optional
+
+from support import PATIENCE, ROOT, Server, key
+
+
+class CommandLine(unittest.TestCase):
+    def setUp(self) -> None:
+        self.server = Server()
+        self.addCleanup(self.server.close)
+        self.store = self.server.connect()
+        self.addCleanup(self.store.close)
+        self.one = self.store.task(1).object(1)
+
+    def command_line(self) -> tuple[list[str], dict[str, str]]:
+        """The words of a command line but for the command, and the environment."""
+        words = [sys.executable, "-m", "store_client", "--socket", self.server.path, "--job", "1", "--key", key(1).hex()]
+        return words, {**os.environ, "PYTHONPATH": str(ROOT / "clients/python")}
+
+    def test_usage_is_watched(self) -> None:
+        words, place = self.command_line()
+        with subprocess.Popen(words + ["watch", "--every", "0.01"], stdout=subprocess.PIPE, env=place, text=True) as watch:
+            self.assertEqual(watch.stdout.readline(), "window 0/33554432, device 0/0, copies 0, works 0\n")
+            self.store.create(self.one, 5)
+            self.assertEqual(watch.stdout.readline(), "window 16/33554432, device 0/0, copies 1, works 0\n")
+            watch.send_signal(signal.SIGINT)
+            self.assertEqual((watch.wait(PATIENCE), watch.stdout.read()), (130, ""))
+
+    def test_a_terminal_is_told_how_far_it_is(self) -> None:
+        words, place = self.command_line()
+        ours, theirs = pty.openpty()
+        with open(ours, "rb", buffering=0) as ours, open(theirs, "wb", buffering=0) as theirs:
+            data = bytes(2**18)
+            done = subprocess.run(words + ["put", "-", "--id", "t1.1"], input=data, stdout=subprocess.PIPE, stderr=theirs,
+                                  env=place, check=False, timeout=PATIENCE)
+            self.assertEqual((done.returncode, done.stdout), (0, b"t1.1\n"))
+            self.assertEqual(ours.read(1000).decode().split(), "put: 25 % put: 50 % put: 75 % put: 100 %".split())
+
+    def test_the_command_line(self) -> None:
+        words, place = self.command_line()
+
+        def run(*more: str, data: bytes = b"") -> bytes:
+            done = subprocess.run(words + list(more), input=data, capture_output=True, env=place, check=False, timeout=PATIENCE)
+            self.assertEqual((done.returncode, done.stderr), (0, b""))
+            return done.stdout
+
+        self.assertEqual(run("put", "-", "--id", "t1.1", data=b"Hello"), b"t1.1\n")
+        self.assertEqual(run("get", "t1.1"), b"Hello")
+        self.assertEqual(run("list"), b"t1.1 sealed primary 5\n")
+        self.assertEqual(run("usage"), b"window 16/33554432, device 0/0, copies 1, works 0\n")
+        run("delete", "t1.1")
+        failed = subprocess.run(words + ["delete", "t1.1"], capture_output=True, env=place, check=False, timeout=PATIENCE)
+        self.assertEqual(failed.returncode, 1)
+        self.assertTrue(failed.stderr.startswith(b"store_client: 4 Absent"))
+
+    def run_as(self, job: int, *more: str, place: Optional[dict[str, str]] = None) -> subprocess.CompletedProcess[bytes]:
+        """A command of this job, whose key and socket stand in the environment."""
+        words = [sys.executable, "-m", "store_client", *more]
+        known = {"STORE_SOCKET": self.server.path, "STORE_JOB": str(job), "STORE_KEY": key(job).hex()}
+        around = {**os.environ, "PYTHONPATH": str(ROOT / "clients/python"), **known, **(place or {})}
+        return subprocess.run(words, capture_output=True, env=around, check=False, timeout=PATIENCE)
+
+    def test_grants(self) -> None:
+        self.store.put(b"Hello", self.one)
+        for job, words, told in [
+            (1, "grant t1.1 2", b""),
+            (2, "list", b"1/t1.1 granted 5 depth 1\n"),
+            (2, "peek 1/t1.1 1 3", b"ell"),
+            (2, "get 1/t1.1", b"Hello"),
+            (1, "withdraw t1.1 2", b""),
+            (2, "list", b""),
+            (1, "end-task t1", b""),
+            (1, "list", b""),
+        ]:
+            done = self.run_as(job, *words.split())
+            self.assertEqual((done.returncode, done.stdout, done.stderr), (0, told, b""), words)
+        done = self.run_as(2, "get", "1/t1.1", "--timeout", "0.1")
+        self.assertEqual((done.returncode, done.stderr[:27]), (1, b"store_client: 13 NotGranted"))
+
+    def test_what_is_left_unsealed_can_be_listed(self) -> None:
+        self.store.put(b"Hello", self.one)
+        self.store.create(self.store.task(1).object(2), 4)
+        self.assertEqual(self.run_as(1, "list", "--created").stdout, b"t1.2 created primary 4\n")
+
+    def test_a_key_in_a_file(self) -> None:
+        with tempfile.NamedTemporaryFile("w", suffix=".key") as file:
+            file.write(key(1).hex() + "\n")
+            file.flush()
+            done = self.run_as(1, "--key-file", file.name, "usage", place={"STORE_KEY": key(2).hex()})
+            self.assertEqual((done.returncode, done.stderr), (0, b""))
+
+    def test_wrong_words_are_told_without_a_traceback(self) -> None:
+        for words, told in [
+            ("--job -1 usage", "a job is 1 to 4294967295, not -1"),
+            ("--job 4294967296 usage", "a job is 1 to 4294967295, not 4294967296"),
+            ("--job one usage", "argument --job"),
+            ("--key 00 usage", "a key is 64 hexadecimal digits"),
+            ("--key-file /nowhere usage", "No such file"),
+            ("get t1.1 --timeout -1", "from 0 on"),
+            ("grant t1.1 -1", "argument"),
+        ]:
+            done = self.run_as(1, *words.split())
+            self.assertEqual(done.returncode, 2, words)
+            self.assertIn(told, done.stderr.decode().splitlines()[-1], words)
+        for words, told in [("get t1", "'t1' is no id"), ("put /nowhere", "No such file"), ("end-task 1", "'1' is no task")]:
+            done = self.run_as(1, *words.split())
+            self.assertEqual((done.returncode, done.stderr.count(b"\n")), (1, 1), words)
+            self.assertIn(told, done.stderr.decode())
+
+    def test_what_is_missing_is_named(self) -> None:
+        done = subprocess.run([sys.executable, "-m", "store_client", "usage"], capture_output=True, check=False, timeout=PATIENCE,
+                              env={"PYTHONPATH": str(ROOT / "clients/python")})
+        self.assertEqual(done.returncode, 2)
+        self.assertIn(b"--socket is needed, or STORE_SOCKET in the environment", done.stderr)

@@ -1,0 +1,94 @@
+"""Frames and texts, against the documented ones: no server is needed."""
+
+from __future__ import annotations
+
+import unittest
+
+from support import Script, documented, key
+from spelling import CALLS, call, spelled
+
+import store_client
+from store_client import ObjectId, Task, frames
+
+# for each reply a call that may get it
+ASKED_BY = {"ok": "seal t1.1", "refused": "seal t1.1", "placed": "create t1.1 20", "got": "get t1.1", "bytes": "read t1.1 0 5"}
+
+
+class Frames(unittest.TestCase):
+    """Each frame of the documented ones: a command as the client sends it, a reply as it is told to who called."""
+
+    def setUp(self) -> None:
+        self.commands, self.replies = documented()
+        self.frame_of = {said.split(" ")[0]: frame for frame, said in self.replies}
+
+    def ask(self, said: str, reply: bytes) -> tuple[bytes, object]:
+        """What the client sends for a command, and what it makes of the reply."""
+        script = Script([self.frame_of["ok"], reply])
+        self.addCleanup(script.close)
+        with store_client.connect(script.path, 1, key(1)) as store:
+            told = call(store, said)
+        script.thread.join()
+        return script.sent[1], told
+
+    def test_each_kind_is_there(self) -> None:
+        self.assertEqual({frame[4] for frame, _ in self.commands}, set(frames.Command))
+        self.assertEqual({frame[4] for frame, _ in self.replies}, set(frames.Reply))
+        self.assertEqual({frame[5] for frame, said in self.replies if said.startswith("refused")}, set(range(1, 25)))
+
+    def test_commands(self) -> None:
+        for frame, said in self.commands:
+            if not said.startswith("hello"):
+                due = CALLS[said.split(" ")[0]][2]
+                self.assertEqual(self.ask(said, self.frame_of[due])[0].hex(), frame.hex(), said)
+
+    def test_hello(self) -> None:
+        frame, said = self.commands[0]
+        _, job, secret = said.split(" ")
+        script = Script([self.frame_of["ok"]])
+        self.addCleanup(script.close)
+        store_client.connect(script.path, int(job), bytes.fromhex(secret)).close()
+        self.assertEqual(script.sent[0].hex(), frame.hex())
+
+    def test_replies(self) -> None:
+        for frame, said in self.replies:
+            word = said.split(" ")[0]
+            self.assertEqual(spelled(self.ask(ASKED_BY.get(word, word), frame)[1], 1), said)
+
+    def test_what_is_no_reply(self) -> None:
+        kinds = ("00000001" "99", "00000002" "8f00", "00000002" "8f19", "00000001" "8f", "00000003" "8f0909")
+        for digits in ("00000000" "80", "ffffffff" "80", "00000002" "8000", "00000009" "81" "0000000000000020", *kinds):
+            with self.assertRaises(store_client.ProtocolError, msg=digits):
+                self.ask("seal t1.1", bytes.fromhex(digits))
+        for digits in ("00000005" "84" "00000001", "0000000a" "84" "0000000000000000" "00"):
+            with self.assertRaises(store_client.ProtocolError, msg=digits):
+                self.ask("list", bytes.fromhex(digits))
+        with self.assertRaises(store_client.ConnectionLost):
+            self.ask("list", bytes.fromhex("00000009" "84" "000000"))
+
+
+class Texts(unittest.TestCase):
+    def test_ids(self) -> None:
+        one = Task.numbered(1).object(1, job=1)
+        digits = "0000000000000000000000000000000000000001" "00000001" "00000001"
+        self.assertEqual(one.to_bytes().hex(), digits)
+        self.assertEqual(ObjectId.from_bytes(one.to_bytes()), one)
+        for text, job in [("t1.1", 1), ("1/t1.1", 2), (digits, 1), (digits, 9)]:
+            self.assertEqual(ObjectId.parse(text, job), one)
+        self.assertEqual((one.text(1), one.text(2)), ("t1.1", "1/t1.1"))
+        random = ObjectId(Task(b"\x01" * 20), 1, 7)
+        self.assertEqual((ObjectId.parse(random.text(1), 1), len(random.text(1))), (random, 56))
+
+    def test_what_is_no_id(self) -> None:
+        no_index = "0000000000000000000000000000000000000001" "00000001" "00000000"
+        for text in ("t1", "t1.0", "t01.1", "+t1.1", "0/t1.1", "1/t1.1", "t1.4294967296", f"t{2**64}.1", no_index, "AB" * 28, ""):
+            with self.assertRaises(ValueError, msg=text):
+                ObjectId.parse(text, 1)
+
+    def test_tasks(self) -> None:
+        for text in ("t0", "t1", f"t{2**64 - 1}", "01" * 20):
+            self.assertEqual(str(Task.parse(text)), text)
+        for text in ("t01", f"t{2**64}", "t", "1", "AB" * 20):
+            with self.assertRaises(ValueError, msg=text):
+                Task.parse(text)
+
+

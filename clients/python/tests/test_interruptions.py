@@ -1,0 +1,215 @@
+"""What comes in between: forks, Ctrl-C, a server that doesn't answer. Nothing is left by it, and nothing hangs."""
+
+from __future__ import annotations
+
+import os
+import pickle
+import signal
+import socket
+import tempfile
+import threading
+import time
+import unittest
+from typing import Any, List
+
+from support import PATIENCE, Script, WithServer, in_child, key
+
+import store_client
+from store_client import ConnectionLost, ServerSilent, Task
+
+OK = bytes.fromhex("0000000180")
+
+
+class Forks(WithServer):
+    def test_a_connection_is_its_own_process_s(self) -> None:
+        self.store.put(b"abcd", self.id())
+        self.store.hold(self.id())
+        parent = f"ConnectionLost: the connection was opened in process {os.getpid()}, and this is process "
+        for call in (self.store.usage, self.store.new_id, lambda: self.store.get(self.id()), lambda: self.store.read(self.id(), 0, 4)):
+            self.assertEqual(in_child(call)[: len(parent)], parent)
+        self.assertEqual(in_child(self.store.close), "None")
+        self.assertEqual(self.store.read(self.id(), 0, 4), b"abcd")
+
+    def test_a_connection_that_another_thread_uses_is_no_trap(self) -> None:
+        """The child has no such thread, and its lock."""
+        waiting = self.server.connect()
+        self.store.create(self.id(), 4)
+        with self.store._lock:
+            self.assertIn("was opened in process", in_child(self.store.usage))
+        waiting.close()
+
+    def test_a_session_ends_with_its_own_process(self) -> None:
+        """A child doesn't keep it, and its holds, open."""
+        before = self.store.usage().copies
+        self.store.put(b"abcd", self.id())
+        other = self.server.connect()
+        other.hold(self.id())
+        reading, writing = os.pipe()
+        child = os.fork()
+        if not child:
+            os.close(writing)
+            os.read(reading, 1)
+            os._exit(0)
+        other.close()
+        self.store.delete(self.id())
+        end = time.monotonic() + PATIENCE
+        while self.store.usage().copies > before and time.monotonic() < end:
+            time.sleep(0.01)
+        left = self.store.usage().copies
+        os.close(writing)
+        os.waitpid(child, 0)
+        os.close(reading)
+        self.assertEqual(left, before)
+
+    def test_ids_differ(self) -> None:
+        def make() -> List[str]:
+            with self.server.connect() as store:
+                return [str(store.new_id()) for _ in range(3)]
+
+        ids = make() + make() + in_child(lambda: " ".join(make())).split() + [str(self.store.new_id())]
+        self.assertEqual(len(set(ids)), 10)
+
+    def test_neither_a_connection_nor_a_hold_is_pickled(self) -> None:
+        self.store.put(b"abcd", self.id())
+        with self.assertRaisesRegex(TypeError, "each process opens its own"):
+            pickle.dumps(self.store)
+        held = self.store.get(self.id())
+        with self.assertRaisesRegex(TypeError, "pass its id"):
+            pickle.dumps(held)
+        held.release()
+
+
+class Interruptions(WithServer):
+    def interrupt(self, seconds: float) -> None:
+        """This process, as Ctrl-C does."""
+        timer = threading.Timer(seconds, os.kill, (os.getpid(), signal.SIGINT))
+        timer.start()
+        self.addCleanup(timer.cancel)
+
+    def test_a_put_that_waits_for_room_leaves_nothing(self) -> None:
+        with self.server.connect(3) as store:
+            task = self.task
+            for index in range(1, 10):
+                store.put(bytes(16), task.object(index, job=3))
+            fifo = self.server.spill / "3.1.part"
+            os.mkfifo(fifo)
+            self.addCleanup(lambda: os.close(os.open(fifo, os.O_RDONLY | os.O_NONBLOCK)))
+            with self.assertRaises((store_client.Pending, store_client.Busy)):
+                store.put(bytes(144), task.object(10, job=3), timeout=0.05)
+            self.assertEqual(len(store.list()[0]), 9)
+            self.interrupt(0.2)
+            with self.assertRaises(KeyboardInterrupt):
+                store.put(bytes(144))
+        with self.server.connect(3) as other:
+            self.assertEqual(len(other.list()[0]), 9)
+
+    def test_a_put_that_is_cut_off_in_the_middle_is_deleted(self) -> None:
+        """Ctrl-C comes while an answer is due: the connection is lost by it, and another one deletes the object."""
+        before = self.store.usage().copies
+        for id in (None, self.id()):
+            store = self.server.connect()
+            exchange, calls = store._stream.exchange, []
+
+            def cut(requests: Any, end: Any, exchange: Any = exchange, calls: Any = calls) -> Any:
+                calls.append(requests)
+                if len(calls) == 2:
+                    exchange(requests[:3], end)
+                    raise KeyboardInterrupt
+                return exchange(requests, end)
+
+            store._stream.exchange = cut  # type: ignore[method-assign]
+            with self.assertRaises(KeyboardInterrupt):
+                store.put(bytes(2_000_000 if id is None else 200_000), id)
+            self.assertEqual(self.store.usage().copies, before)
+            with self.assertRaisesRegex(ConnectionLost, "a call was cut short"):
+                store.usage()
+
+    def test_an_object_of_another_is_left_alone(self) -> None:
+        """A put that is cut off before it is known whose copy it is deletes nothing."""
+        self.store.put(b"abcd", self.id())
+        store = self.server.connect()
+
+        def cut(requests: Any, end: Any) -> Any:
+            raise KeyboardInterrupt
+
+        store._stream.exchange = cut  # type: ignore[method-assign]
+        with self.assertRaises(KeyboardInterrupt):
+            store.put(b"other", self.id())
+        self.assertTrue(self.store.contains(self.id()))
+        self.store.delete(self.id())
+
+    def test_a_get_that_waits_can_be_interrupted(self) -> None:
+        self.interrupt(0.2)
+        with self.assertRaises(KeyboardInterrupt):
+            self.store.get(self.id(), timeout=PATIENCE)
+        with self.server.connect() as other:
+            self.assertFalse(other.contains(self.id()))
+
+
+class Silence(unittest.TestCase):
+    """A server that takes what it is sent, and doesn't answer."""
+
+    def script(self, *replies: bytes) -> Script:
+        script = Script([*replies], hang=True)
+        self.addCleanup(script.close)
+        return script
+
+    def silent(self, call: Any) -> None:
+        began = time.monotonic()
+        with self.assertRaisesRegex(ServerSilent, "didn't answer in time"):
+            call()
+        self.assertLess(time.monotonic() - began, 10)
+
+    def test_connecting(self) -> None:
+        path = self.script().path
+        self.silent(lambda: store_client.connect(path, 1, key(1), timeout=0.1))
+
+    def test_nobody_takes_the_connection(self) -> None:
+        """The queue of those who would connect is full."""
+        with tempfile.TemporaryDirectory() as folder, socket.socket(socket.AF_UNIX) as listener:
+            listener.bind(f"{folder}/socket")
+            listener.listen(0)
+            with socket.socket(socket.AF_UNIX) as first, self.assertRaisesRegex(ServerSilent, "took no connection in time"):
+                first.connect(f"{folder}/socket")
+                store_client.connect(f"{folder}/socket", 1, key(1), timeout=0.1)
+
+    def test_each_call(self) -> None:
+        one = Task.numbered(1).object(1, job=1)
+        for call in (
+            lambda store: store.get(one, timeout=0.1),
+            lambda store: store.put(b"abcd", timeout=0.1),
+            lambda store: store.put(bytes(2**21), one, timeout=0.1),
+            lambda store: store.wait([one], timeout=0.1),
+        ):
+            store = store_client.connect(self.script(OK).path, 1, key(1))
+            self.silent(lambda: call(store))
+            with self.assertRaisesRegex(ConnectionLost, "didn't answer in time"):
+                store.usage()
+
+    def test_the_connection_s_own_timeout(self) -> None:
+        store = store_client.connect(self.script(OK).path, 1, key(1), timeout=0.1)
+        self.silent(store.usage)
+
+    def test_other_threads_have_the_connection(self) -> None:
+        """Then it isn't lost."""
+        store = store_client.connect(self.script(OK, OK).path, 1, key(1))
+        with store._lock, self.assertRaisesRegex(store_client.TimedOut, "in use by other threads"):
+            store.get(Task.numbered(1).object(1, job=1), timeout=0)
+        store.leave()
+
+    def test_closing_ends_a_call_that_waits(self) -> None:
+        store = store_client.connect(self.script(OK).path, 1, key(1))
+        told: List[type] = []
+
+        def wait() -> None:
+            try:
+                store.hold(Task.numbered(1).object(1, job=1), wait=True)
+            except store_client.StoreError as error:
+                told.append(type(error))
+
+        thread = threading.Thread(target=wait)
+        thread.start()
+        time.sleep(0.1)
+        store.close()
+        thread.join(PATIENCE)
+        self.assertEqual(told, [ConnectionLost])

@@ -1,0 +1,287 @@
+"""Waiting for what will come: consumers before producers, at one node and at two, and nothing that is left of it."""
+
+from __future__ import annotations
+
+import os
+import threading
+import time
+import unittest
+from typing import Any, Callable, List
+
+from support import PATIENCE, Server
+
+import store_client
+from store_client import Absent, Exists, NotGranted, NotSealed, ObjectId, Pending, State, Task
+from store_client.frames import Command
+
+
+class Waiting(unittest.TestCase):
+    server: Server
+
+    @classmethod
+    def setUpClass(cls) -> None:
+        cls.server = Server(nodes=2)
+        cls.addClassCleanup(cls.server.close)
+
+    def setUp(self) -> None:
+        self.store = self.connect()
+        self.other = self.connect()
+        self.far = self.connect(node=1)
+        self.task = Task(os.urandom(20))
+        self.addCleanup(self.clear)
+
+    def connect(self, job: int = 1, node: int = 0) -> store_client.Connection:
+        store = self.server.connect(job, node)
+        self.addCleanup(store.close)
+        return store
+
+    def clear(self) -> None:
+        """Nothing of one test is there in the next."""
+        for node in (0, 1):
+            with self.server.connect(1, node) as store:
+                for item in store.list()[0]:
+                    store.delete(item.id)
+
+    def id(self, index: int = 1) -> ObjectId:
+        return self.task.object(index, job=1)
+
+    def copies(self, store: store_client.Connection) -> int:
+        return store.usage().copies
+
+    def later(self, work: Callable[[], Any], seconds: float = 0.2) -> threading.Thread:
+        """Does the work in another thread, after a while."""
+        thread = threading.Timer(seconds, work)
+        thread.start()
+        self.addCleanup(thread.join)
+        return thread
+
+    def bytes_of(self, store: store_client.Connection, id: ObjectId, timeout: float) -> bytes:
+        with store.get(id, timeout) as view:
+            return bytes(view)
+
+
+class Consumers(Waiting):
+    def test_they_may_come_first(self) -> None:
+        for producer in (self.other, self.far):
+            with self.subTest(producer=producer):
+                id = ObjectId(Task(os.urandom(20)), 1, 1)
+                self.later(lambda: producer.put(b"abcd", id))
+                self.assertEqual(self.bytes_of(self.store, id, float("inf")), b"abcd")
+
+    def test_an_object_that_is_being_written_is_waited_for(self) -> None:
+        self.other.create(self.id(), 4)
+        self.other.write(self.id(), 0, b"abcd")
+        self.later(lambda: self.other.seal(self.id()))
+        self.assertEqual(self.bytes_of(self.store, self.id(), PATIENCE), b"abcd")
+
+    def test_a_look_leaves_nothing_in_a_producer_s_way(self) -> None:
+        """The first try enters a fetch, at which a Create is Exists."""
+        with self.assertRaises(Absent):
+            self.store.get(self.id(), timeout=0)
+        self.assertEqual(self.copies(self.store), 0)
+        self.other.create(self.id(), 4)
+        with self.assertRaises(NotSealed):
+            self.store.get(self.id(), timeout=0)
+
+    def test_polling_never_fills_the_job_s_copies(self) -> None:
+        for index in range(1, 51):
+            with self.assertRaises(Absent):
+                self.store.get(self.id(index), timeout=0)
+        self.store.wait([self.id(index) for index in range(51, 101)], timeout=0)
+        self.assertEqual(self.copies(self.store), 0)
+
+    def test_the_time_is_over(self) -> None:
+        began = time.monotonic()
+        with self.assertRaisesRegex(Absent, "No node has it sealed"):
+            self.store.get(self.id(), timeout=0.3)
+        self.assertGreaterEqual(time.monotonic() - began, 0.3)
+        self.assertEqual(self.copies(self.store), 0)
+
+    def test_without_a_timeout_one_gets_what_is_there(self) -> None:
+        with self.assertRaises(Absent):
+            self.store.get(self.id())
+        self.far.put(b"abcd", self.id())
+        with self.store.get(self.id()) as view:
+            self.assertEqual(bytes(view), b"abcd")
+
+    def test_a_large_object_comes_from_another_node(self) -> None:
+        data = os.urandom(150_000)
+        self.far.put(data, self.id())
+        self.assertEqual(self.bytes_of(self.store, self.id(), PATIENCE), data)
+
+    def test_polling_without_waiting_gets_what_another_node_has(self) -> None:
+        """A transfer that has begun goes on by itself."""
+        self.far.put(bytes(100_000), self.id())
+        end = time.monotonic() + PATIENCE
+        while time.monotonic() < end:
+            try:
+                self.assertEqual(self.bytes_of(self.store, self.id(), 0), bytes(100_000))
+                return
+            except Pending:
+                pass
+        self.fail("it never came")
+
+    def test_what_finds_no_room_here_is_told_and_leaves_nothing(self) -> None:
+        """Job 2 has a window of 64 bytes at each node."""
+        near, far = self.connect(2), self.connect(2, node=1)
+        one, two = (Task(os.urandom(20)).object(1, job=2) for _ in range(2))
+        far.put(bytes(64), one)
+        near.create(two, 64)
+        for timeout in (None, 0.1):
+            with self.assertRaises(store_client.Full):
+                near.get(one, timeout)
+            self.assertEqual([item.id for item in near.list()[0]], [two])
+        near.delete(two)
+        self.assertEqual(self.bytes_of(near, one, PATIENCE), bytes(64))
+        for store in (near, far):
+            store.end_task(one.task)
+
+    def test_a_get_that_waits_holds_up_no_other_thread(self) -> None:
+        thread = threading.Thread(target=lambda: self.bytes_of(self.store, self.id(), PATIENCE))
+        thread.start()
+        for _ in range(20):
+            self.store.usage()
+        self.store.put(b"abcd", self.id())
+        thread.join(PATIENCE)
+        self.assertFalse(thread.is_alive())
+
+
+class Producers(Waiting):
+    def test_a_fetch_in_the_object_s_place_is_taken_away(self) -> None:
+        """It was left there by another client's Get."""
+        with self.assertRaises(Pending):
+            self.other.hold(self.id())
+        self.assertEqual(self.store.list()[0][0].state, State.FETCHING)
+        self.store.put(b"abcd", self.id())
+        self.assertEqual(self.bytes_of(self.other, self.id(), 0), b"abcd")
+
+    def test_another_s_object_is_left_alone(self) -> None:
+        self.other.create(self.id(1), 4)
+        self.other.put(b"abcd", self.id(2))
+        for index in (1, 2):
+            with self.assertRaises(Exists):
+                self.store.put(b"else", self.id(index))
+            with self.assertRaises(Exists):
+                self.store.put(b"else", self.id(index), timeout=0.1)
+        self.other.write(self.id(1), 0, b"mine")
+        self.other.seal(self.id(1))
+        self.assertEqual(self.bytes_of(self.store, self.id(1), 0), b"mine")
+
+    def test_what_another_node_has_and_a_fetch_has_found_exists(self) -> None:
+        self.far.put(b"abcd", self.id())
+        with self.assertRaises(Pending):
+            self.other.hold(self.id())
+        with self.assertRaises(Exists):
+            self.store.put(b"else", self.id(), timeout=PATIENCE)
+        self.assertEqual(self.bytes_of(self.store, self.id(), PATIENCE), b"abcd")
+
+    def race(self, nodes: List[int]) -> None:
+        """Consumers look all the time while objects are put, each of which has to come to all of them."""
+        rounds = 15
+        faults: List[str] = []
+
+        def consume(store: store_client.Connection) -> None:
+            try:
+                for index in range(1, rounds + 1):
+                    if self.bytes_of(store, self.id(index), PATIENCE) != bytes([index]) * 4:
+                        faults.append("other bytes")
+            except Exception as error:
+                faults.append(repr(error))
+
+        threads = [threading.Thread(target=consume, args=(self.connect(node=node),)) for node in nodes]
+        for thread in threads:
+            thread.start()
+        for index in range(1, rounds + 1):
+            time.sleep(0.01)
+            self.store.put(bytes([index]) * 4, self.id(index))
+        for thread in threads:
+            thread.join(PATIENCE)
+        self.assertEqual(faults, [])
+        self.assertFalse(any(item.state is State.FETCHING for item in self.store.list()[0]))
+
+    def test_consumers_at_the_same_node(self) -> None:
+        self.race([0, 0, 0])
+
+    def test_consumers_at_both_nodes(self) -> None:
+        self.race([0, 1])
+
+
+class Several(Waiting):
+    def test_so_many_are_waited_for(self) -> None:
+        ids = [self.id(index) for index in range(1, 5)]
+        self.other.put(b"abcd", ids[2])
+        self.later(lambda: self.far.put(b"abcd", ids[0]))
+        here, others = self.store.wait(ids, 2, PATIENCE)
+        self.assertEqual((here, others), ([ids[0], ids[2]], [ids[1], ids[3]]))
+        self.assertEqual(self.store.wait(ids, 3, 0.1), (here, others))
+        # and none is held by that
+        for id in here:
+            self.store.delete(id)
+        self.assertEqual(self.copies(self.store), 0)
+
+    def test_what_can_never_be_had_is_not_waited_for(self) -> None:
+        self.store.end_task(self.task)
+        self.assertEqual(self.store.wait([self.id()], timeout=PATIENCE), ([self.id()], []))
+        with self.assertRaises(store_client.Gone):
+            self.store.get(self.id(), timeout=PATIENCE)
+
+    def test_wrong_arguments(self) -> None:
+        with self.assertRaisesRegex(ValueError, "stands twice"):
+            self.store.wait([self.id(), self.id()])
+        with self.assertRaisesRegex(ValueError, "how many are waited for is 1 to 1, not 2"):
+            self.store.wait([self.id()], 2)
+        self.assertEqual(self.store.wait([]), ([], []))
+
+    def test_what_is_contained(self) -> None:
+        self.assertFalse(self.store.contains(self.id()))
+        self.store.create(self.id(), 4)
+        self.assertFalse(self.store.contains(self.id()))
+        self.store.seal(self.id())
+        self.assertTrue(self.store.contains(self.id()))
+        self.assertFalse(self.far.contains(self.id()))
+        self.store.hold(self.id())
+        self.assertTrue(self.store.contains(self.id()))
+        self.assertEqual((self.copies(self.store), self.copies(self.far)), (1, 0))
+
+
+class GrantedObjects(Waiting):
+    def test_it_is_got_whole_once_it_is_granted(self) -> None:
+        data = os.urandom(70_000)
+        self.store.put(data, self.id())
+        taker = self.connect(2)
+        with self.assertRaises(NotGranted):
+            taker.get(self.id())
+        self.assertFalse(taker.contains(self.id()))
+        self.later(lambda: self.store.grant(self.id(), 2))
+        self.assertEqual(taker.wait([self.id()], timeout=PATIENCE), ([self.id()], []))
+        self.assertTrue(taker.contains(self.id()))
+        for timeout in (None, 0.0, 1.0):
+            with taker.get(self.id(), timeout) as view:
+                self.assertEqual(view, data)
+        self.assertEqual(taker.usage().copies, 0)
+        self.store.withdraw(self.id(), 2)
+        with self.assertRaises(NotGranted):
+            taker.get(self.id(), timeout=0.1)
+
+
+class RoundTrips(unittest.TestCase):
+    """How often a call waits for the server, counted where the requests are sent."""
+
+    def test_they_are_few(self) -> None:
+        server = Server()
+        self.addCleanup(server.close)
+        with server.connect() as store:
+            exchanges: List[List[Command]] = []
+            exchange = store._stream.exchange
+
+            def counted(requests: Any, end: Any) -> Any:
+                exchanges.append([request.command for request in requests])
+                return exchange(requests, end)
+
+            store._stream.exchange = counted  # type: ignore[method-assign]
+            id = store.put(bytes(100_000))
+            self.assertEqual(exchanges, [[Command.CREATE, Command.WRITE, Command.WRITE, Command.SEAL]])
+            exchanges.clear()
+            held = store.get(id)
+            self.assertEqual(exchanges, [[Command.GET], [Command.READ, Command.READ]])
+            held.release()

@@ -1,0 +1,33 @@
+"""What the examples share: a server of one node for as long as an example runs, with jobs 1 and 2."""
+
+from __future__ import annotations
+
+import contextlib
+import os
+import subprocess
+import sys
+import tempfile
+from pathlib import Path
+from typing import Iterator
+
+ROOT = Path(__file__).resolve().parents[1]
+sys.path.insert(0, str(ROOT / "clients/python"))
+
+PROGRAM = os.environ.get("STORE_PROGRAM", str(ROOT / "crates/store_server/out/store_server"))
+KEYS = {1: bytes([1]) * 32, 2: bytes([2]) * 32}
+WINDOWS = {1: 2**23, 2: 2**10}
+
+
+@contextlib.contextmanager
+def served() -> Iterator[str]:
+    """The path of the socket, once both jobs are admitted."""
+    with tempfile.TemporaryDirectory() as folder:
+        words = [PROGRAM, "serve", "--socket", f"{folder}/store", "--nodes", "1", "--memory", str(2**24), "--spill", f"{folder}/spill"]
+        with subprocess.Popen(words, stdin=subprocess.PIPE, stdout=subprocess.PIPE, text=True) as server:
+            for job, window in WINDOWS.items():
+                server.stdin.write(f"admit 0 {job} {window} 0 {KEYS[job].hex()}\n")
+                server.stdin.flush()
+                if server.stdout.readline() != "n0 op ok\n":
+                    raise SystemExit("the server admits no job")
+            yield f"{folder}/store.0"
+            server.communicate("close\n")
