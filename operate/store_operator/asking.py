@@ -1,0 +1,124 @@
+"""Asks a daemon over its control socket, and reads its answers."""
+
+from __future__ import annotations
+
+import errno
+import socket
+from typing import Dict, List, NamedTuple, Optional, Union
+
+# longer than the daemon itself waits for its server
+_PATIENCE = 90.0
+_NO_DAEMON = (errno.ENOENT, errno.ECONNREFUSED)
+
+Mark = Union[str, int, List[int]]
+
+
+class AskFault(Exception):
+    """No daemon, or an answer that says that an order wasn't carried out; the text says which."""
+
+
+class JobRow(NamedTuple):
+    """A job that lives at a node, with its quotas in bytes."""
+
+    node: int
+    job: int
+    window: int
+    device: int
+
+
+class UsageRow(NamedTuple):
+    """What a job uses of its quotas, in bytes; its copies, and its device works in flight."""
+
+    node: int
+    job: int
+    window: int
+    window_used: int
+    device: int
+    device_used: int
+    copies: int
+    works: int
+
+
+class Daemon:
+    """A connection to the control socket of this path."""
+
+    def __init__(self, path: str) -> None:
+        self._path = path
+        self._socket = socket.socket(socket.AF_UNIX)
+        self._socket.settimeout(_PATIENCE)
+        try:
+            self._socket.connect(path)
+        except OSError as error:
+            self._socket.close()
+            hint = ": does store-daemon run, and is this its control socket?" if error.errno in _NO_DAEMON else ""
+            raise AskFault(f"{path}: {error.strerror or error}{hint}") from error
+        self._answers = self._socket.makefile("r", encoding="utf-8", newline="\n")
+
+    def close(self) -> None:
+        self._answers.close()
+        self._socket.close()
+
+    def __enter__(self) -> Daemon:
+        return self
+
+    def __exit__(self, *_: object) -> None:
+        self.close()
+
+    def ask(self, line: str) -> str:
+        """The answer to a line."""
+        try:
+            self._socket.sendall(f"{line}\n".encode())
+            answer = self._answers.readline()
+        except OSError as error:
+            raise AskFault(f"{self._path}: {error.strerror or error}") from error
+        if not answer.endswith("\n"):
+            raise AskFault(f"{self._path}: the daemon ended before it answered")
+        return answer[:-1]
+
+    def end_store(self, at_once: bool) -> str:
+        """The server's report, or why there is none; however long open sessions may go on."""
+        self._socket.settimeout(None)
+        return self.ask("close now" if at_once else "close")
+
+    def status(self) -> Dict[str, Mark]:
+        """Each mark by its name: a text, a number, or a number for each node."""
+        fields = (field.partition("=") for field in self._told("status", "status"))
+        return {name: _mark(name, value) for name, _, value in fields}
+
+    def jobs(self, node: int) -> List[JobRow]:
+        rows = self._told(f"jobs {node}", f"n{node} op jobs")
+        return [JobRow(node, *_whole(row.split(":"), 3)) for row in rows]
+
+    def usage(self, node: int, job: int) -> Optional[UsageRow]:
+        """None if the job doesn't live there any more."""
+        answer = self.ask(f"usage {node} {job}")
+        if answer == f"n{node} op refused 1 NotAdmitted":
+            return None
+        return UsageRow(node, job, *_whole(_after(answer, f"n{node} op usage"), 6))
+
+    def _told(self, line: str, start: str) -> List[str]:
+        return _after(self.ask(line), start)
+
+
+def _after(answer: str, start: str) -> List[str]:
+    """The words of an answer after its start."""
+    if answer != start and not answer.startswith(f"{start} "):
+        raise AskFault(answer)
+    return answer[len(start) :].split()
+
+
+def _whole(words: List[str], count: int) -> List[int]:
+    try:
+        numbers = [int(word) for word in words]
+    except ValueError:
+        numbers = []
+    if len(numbers) != count:
+        raise AskFault(f"{count} numbers were expected, and came: {' '.join(words)}")
+    return numbers
+
+
+def _mark(name: str, value: str) -> Mark:
+    """By the mark's name, as one node's list looks like a number."""
+    if name in ("jobs", "sessions"):
+        return [int(count) for count in value.split(",")]
+    return int(value) if value.isdigit() else value

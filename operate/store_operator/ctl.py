@@ -1,0 +1,217 @@
+"""The command line of `storectl`."""
+
+from __future__ import annotations
+
+import argparse
+import contextlib
+import json
+import os
+import sys
+import time
+from pathlib import Path
+from typing import Any, Callable, Dict, List, Optional, Sequence
+
+from . import __version__
+from .asking import AskFault, Daemon, Mark, UsageRow
+from .keys import KeyFault, read_key
+from .refusals import explained
+from .sizes import parse_size
+from .tables import jobs_table, status_text, usage_table
+
+_USUAL_CONTROL = "/run/store/control"
+# clears a terminal
+_CLEAR = "\033[H\033[J"
+
+Words = argparse.Namespace
+
+
+def _nodes(daemon: Daemon, words: Words) -> Sequence[int]:
+    """Those that were asked for, all otherwise."""
+    count = daemon.status()["nodes"]
+    assert isinstance(count, int)
+    for node in words.node or ():
+        if node >= count:
+            raise AskFault(f"there is no node {node}: the server has 0 to {count - 1}")
+    return sorted(set(words.node or range(count)))
+
+
+def _homes(daemon: Daemon, words: Words) -> Sequence[int]:
+    """Of these the nodes at which the job lives; if it lives nowhere all, which say so."""
+    nodes = _nodes(daemon, words)
+    return [node for node in nodes if words.job in (job.job for job in daemon.jobs(node))] or nodes
+
+
+def _print_json(what: Any) -> None:
+    print(json.dumps(what), flush=True)
+
+
+def _status(daemon: Daemon, words: Words) -> int:
+    status = daemon.status()
+    if words.json:
+        _print_json(status)
+    else:
+        print(status_text(status))
+    return 0
+
+
+def _jobs(daemon: Daemon, words: Words) -> int:
+    jobs = [job for node in _nodes(daemon, words) for job in daemon.jobs(node)]
+    if words.json:
+        _print_json([job._asdict() for job in jobs])
+    else:
+        print(jobs_table(jobs))
+    return 0
+
+
+def _usages(daemon: Daemon, words: Words) -> List[UsageRow]:
+    asked = [(node, job.job) for node in _nodes(daemon, words) for job in daemon.jobs(node) if words.job in (None, job.job)]
+    return [row for row in (daemon.usage(node, job) for node, job in asked) if row]
+
+
+def _usage(daemon: Daemon, words: Words) -> int:
+    rows = _usages(daemon, words)
+    if words.json:
+        _print_json([row._asdict() for row in rows])
+    else:
+        print(usage_table(rows))
+    return 0
+
+
+def _watch(daemon: Daemon, words: Words) -> int:
+    """Again and again, until it is interrupted or the daemon ends."""
+    last: Optional[str] = None
+    while True:
+        shown = _watched(daemon, words)
+        if shown != last:
+            print(f"{_CLEAR}{shown}" if sys.stdout.isatty() else shown, flush=True)
+            last = shown
+        time.sleep(words.every)
+
+
+def _watched(daemon: Daemon, words: Words) -> str:
+    status, rows = daemon.status(), []
+    # while a server is started again nobody can be asked
+    if status["state"] == "running":
+        rows = _usages(daemon, words)
+    if words.json:
+        return json.dumps({"status": status, "usage": [row._asdict() for row in rows]})
+    return f"{_one_line(status)}\n{usage_table(rows)}"
+
+
+def _one_line(status: Dict[str, Mark]) -> str:
+    sessions = status["sessions"]
+    count = sum(sessions) if isinstance(sessions, list) else sessions
+    return f"{status['state']}, {count} sessions, {status['spilled_files']} spilled files, {status['restarts']} restarts"
+
+
+def _order(daemon: Daemon, words: Words, nodes: Sequence[int], line: Callable[[int], str]) -> int:
+    """An order for each node. 1 if one of them wasn't carried out."""
+    answers = {node: daemon.ask(line(node)) for node in nodes}
+    if words.json:
+        _print_json([{"node": node, "answer": answer} for node, answer in answers.items()])
+    else:
+        print("\n".join(explained(answer) for answer in answers.values()))
+    return 0 if all(answer.endswith(" op ok") for answer in answers.values()) else 1
+
+
+def _admit(daemon: Daemon, words: Words) -> int:
+    key = read_key(words.key_file)
+    nodes = _nodes(daemon, words)
+    return _order(daemon, words, nodes, lambda node: f"admit {node} {words.job} {words.window} {words.device} {key}")
+
+
+def _quota(daemon: Daemon, words: Words) -> int:
+    nodes = _homes(daemon, words)
+    return _order(daemon, words, nodes, lambda node: f"quota {node} {words.job} {words.window} {words.device}")
+
+
+def _end(daemon: Daemon, words: Words) -> int:
+    nodes = _homes(daemon, words)
+    return _order(daemon, words, nodes, lambda node: f"end {node} {words.job}")
+
+
+def _close(daemon: Daemon, words: Words) -> int:
+    answer = daemon.end_store(words.now)
+    if words.json:
+        _print_json({"answer": answer})
+    else:
+        print(answer)
+    return 0
+
+
+def _size(text: str) -> int:
+    try:
+        return parse_size(text)
+    except ValueError as error:
+        raise argparse.ArgumentTypeError(str(error)) from error
+
+
+def _number(text: str) -> int:
+    """A job's or a node's number: the daemon says which there are."""
+    if not (text.isascii() and text.isdigit()):
+        raise argparse.ArgumentTypeError(f"{text!r} is no number")
+    return int(text)
+
+
+def _seconds(text: str) -> float:
+    with contextlib.suppress(ValueError):
+        if 0.1 <= float(text) <= 86_400:
+            return float(text)
+    raise argparse.ArgumentTypeError(f"{text!r} isn't a number of seconds from 0.1 to 86400")
+
+
+def arguments() -> argparse.ArgumentParser:
+    parser = argparse.ArgumentParser(prog="storectl", description="Gives orders to a store-daemon, and shows what it serves.")
+    parser.add_argument(
+        "--control", default=os.environ.get("STORE_CONTROL", _USUAL_CONTROL), metavar="PATH",
+        help="the daemon's control socket; otherwise STORE_CONTROL, or %(default)s",
+    )
+    parser.add_argument("--json", action="store_true", help="answers for programs")
+    parser.add_argument("--version", action="version", version=f"storectl {__version__}")
+    at_nodes = argparse.ArgumentParser(add_help=False)
+    at_nodes.add_argument(
+        "--node", type=_number, action="append", metavar="N",
+        help="at this node, and may be repeated; otherwise at all, or at those where the job lives",
+    )
+    of_job = argparse.ArgumentParser(add_help=False)
+    of_job.add_argument("--job", type=_number, metavar="JOB", help="this job; all otherwise")
+    quotas = argparse.ArgumentParser(add_help=False)
+    quotas.add_argument("job", type=_number, metavar="JOB")
+    quotas.add_argument("--window", type=_size, required=True, metavar="SIZE", help="the memory of the job at a node, like 64M")
+    quotas.add_argument("--device", type=_size, required=True, metavar="SIZE", help="what it may spill, like 1G; 0 spills nothing")
+    commands = parser.add_subparsers(required=True, metavar="COMMAND")
+
+    commands.add_parser("status", help="shows the server's state").set_defaults(run=_status)
+    commands.add_parser("jobs", parents=[at_nodes], help="shows the jobs and their quotas").set_defaults(run=_jobs)
+    commands.add_parser("usage", parents=[at_nodes, of_job], help="shows what they use").set_defaults(run=_usage)
+    command = commands.add_parser("watch", parents=[at_nodes, of_job], help="shows it whenever it has changed")
+    command.add_argument("--every", type=_seconds, default=1.0, metavar="SECONDS", help="how often it looks")
+    command.set_defaults(run=_watch)
+    command = commands.add_parser("admit", parents=[quotas, at_nodes], help="admits a job")
+    command.add_argument("--key-file", type=Path, required=True, metavar="FILE", help="64 lower-case hexadecimal digits")
+    command.set_defaults(run=_admit)
+    commands.add_parser("quota", parents=[quotas, at_nodes], help="changes a job's quotas").set_defaults(run=_quota)
+    command = commands.add_parser("end", parents=[at_nodes], help="ends a job, and removes all it has there")
+    command.add_argument("job", type=_number, metavar="JOB")
+    command.set_defaults(run=_end)
+    command = commands.add_parser("close", help="ends the server and the daemon")
+    command.add_argument("--now", action="store_true", help="cuts off sessions that are open")
+    command.set_defaults(run=_close)
+    return parser
+
+
+def main(given: Optional[Sequence[str]] = None) -> int:
+    words = arguments().parse_args(given)
+    try:
+        with Daemon(words.control) as daemon:
+            status: int = words.run(daemon, words)
+            return status
+    except (AskFault, KeyFault) as fault:
+        print(f"storectl: {fault}", file=sys.stderr)
+        return 1
+    except KeyboardInterrupt:
+        return 130
+    except BrokenPipeError:
+        # who read the tables has seen enough
+        os.dup2(os.open(os.devnull, os.O_WRONLY), sys.stdout.fileno())
+        return 1

@@ -1,0 +1,127 @@
+"""One run of `store serve`: its process, the lines that it is given, and its answers, which come in their order."""
+
+from __future__ import annotations
+
+import asyncio
+import contextlib
+import os
+import signal
+from collections import deque
+from typing import AsyncIterator, Callable, Deque, List, Optional
+
+from .settings import Settings
+
+# seconds that a server which was told to end may still take
+_LAST_PATIENCE = 5.0
+
+Said = Callable[[str], None]
+
+
+class ServerEnded(Exception):
+    """The server ended before it answered: whether the order was carried out isn't known."""
+
+
+def command(settings: Settings) -> List[str]:
+    """The words of the program's command line."""
+    return [
+        str(settings.program), "serve", "--socket", str(settings.socket), "--nodes", str(settings.nodes),
+        "--memory", str(settings.memory), "--spill", str(settings.spill),
+    ]
+
+
+class Server:
+    """A server that was started; `ended` is done once its process has ended and all that it said was read."""
+
+    def __init__(self, process: asyncio.subprocess.Process, said: Said) -> None:
+        self._process = process
+        self._said = said
+        self._asked: Deque["asyncio.Future[str]"] = deque()
+        self.ended: "asyncio.Task[int]" = asyncio.ensure_future(self._run())
+
+    @classmethod
+    async def start(cls, settings: Settings, lock: int, said: Said) -> "Server":
+        """Starts a server, with everything that it makes for its owner alone. What it says on standard error goes to `said`.
+
+        A signal from the terminal doesn't reach it, nor does one end it that the daemon ignores: a write that is too large for a
+        limit fails then. It holds the spill folder's lock.
+        """
+        names = {name: value for name, value in os.environ.items() if name != "NOTIFY_SOCKET"}
+        pipe = asyncio.subprocess.PIPE
+        process = await asyncio.create_subprocess_exec(
+            *command(settings), stdin=pipe, stdout=pipe, stderr=pipe, env=names, umask=0o077, start_new_session=True,
+            restore_signals=False, pass_fds=(lock,),
+        )
+        return cls(process, said)
+
+    @property
+    def process_id(self) -> int:
+        return self._process.pid
+
+    def ask(self, line: str) -> "asyncio.Future[str]":
+        """Gives the server a line. Its answer comes, or `ServerEnded`, also if nobody waits any more."""
+        answer: "asyncio.Future[str]" = asyncio.get_running_loop().create_future()
+        # who asked may have gone
+        answer.add_done_callback(lambda done: done.cancelled() or done.exception())
+        if self.ended.done() or self._process.stdin is None or self._process.stdin.is_closing():
+            answer.set_exception(ServerEnded())
+            return answer
+        self._asked.append(answer)
+        self._process.stdin.write(f"{line}\n".encode())
+        return answer
+
+    def close(self) -> "asyncio.Future[str]":
+        """Gives the last line, to which the report is the answer."""
+        report = self.ask("close")
+        if self._process.stdin is not None:
+            self._process.stdin.close()
+        return report
+
+    async def terminate(self) -> None:
+        """Ends the process, and waits for its end."""
+        for number in (signal.SIGTERM, signal.SIGKILL):
+            if not self.ended.done():
+                with contextlib.suppress(ProcessLookupError):
+                    self._process.send_signal(number)
+                await asyncio.wait({self.ended}, timeout=_LAST_PATIENCE)
+        await self.ended
+
+    async def _run(self) -> int:
+        """Reads until the server ends. Its status, or less than 0 for the signal that ended it."""
+        await asyncio.gather(self._answers(), self._complaints())
+        status = await self._process.wait()
+        while self._asked:
+            self._settle(self._asked.popleft(), None)
+        return status
+
+    async def _answers(self) -> None:
+        async for line in _lines(self._process.stdout):
+            if not self._asked:
+                self._said(f"not asked for: {line}")
+                continue
+            self._settle(self._asked.popleft(), line)
+
+    async def _complaints(self) -> None:
+        async for line in _lines(self._process.stderr):
+            self._said(line)
+
+    @staticmethod
+    def _settle(answer: "asyncio.Future[str]", line: Optional[str]) -> None:
+        if answer.done():
+            return
+        if line is None:
+            answer.set_exception(ServerEnded())
+        else:
+            answer.set_result(line)
+
+
+async def _lines(stream: Optional[asyncio.StreamReader]) -> AsyncIterator[str]:
+    """Until the stream ends. A line without end is none of the server's, and is left out."""
+    assert stream is not None
+    while True:
+        try:
+            line = await stream.readline()
+        except ValueError:
+            continue
+        if not line:
+            return
+        yield line.decode("utf-8", "replace").rstrip("\n")

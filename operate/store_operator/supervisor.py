@@ -1,0 +1,255 @@
+"""The supervisor: it starts the server and admits the jobs, starts it again after a crash, and ends it when it is told to."""
+
+from __future__ import annotations
+
+import asyncio
+import contextlib
+import enum
+import logging
+import signal
+import time
+from typing import Any, Optional
+
+from . import sockets
+from .inspection import count_sessions
+from .jobs import LiveJobs
+from .limits import raise_limit
+from .notify import tell_manager
+from .orders import ServerOrder, server_line, told
+from .refusals import explained
+from .server import Server, ServerEnded
+from .settings import Settings
+from .sockets import SocketFault
+from .spill import SpillFault, SpillFolders
+
+# seconds that the server may take for an answer, and until it listens
+_PATIENCE = 60.0
+# seconds from a crash to the next start: at first, and at most; after a run of so many seconds it is the first again
+_FIRST_PAUSE, _LONGEST_PAUSE, _GOOD_RUN = 0.5, 60.0, 60.0
+# seconds in which sessions that wait are still answered if the server is closed at once
+_LEAST_GRACE = 0.5
+_OK = " op ok"
+
+
+class State(enum.Enum):
+    STARTING = "starting"
+    RUNNING = "running"
+    PAUSED = "paused"
+    CLOSING = "closing"
+    ENDED = "ended"
+
+
+class StartFault(Exception):
+    """The server didn't come up; the text says why."""
+
+
+class NotDone(Exception):
+    """An order that wasn't given to the server, or to which no answer came; the text says which."""
+
+
+class Supervisor:
+    """One server at a time. `end` is the report of the last one, or why there is none, once `ended` is set."""
+
+    def __init__(self, settings: Settings, log: logging.Logger) -> None:
+        self.settings = settings
+        self.state = State.STARTING
+        self.server: Optional[Server] = None
+        self.jobs = LiveJobs(settings.jobs)
+        self.spill = SpillFolders(settings.spill, settings.folders())
+        self.restarts = 0
+        self.started = time.monotonic()
+        self.ended = asyncio.Event()
+        self.end = "no server was running"
+        self._log = log
+        self._complaint = ""
+        self._lock = -1
+        self._pause = _FIRST_PAUSE
+        self._has_served = False
+        self._stop = asyncio.Event()
+        self._hurry = asyncio.Event()
+
+    # ---- what others ask of it
+
+    def stop(self, at_once: bool) -> None:
+        """The server is closed; open sessions may go on for the grace period, or not. The second time it is at once."""
+        if at_once or self._stop.is_set():
+            self._hurry.set()
+        self._stop.set()
+
+    async def carry_out(self, order: ServerOrder) -> str:
+        """The server's answer to an order."""
+        if self.state is not State.RUNNING or self.server is None:
+            raise NotDone(f"the server is {self.state.value}")
+        return await self._give(self.server, order)
+
+    # ---- its run
+
+    async def run(self) -> None:
+        """From the first start to the end. A fault of `StartFault`, `SpillFault` or `SocketFault` if the first start fails."""
+        try:
+            self._lock = self.spill.take()
+            for path in self.settings.sockets():
+                sockets.clear(path)
+            too_few = raise_limit(self.settings.nodes)
+            if too_few:
+                self._log.warning(too_few)
+            while not self._stop.is_set():
+                await self._run_server()
+                if not self._stop.is_set():
+                    await self._rest()
+        finally:
+            self.spill.give_up()
+            self.state = State.ENDED
+            self.ended.set()
+
+    async def _run_server(self) -> None:
+        """One run of the server, of which nothing stays. Once it has served, a failed start is a crash like others."""
+        self.state = State.STARTING
+        self.started = time.monotonic()
+        try:
+            self._sweep()
+            self.server = await Server.start(self.settings, self._lock, self._heard)
+            self._log.info("started the server: process %d", self.server.process_id)
+            await self._bring_up(self.server)
+            await self._until(self.server.ended)
+        except (StartFault, SpillFault, SocketFault, OSError) as fault:
+            if not self._has_served:
+                raise StartFault(str(fault)) from fault
+            self._log.error("the server can't be started: %s", fault)
+        finally:
+            await self._end_server()
+            self._clean_up()
+
+    async def _bring_up(self, server: Server) -> None:
+        """Waits until the sockets listen, admits the jobs, and says that it is ready. A stop cuts it short."""
+        listening = asyncio.ensure_future(sockets.await_all(self.settings.sockets()))
+        try:
+            await self._until(listening, server.ended, timeout=_PATIENCE)
+            if self._stop.is_set():
+                return
+            if not listening.done():
+                raise StartFault(self._complaint or "the server doesn't listen")
+            listening.result()
+        finally:
+            listening.cancel()
+        await self._admit_jobs(server)
+        sockets.open_to(self.settings.sockets(), self.settings.socket_mode, self.settings.socket_group)
+        if not self._stop.is_set():
+            self._say_ready(server)
+
+    async def _admit_jobs(self, server: Server) -> None:
+        """The jobs of the settings, or after a crash those that lived."""
+        for job in self.jobs.in_order():
+            try:
+                answer = await self._give(server, job)
+            except NotDone as fault:
+                raise StartFault(f"{told(job)}: {fault}") from fault
+            if answer.endswith(_OK):
+                continue
+            if not self._has_served:
+                raise StartFault(f"{told(job)}: {explained(answer)}")
+            self._log.error("not admitted again: %s: %s", told(job), explained(answer))
+            self.jobs.forget(job)
+
+    def _say_ready(self, server: Server) -> None:
+        self.state = State.RUNNING
+        self._has_served = True
+        self._log.info("ready: %d nodes, %d admissions", self.settings.nodes, len(self.jobs.in_order()))
+        if self.settings.ready:
+            self.settings.ready.write_text(f"{server.process_id}\n", encoding="ascii")
+        tell_manager("READY=1", f"STATUS=serves {self.settings.nodes} nodes")
+        # that nobody reads it any more doesn't end the service
+        with contextlib.suppress(OSError):
+            print("store-daemon: ready", flush=True)
+
+    async def _give(self, server: Server, order: ServerOrder) -> str:
+        answer = server.ask(server_line(order))
+        # also if it comes after the patience of who asked
+        answer.add_done_callback(lambda done: self._note(order, done))
+        try:
+            return await asyncio.wait_for(asyncio.shield(answer), _PATIENCE)
+        except ServerEnded:
+            raise NotDone("the server ended before it answered") from None
+        except asyncio.TimeoutError:
+            raise NotDone(f"no answer for {_PATIENCE:.0f} seconds; it may still be carried out") from None
+
+    def _note(self, order: ServerOrder, done: "asyncio.Future[str]") -> None:
+        if done.cancelled() or done.exception() is not None:
+            return
+        self._log.info("%s: %s", told(order), done.result())
+        if done.result().endswith(_OK):
+            self.jobs.carried_out(order)
+
+    def _heard(self, line: str) -> None:
+        self._complaint = line
+        self._log.warning("the server says: %s", line)
+
+    async def _until(self, *events: "asyncio.Future[Any]", timeout: Optional[float] = None) -> None:
+        """Waits for one of them, for a stop, or for so many seconds."""
+        stop = asyncio.ensure_future(self._stop.wait())
+        await asyncio.wait({stop, *events}, timeout=timeout, return_when=asyncio.FIRST_COMPLETED)
+        stop.cancel()
+
+    # ---- its ends
+
+    async def _end_server(self) -> None:
+        """It has ended by itself, or is closed after a stop, or couldn't be brought up."""
+        server = self.server
+        if server is None:
+            return
+        if not server.ended.done():
+            await (self._close(server) if self._stop.is_set() else server.terminate())
+        elif self._has_served:
+            self._log.error("the server ended by itself: %s", _end_text(server.ended.result()))
+        self.server = None
+
+    async def _close(self, server: Server) -> None:
+        self.state = State.CLOSING
+        tell_manager("STOPPING=1")
+        report = server.close()
+        await self._grace(server)
+        if not server.ended.done():
+            self._log.warning("%d sessions are still open, and are cut off", sum(count_sessions(self.settings.sockets())))
+            await server.terminate()
+        await asyncio.wait({report})
+        self.end = "terminated" if report.exception() else report.result()
+        self._log.info("the server has ended: %s", self.end)
+
+    async def _grace(self, server: Server) -> None:
+        """Gives open sessions their time, which a hurry ends."""
+        if not self._hurry.is_set():
+            self._log.info("closing: open sessions may go on for %g seconds", self.settings.grace)
+            hurry = asyncio.ensure_future(self._hurry.wait())
+            await asyncio.wait({server.ended, hurry}, timeout=self.settings.grace, return_when=asyncio.FIRST_COMPLETED)
+            hurry.cancel()
+        await asyncio.wait({server.ended}, timeout=_LEAST_GRACE)
+
+    async def _rest(self) -> None:
+        """The pause before the next start."""
+        self.state = State.PAUSED
+        self.restarts += 1
+        if time.monotonic() - self.started >= _GOOD_RUN:
+            self._pause = _FIRST_PAUSE
+        self._log.warning("it is started again in %g seconds", self._pause)
+        tell_manager(f"STATUS=the server ended by itself, and is started again in {self._pause:g} seconds")
+        await self._until(timeout=self._pause)
+        self._pause = min(2 * self._pause, _LONGEST_PAUSE)
+
+    def _sweep(self) -> None:
+        count = self.spill.sweep()
+        if count:
+            self._log.info("removed %d spilled files", count)
+
+    def _clean_up(self) -> None:
+        """The server has ended: its sockets and its spilled objects go."""
+        if self.settings.ready:
+            self.settings.ready.unlink(missing_ok=True)
+        sockets.remove(self.settings.sockets())
+        try:
+            self._sweep()
+        except (SpillFault, OSError) as fault:
+            self._log.warning("%s", fault)
+
+
+def _end_text(status: int) -> str:
+    return f"status {status}" if status >= 0 else signal.Signals(-status).name

@@ -1,0 +1,46 @@
+"""Tables for people: a head, and rows whose numbers stand below each other."""
+
+from __future__ import annotations
+
+from typing import Dict, Iterable, List, Sequence
+
+from .asking import JobRow, Mark, UsageRow
+from .sizes import size_text
+
+_GAP = "  "
+# of a status, in bytes
+_SIZES = ("resident", "spilled_bytes", "spill_free")
+
+
+def table(head: Sequence[str], rows: Iterable[Sequence[str]]) -> str:
+    """Columns that are as wide as their widest cell, aligned to the right."""
+    lines: List[Sequence[str]] = [head, *rows]
+    widths = [max(map(len, column)) for column in zip(*lines)]
+    return "\n".join(_GAP.join(cell.rjust(width) for cell, width in zip(line, widths)) for line in lines)
+
+
+def jobs_table(jobs: Iterable[JobRow]) -> str:
+    rows = ((str(row.node), str(row.job), size_text(row.window), size_text(row.device)) for row in jobs)
+    return table(("NODE", "JOB", "WINDOW", "DEVICE"), rows)
+
+
+def usage_table(usages: Iterable[UsageRow]) -> str:
+    head = ("NODE", "JOB", "WINDOW", "USED", "DEVICE", "USED", "COPIES", "WORKS")
+    return table(head, (_usage_cells(row) for row in usages))
+
+
+def _usage_cells(row: UsageRow) -> Sequence[str]:
+    sizes = (size_text(size) for size in (row.window, row.window_used, row.device, row.device_used))
+    return (str(row.node), str(row.job), *sizes, str(row.copies), str(row.works))
+
+
+def status_text(status: Dict[str, Mark]) -> str:
+    """A line for each mark."""
+    width = max(map(len, status))
+    return "\n".join(f"{name.replace('_', ' ').ljust(width)}{_GAP}{_shown(name, mark)}" for name, mark in status.items())
+
+
+def _shown(name: str, mark: Mark) -> str:
+    if isinstance(mark, list):
+        return ", ".join(f"{count} at node {node}" for node, count in enumerate(mark))
+    return size_text(mark) if isinstance(mark, int) and name in _SIZES else str(mark)

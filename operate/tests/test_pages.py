@@ -1,0 +1,100 @@
+"""What stands beside the programs: the unit file, the settings to begin with, the manual pages, and the page for operators."""
+
+from __future__ import annotations
+
+import re
+import shutil
+import subprocess
+import unittest
+from pathlib import Path
+from typing import List
+
+from driving import DAEMON, HERE, PROGRAM, ROOT, Place, until
+
+from store_operator.asking import Daemon, Mark
+from store_operator.limits import needed_descriptors
+from store_operator.orders import SUMMARY
+from store_operator.settings import JOB_OPTIONS, MOST_NODES, STORE_OPTIONS, read_settings
+
+OPERATE = HERE.parent
+PAGES = sorted((OPERATE / "man").glob("*.1"))
+OPERATING = ROOT / "docs/OPERATING.md"
+
+
+class Unit(unittest.TestCase):
+    text = (OPERATE / "store.service").read_text()
+
+    @unittest.skipUnless(shutil.which("systemd-analyze"), "there is no systemd-analyze")
+    def test_systemd_finds_nothing_wrong(self) -> None:
+        with Place() as place:
+            unit = place.path / "store.service"
+            # it looks for the program
+            unit.write_text(self.text.replace("/opt/store/bin/store-daemon", DAEMON))
+            done = subprocess.run(["systemd-analyze", "verify", "--man=no", str(unit)], capture_output=True, text=True, check=False)
+            self.assertEqual((done.returncode, done.stdout, done.stderr), (0, "", ""))
+
+    def test_its_limits_are_enough_for_all_nodes(self) -> None:
+        limits = {name: int(value) for name, value in re.findall(r"^(LimitNOFILE|TasksMax)=(\d+)$", self.text, re.MULTILINE)}
+        self.assertEqual(limits["LimitNOFILE"], needed_descriptors(MOST_NODES))
+        self.assertGreater(limits["TasksMax"], 1 + MOST_NODES * (MOST_NODES + 1) + 1024 * MOST_NODES)
+
+
+class SettingsToBeginWith(unittest.TestCase):
+    def read(self, text: str) -> None:
+        with Place() as place:
+            (place.path / "job1.key").symlink_to(place.key_file)
+            place.settings.write_text(text)
+            settings = read_settings(place.settings, Path(PROGRAM))
+            self.assertEqual((settings.nodes, settings.memory, str(settings.control)), (1, 1 << 30, "/run/store/control"))
+            self.assertEqual([(job.job, job.window, job.device) for job in settings.jobs], [(1, 1 << 26, 1 << 30)])
+
+    def test_the_file_with_its_job(self) -> None:
+        text = (OPERATE / "store.ini").read_text()
+        self.read(text.replace("#[job 1]", "[job 1]").replace("#window", "window").replace("#device", "device").replace("#key", "key"))
+
+    def test_those_of_the_page_for_operators(self) -> None:
+        blocks = re.findall(r"^(?:    .*\n|\n)+", OPERATING.read_text(), re.MULTILINE)
+        found = [block for block in blocks if "    [store]\n" in block]
+        self.assertEqual(len(found), 1)
+        self.read(re.sub("^    ", "", found[0], flags=re.MULTILINE))
+
+
+class Manual(unittest.TestCase):
+    @unittest.skipUnless(shutil.which("mandoc"), "there is no mandoc")
+    def test_mandoc_finds_nothing_wrong(self) -> None:
+        self.assertEqual([page.name for page in PAGES], ["store-daemon.1", "store.1", "storectl.1"])
+        for page in PAGES:
+            # it looks for the pages that a page names in its folder
+            words = ["mandoc", "-T", "lint", "-W", "style", page.name]
+            done = subprocess.run(words, capture_output=True, text=True, check=False, cwd=page.parent)
+            self.assertEqual((done.returncode, done.stdout, done.stderr), (0, "", ""))
+
+    def test_each_option_and_order_has_its_place(self) -> None:
+        text = (OPERATE / "man/store-daemon.1").read_text()
+        items = [line[len(".It Cm ") :].replace(" Ar ", " ") for line in text.splitlines() if line.startswith(".It Cm ")]
+        named = [name for item in items for name in item.split(" , ")]
+        for name in (*STORE_OPTIONS, *JOB_OPTIONS, *SUMMARY.split(", ")):
+            self.assertTrue(name in named or name in items or f"{name} , close now" in items, f"{name}: {named}")
+
+
+def counts(daemon: Daemon) -> List[Mark]:
+    status = daemon.status()
+    return [status["threads"], status["descriptors"]]
+
+
+class Formula(unittest.TestCase):
+    def test_descriptors_and_threads(self) -> None:
+        for nodes in (1, 2, 3, 8):
+            with Place(nodes) as place:
+                place.start_ready()
+                sessions = [place.session(1, node) for node in range(nodes) for _ in range(2)]
+                due = [1 + nodes * (nodes + 1) + len(sessions), 4 + 2 * nodes + len(sessions)]
+                with place.control() as daemon:
+                    # those that only looked whether the server listens have gone, after a moment
+                    until(lambda: counts(daemon) == due, f"{due} at {nodes} nodes")
+                for session in sessions:
+                    session.close()
+
+
+if __name__ == "__main__":
+    unittest.main()

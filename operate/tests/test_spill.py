@@ -1,0 +1,144 @@
+"""Spill folders: what is swept, what is never touched, and who else may use them."""
+
+from __future__ import annotations
+
+import os
+import signal
+import unittest
+from pathlib import Path
+
+from driving import Place, fill, is_running, until
+
+# what a store's own files are called, and what only looks like it
+OWN = ("1.1", "4294967295.18446744073709551615", "0.0", "7.12.part")
+FOREIGN = ("1", "1.", ".1", "01.1", "1.01", "1.1.1", "1.1.parts", "1.1.part.part", "1.x", "note.txt", "1.1~", "-1.1", "lock", "1.\u0661")
+
+
+def folder(place: Place) -> Path:
+    """The folder of node 0, as an earlier run left it."""
+    spill = place.path / "spill/0"
+    spill.mkdir(parents=True)
+    spill.parent.chmod(0o700)
+    spill.chmod(0o700)
+    return spill
+
+
+class Sweeps(unittest.TestCase):
+    def test_only_what_an_earlier_run_left_is_removed(self) -> None:
+        with Place() as place:
+            spill = folder(place)
+            for name in (*OWN, *FOREIGN):
+                (spill / name).write_text(name)
+            beside = spill.parent / "1.1"
+            beside.write_text("beside")
+            daemon = place.start_ready()
+            self.assertEqual(place.spilled(), sorted(FOREIGN))
+            self.assertEqual(place.end(daemon), 0)
+            self.assertEqual({name: (spill / name).read_text() for name in place.spilled()}, {name: name for name in FOREIGN})
+            self.assertEqual(beside.read_text(), "beside")
+
+    def test_a_link_in_a_spilled_objects_place_is_never_followed(self) -> None:
+        for name in ("1.1", "1.1.part"):
+            with Place() as place:
+                spill, victim = folder(place), place.path / "victim"
+                victim.write_text("kept")
+                (spill / name).symlink_to(victim)
+                (spill / "1.2").write_text("left")
+                self.assertEqual(
+                    place.refused(),
+                    f"store-daemon: spill folder {spill}: {name} is no file, and a spilled object would go there: remove it",
+                )
+                self.assertEqual((victim.read_text(), os.readlink(spill / name)), ("kept", str(victim)))
+
+    def test_a_hard_link_is_removed_and_its_file_stays(self) -> None:
+        with Place() as place:
+            spill, victim = folder(place), place.path / "victim"
+            victim.write_text("kept")
+            os.link(victim, spill / "1.1.part")
+            place.start_ready()
+            with place.session() as session:
+                fill(session)
+                until(place.spilled, "a spilled object")
+            self.assertEqual(victim.read_text(), "kept")
+
+    def test_a_link_that_came_while_it_served_is_left_at_the_end(self) -> None:
+        with Place() as place:
+            daemon = place.start_ready()
+            victim = place.path / "victim"
+            victim.write_text("kept")
+            (place.path / "spill/0/9.9").symlink_to(victim)
+            self.assertEqual(place.end(daemon), 0)
+            self.assertEqual(victim.read_text(), "kept")
+            self.assertIn("9.9 is no file", place.log())
+
+
+class Refusals(unittest.TestCase):
+    def test_a_folder_that_others_may_use(self) -> None:
+        for which, mode in (("spill", 0o755), ("spill/0", 0o750), ("spill/0", 0o701)):
+            with Place() as place:
+                folder(place)
+                (place.path / which).chmod(mode)
+                said = place.refused()
+                self.assertEqual(
+                    said, f"store-daemon: spill folder {place.path}/{which}: others may use it (mode {mode:04o}): chmod 700 {place.path}/{which}"
+                )
+
+    def test_a_folder_that_is_a_link(self) -> None:
+        with Place() as place:
+            spill = folder(place)
+            spill.rmdir()
+            elsewhere = place.path / "elsewhere"
+            elsewhere.mkdir(mode=0o700)
+            (elsewhere / "1.1").write_text("kept")
+            spill.symlink_to(elsewhere)
+            self.assertIn(f"spill folder {spill}: ", place.refused())
+            self.assertEqual((elsewhere / "1.1").read_text(), "kept")
+
+    def test_a_folder_that_is_a_file(self) -> None:
+        with Place() as place:
+            (place.path / "spill").write_text("")
+            self.assertEqual(place.refused(), f"store-daemon: spill folder {place.path}/spill: File exists")
+
+    @unittest.skipIf(os.geteuid() != 0, "only root can give a folder away")
+    def test_a_folder_of_another_user(self) -> None:
+        with Place() as place:
+            os.chown(folder(place), 65534, -1)
+            self.assertEqual(place.refused(), f"store-daemon: spill folder {place.path}/spill/0: it belongs to another user (65534)")
+
+
+class InUse(unittest.TestCase):
+    def test_two_daemons_never_share_a_folder(self) -> None:
+        with Place() as place, Place() as other:
+            other.write(1, (1,), spill=str(place.path / "spill"))
+            daemon = place.start_ready()
+            with place.session() as session:
+                ids = fill(session)
+                names = until(place.spilled, "a spilled object")
+                self.assertEqual(
+                    other.refused(), f"store-daemon: spill folder {place.path}/spill: a live server uses it (daemon {daemon.pid})"
+                )
+                self.assertEqual(place.spilled(), names)
+                with session.get(ids[0]) as view:
+                    self.assertEqual(bytes(view), bytes(20_000))
+            place.end(daemon)
+            other.start_ready()
+
+    def test_a_server_whose_daemon_was_killed_keeps_its_folder(self) -> None:
+        with Place() as place, Place() as other:
+            other.write(1, (1,), spill=str(place.path / "spill"))
+            daemon = place.start_ready()
+            server = place.server()
+            with place.session() as session:
+                ids = fill(session)
+                until(place.spilled, "a spilled object")
+                place.end(daemon, signal.SIGKILL)
+                self.assertIn("a live server uses it", other.refused())
+                self.assertEqual((session.usage().copies, bool(place.spilled())), (len(ids), True))
+            # the end of its input is a close, and nobody is there any more
+            until(lambda: not is_running(server), "the server's end")
+            other.start_ready()
+            self.assertEqual(place.spilled(), [])
+
+
+if __name__ == "__main__":
+    unittest.main()

@@ -1,0 +1,134 @@
+"""The words that the daemon reads: orders, sizes, settings, keys. No server is started."""
+
+from __future__ import annotations
+
+import subprocess
+import sys
+import unittest
+from pathlib import Path
+from typing import Tuple
+
+from driving import DAEMON, KEY, PROGRAM, Place
+
+from store_operator.keys import KeyFault, read_key
+from store_operator.orders import NotAnOrder, read_order, server_line, told
+from store_operator.settings import Settings, SettingsFault, read_settings
+from store_operator.sizes import parse_size, size_text
+
+RIGHT = (
+    f"admit 0 1 1048576 0 {KEY}", f"admit 1 4294967295 18446744073709551615 16 {KEY}", "quota 1 2 64 0", "end 0 0",
+)
+WRONG = (
+    "admitt 0 2", " end 0 1", "end 0 1 ", "end  0 1", "END 0 1", "end 0 1\r", "end\t0 1", "end 0 01", "end 0 +1", "end 0 -1",
+    "end 0 1.0", "end 0 0x1", "end 0 4294967296", "end 2 1", "end 00 1", "end 0", "end 0 1 2", "end 0 \u0661", "quota 0 1 64",
+    "quota 0 1 1M 0", "quota 0 1 18446744073709551616 0", "quota 0 1  0", f"admit 0 1 64 0 {KEY.upper()}", f"admit 0 1 64 0 {KEY[1:]}",
+    f"admit 0 1 64 0 {KEY}0", "admit 0 1 64 0", "jobs", "jobs 2", "usage 0", "status 0", "close later", "close now ", "help", "\0", "\xff",
+)
+SETTINGS_FAULTS = (
+    ("memory = 1M", "memory = 1X", "[store] memory: '1X' is no size"),
+    ("memory = 1M", "memory = 17G", "[store] memory: 17G is more than 17179869184 bytes"),
+    ("memory = 1M", "memroy = 1M", "[store] memroy: there is no such option"),
+    ("memory = 1M\n", "", "[store] memory: it isn't there"),
+    ("nodes = 2", "nodes = 9", "[store] nodes: '9' isn't nodes from 1 to 8"),
+    ("socket = store", "socket = " + 120 * "s", "longer than 107 bytes"),
+    ("socket = store", "socket = store\nsocket_mode = 0777", "[store] socket_mode: '0777' isn't one of 0600, 0660, 0666"),
+    ("socket = store", "socket = store\nsocket_group = nobody knows", "[store] socket_group: there is no group 'nobody knows'"),
+    ("grace = 0.5", "grace = soon", "[store] grace: 'soon' isn't a number of seconds"),
+    (f"program = {PROGRAM}", "program = missing", "there is no such program"),
+    ("[job 1]", "[job 0]", "section [job 0]: '0' isn't a job's number"),
+    ("[job 1]", "[jobs]", "there is no section [jobs]"),
+    ("[job 1]", "[job 2]", "section 'job 2' already exists"),
+    ("[job 1]", "[job 02]", "job 2 has two sections for node 0"),
+    ("[job 1]", "[job 1]\nnodes = 2", "[job 1] nodes: '2' isn't a node from 0 to 1"),
+    ("key_file = key", "key_file = lost", "lost: No such file or directory"),
+    ("[store]", "[stor]", "there is no section [store]"),
+    ("[store]", "store", "no section headers"),
+)
+
+
+class Orders(unittest.TestCase):
+    def test_what_the_server_is_given_is_the_line_itself(self) -> None:
+        for line in RIGHT:
+            order = read_order(line, 2)
+            self.assertEqual(server_line(order), line)  # type: ignore[arg-type]
+            self.assertNotIn(KEY, told(order))  # type: ignore[arg-type]
+
+    def test_what_is_no_order_is_refused_and_no_key_is_told(self) -> None:
+        for line in WRONG:
+            with self.assertRaises(NotAnOrder, msg=line) as refused:
+                read_order(line, 2)
+            self.assertNotIn(KEY[:30], str(refused.exception).lower())
+
+    def test_it_is_said_what_was_expected(self) -> None:
+        rows = (
+            ("admitt 0", '"admitt ..": the orders are admit NODE JOB WINDOW DEVICE KEY, '), ("end 0", '"end ..": it is end NODE JOB, '),
+            ("end 5 1", '"end ..": NODE is a node\'s number, 0 to 1'), ("quota 0 1 1M 0", '"quota ..": WINDOW isn\'t a number from 0 to '),
+        )
+        for line, text in rows:
+            with self.assertRaises(NotAnOrder) as refused:
+                read_order(line, 2)
+            self.assertTrue(str(refused.exception).startswith(text), str(refused.exception))
+
+
+class Sizes(unittest.TestCase):
+    def test_sizes(self) -> None:
+        for text, size in (("0", 0), ("65536", 65536), ("64K", 65536), ("64KiB", 65536), ("1M", 1 << 20), ("3G", 3 << 30), ("1T", 1 << 40)):
+            self.assertEqual(parse_size(text), size)
+        for text in ("", "M", "1.5M", "-1", "1 M", "1m", "0x10", "1E", "\u0661"):
+            self.assertRaises(ValueError, parse_size, text)
+        for size, text in ((0, "0"), (1000, "1000"), (1024, "1K"), (1536, "1.5K"), (1 << 26, "64M"), (5 << 40, "5T")):
+            self.assertEqual(size_text(size), text)
+
+
+class SettingsFiles(unittest.TestCase):
+    def read(self, place: Place) -> Settings:
+        return read_settings(place.settings, Path(PROGRAM))
+
+    def test_jobs_come_by_number_and_node(self) -> None:
+        with Place(2, (3, 1)) as place:
+            text = place.settings.read_text().replace("[job 3]", "[job 3]\nnodes = 1")
+            place.settings.write_text(text)
+            found = [(job.job, job.node, job.window, job.device, job.key) for job in self.read(place).jobs]
+            self.assertEqual(found, [(1, 0, 65536, 1 << 20, KEY), (1, 1, 65536, 1 << 20, KEY), (3, 1, 65536, 1 << 20, KEY)])
+            self.assertEqual(self.read(place).sockets(), (place.socket(0), place.socket(1)))
+
+    def test_faults_name_file_section_and_option(self) -> None:
+        for old, new, said in SETTINGS_FAULTS:
+            with Place(2, (1, 2)) as place:
+                text = place.settings.read_text()
+                self.assertIn(old, text)
+                place.settings.write_text(text.replace(old, new, 1))
+                with self.assertRaises(SettingsFault, msg=new) as fault:
+                    self.read(place)
+                self.assertIn(said, str(fault.exception))
+                self.assertIn("store.ini", str(fault.exception))
+
+    def test_a_key_that_every_user_may_read_is_refused(self) -> None:
+        with Place() as place:
+            self.assertEqual(read_key(place.key_file), KEY)
+            place.write_key(0o640)
+            self.assertEqual(read_key(place.key_file), KEY)
+            place.write_key(0o604)
+            self.assertRaisesRegex(KeyFault, "every user may use it .mode 0604.", read_key, place.key_file)
+            for text in (KEY.upper(), KEY[:-1], f"{KEY}0", f"{KEY}\n", f" {KEY}"):
+                place.write_key(0o600, text)
+                self.assertRaisesRegex(KeyFault, "not 64 lower-case hexadecimal digits", read_key, place.key_file)
+
+    def test_a_folder_to_begin_with(self) -> None:
+        with Place() as place:
+            folder = place.path / "first"
+            self.assertEqual(self.daemon("--new", str(folder)), (0, f"store-daemon {folder}/store.ini\n", ""))
+            self.assertEqual(self.daemon("--check", f"{folder}/store.ini"), (0, f"{folder}/store.ini: 1 nodes, 1 admissions\n", ""))
+            modes = {path.name: path.stat().st_mode & 0o777 for path in (folder, *folder.iterdir())}
+            self.assertEqual(modes, {"first": 0o700, "store.ini": 0o600, "job1.key": 0o600})
+            status, said, fault = self.daemon("--new", str(folder))
+            self.assertEqual((status, said), (1, ""))
+            self.assertIn("File exists", fault)
+
+    def daemon(self, *words: str) -> Tuple[int, str, str]:
+        done = subprocess.run([sys.executable, DAEMON, *words], capture_output=True, text=True, check=False, env={"STORE_PROGRAM": PROGRAM})
+        return done.returncode, done.stdout, done.stderr
+
+
+if __name__ == "__main__":
+    unittest.main()
