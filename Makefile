@@ -4,7 +4,7 @@
 # that crate, on which most others stand, would wait until hardly anything else runs.
 CHECKS = $(shell awk -v most=$$(nproc) '/^MemAvailable/ { n = int($$2 / 4500000); print n < 1 ? 1 : n < most ? n : most }' /proc/meminfo)
 test:
-	diff -r -x pipeline.py examples crates/schedules/data/examples
+	diff -r -x '*.py' -x __pycache__ examples crates/schedules/data/examples
 	cmp examples/first.schedule crates/store_server/stdin
 	cmp examples/first.expected crates/store_server/stdout
 	cmp docs/rules/frames.vectors crates/schedules/data/frames/frames.vectors
@@ -36,7 +36,8 @@ faults:
 	    grep "^test result" crates/$$crate/faults.log; rm crates/$$crate/faults.log; \
 	done; done
 
-# The must-fail edits that the gate doesn't try, of crates that it would have to prove once more for them.
+# The must-fail edits that the gate doesn't try: what they turn is guarded by other clauses too, or their crate would have to be proved
+# once more for them (see tests/edits/README.md).
 edits:
 	tests/edits/try
 
@@ -56,10 +57,31 @@ soak: build
 client-test: build
 	python3 clients/python/tests/test_client.py
 
-# tests/sessions and the client's tests at the program that is there already, as the gate leaves it, with no new proof; and the tests
-# of pictures, which need none. This is what the gate's script runs after the gate.
+# All of the clients' tests at the program that is there, with numpy, mypy, gcc and whatever else they can use; what is missing is
+# said. It takes some minutes.
+client-check:
+	clients/check
+
+# tests/sessions, the client's tests and the daemon's at the program that is there already, as the gate leaves it, with no new proof;
+# and the tests of pictures, which need none. This is what the gate's script runs after the gate.
 try-built:
 	tests/built
+
+# The daemon that runs a server as a service, and storectl, at the program that is there.
+daemon-test:
+	operate/tests/all
+
+# A release of the program that is there: dist/store-VERSION-x86_64-linux.tar.gz. GATE=FILE has what the gate printed.
+dist:
+	operate/dist $(if $(GATE),--gate $(GATE))
+
+# That a release is the same each time, and serves from an empty folder.
+dist-check:
+	operate/dist-check
+
+# Shows the guarantee on a schedule: without its second job's lines the program answers the first job alike.
+show-guarantee:
+	bench/guarantee
 
 # Processes of two jobs that pass arrays along through a built program.
 pipeline: build
@@ -75,10 +97,12 @@ bench: build
 	bench/serve
 	bench/journal
 
-# Draws the example's picture from the journal that the plain model keeps of it.
+# Draws the picture of the parts, and the example's from the journal that the plain model keeps of it.
 picture:
+	bench/parts -o docs/pictures/parts.svg
 	cd tests && python3 -B -m model journal < ../docs/pictures/spilling.schedule > ../docs/pictures/spilling.log
 	bench/picture docs/pictures/spilling.log -o docs/pictures/spilling.svg
 	rm docs/pictures/spilling.log
 
-.PHONY: test check build run edits sessions attack soak client-test try-built pipeline model faults bench picture
+.PHONY: test check build run edits sessions attack soak client-test client-check try-built daemon-test dist dist-check show-guarantee pipeline \
+	model faults bench picture

@@ -28,8 +28,8 @@ const NEIGHBOUR: DeviceKey = DeviceKey {
     number: 1,
 };
 
-/// More bytes than a chunk has.
-const LONG: usize = 65_537;
+/// The longest object, of many chunks.
+const LONG: usize = 16_777_216;
 
 fn joined(alloc: Global, folder: &str, name: &str) -> Result<String, AllocError> {
     match format!(in alloc; "{folder}/{name}") {

@@ -7,7 +7,7 @@ use Rattle.private_store.specs.declared.inputs.Judged.{Judged}
 use Rattle.private_store.specs.Replay.{Brief, Line, IsReplayed, answers_due, brief_after, brief_step, replayed, unbegun_brief}
 use Rattle.journal_text.specs.declared.entry.Entry.{Entry}
 use Rattle.journal_text.specs.declared.entry.Version.{Version}
-use Rattle.journal_text.specs.declared.entry.JobAt.{JobAt}
+use Rattle.schedule_text.specs.declared.lines.JobAt.{JobAt}
 use Rattle.journal_replay.specs.declared.replay.Difference.{Difference}
 use Rattle.journal_replay.specs.Inputs.{judged_of, line_of}
 use Rattle.journal_replay.specs.Progress.{AddsEntry}

@@ -2,7 +2,7 @@
 use Rattle.std.proofs.Common.{◌≡◌, true, false, cond, List, [], Option, Some, None, refl, ap, ◌∙◌}
 use Rattle.std.specs.Prelude.{if◌then◌else◌, unwrap_or}
 use Rattle.std.specs.Map.{lookup}
-use Rattle.journal_text.specs.declared.entry.JobAt.{JobAt}
+use Rattle.schedule_text.specs.declared.lines.JobAt.{JobAt}
 use Rattle.journal_text.specs.Saved.{same_place}
 use Rattle.journal_replay.specs.States.{JobState, state_of}
 

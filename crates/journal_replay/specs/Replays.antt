@@ -7,7 +7,7 @@ use Rattle.private_store.specs.Replay.{Brief, Line, IsReplayed, brief_step, repl
 use Rattle.journal_text.specs.declared.entry.Address.{Address}
 use Rattle.journal_text.specs.declared.entry.Entry.{Entry}
 use Rattle.journal_text.specs.declared.entry.Version.{Version}
-use Rattle.journal_text.specs.declared.entry.JobAt.{JobAt}
+use Rattle.schedule_text.specs.declared.lines.JobAt.{JobAt}
 use Rattle.journal_text.specs.Reading.{answer_part}
 use Rattle.journal_text.specs.Saved.{place_of, same_place}
 use Rattle.journal_replay.specs.declared.replay.Difference.{Difference}

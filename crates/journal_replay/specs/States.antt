@@ -4,7 +4,7 @@ use Rattle.std.specs.Map.{lookup}
 use Rattle.private_store.specs.Replay.{Brief, unbegun_brief}
 use Rattle.journal_text.specs.declared.entry.Entry.{Entry}
 use Rattle.journal_text.specs.declared.entry.Version.{Version}
-use Rattle.journal_text.specs.declared.entry.JobAt.{JobAt}
+use Rattle.schedule_text.specs.declared.lines.JobAt.{JobAt}
 use Rattle.journal_replay.specs.declared.replay.Difference.{Difference}
 use Rattle.journal_text.specs.Saved.{same_place}
 use Rattle.journal_replay.specs.Replays.{IsFound, Read, entries_of, lines_of, store_of}

@@ -6,10 +6,10 @@ ghost use Rattle.journal_text.specs.Saved.{same_place};
 ghost use Rattle.journal_replay.specs.States.{state_of};
 
 use indexmap::IndexMap;
-use journal_text::JobAt;
 use obj_id::{JobNo, Reply};
 use plain_store::PlainStore;
 use private_store::Judged;
+use schedule_text::JobAt;
 use std::alloc::{AllocError, Global};
 use std::marker::Model;
 
@@ -72,7 +72,7 @@ pub(crate) struct Jobs {
 
 impl Model for Jobs {
     ghost use Rattle.std.specs.Prelude.{List};
-    ghost use Rattle.journal_text.specs.declared.entry.JobAt.{JobAt};
+    ghost use Rattle.schedule_text.specs.declared.lines.JobAt.{JobAt};
     ghost use Rattle.journal_replay.specs.States.{JobState};
 
     ghost Value = { List (JobAt × JobState) };

@@ -6,7 +6,7 @@ ghost use Rattle.journal_replay.specs.Replays.{IsUnlike};
 use crate::inputs::judged_of;
 use crate::jobs::Jobs;
 use crate::replies::same_reply;
-use journal_text::{Address, Entry, JobAt, Version, answer_of};
+use journal_text::{Address, Entry, Version, answer_of};
 use obj_id::Reply;
 use std::alloc::{AllocError, Global};
 
@@ -67,7 +67,7 @@ impl Replay {
             input,
             reply,
         } = entry;
-        let place = JobAt::of(address);
+        let place = address.place();
         if !is_next(address.number, self.jobs.last(place)) {
             return Ok(false);
         }

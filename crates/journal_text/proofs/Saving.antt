@@ -4,7 +4,7 @@ use Rattle.std.specs.Prelude.{nat_le, unwrap_or}
 use Rattle.std.specs.Map.{lookup}
 use Rattle.std.proofs.lemmas.Bool.Decides.{nat_tests}
 use Rattle.private_store.proofs.Tests.{false_true}
-use Rattle.journal_text.specs.declared.entry.JobAt.{JobAt}
+use Rattle.schedule_text.specs.declared.lines.JobAt.{JobAt}
 use Rattle.journal_text.specs.declared.saved.Counts.{Counts}
 use Rattle.journal_text.specs.declared.saved.Mark.{Mark}
 use Rattle.journal_text.proofs.SamePlaces.{same_place-equal}

@@ -4,6 +4,7 @@ ghost use Rattle.journal_text.specs.Saved.{place_of};
 
 use obj_id::{Command, Items, JobNo, Location, ObjectId, Quota, Reply};
 use private_store::{ChunkVerdict, WorkVerdict};
+use schedule_text::JobAt;
 
 /// The form of a saved journal: the number in its first line.
 #[derive(Clone, Copy, Debug, PartialEq, Eq)]
@@ -27,21 +28,14 @@ pub struct Address {
     pub number: u32,
 }
 
-/// A job at a node.
-#[derive(Clone, Copy, Debug, PartialEq, Eq, Hash)]
-pub struct JobAt {
-    pub node: u32,
-    pub job: JobNo,
-}
-
-impl JobAt {
-    /// The job at the node that a line is of.
-    pub fn of(address: Address) -> JobAt
-        ensures { result ≡ place_of address }
+impl Address {
+    /// The job at the node that the line is of.
+    pub fn place(self) -> JobAt
+        ensures { result ≡ place_of self }
     {
         JobAt {
-            node: address.node,
-            job: address.job,
+            node: self.node,
+            job: self.job,
         }
     }
 }

@@ -19,7 +19,7 @@ mod replies;
 mod saved;
 mod words;
 
-pub use entry::{Address, Entry, JobAt, LineInput, Version};
+pub use entry::{Address, Entry, LineInput, Version};
 pub use laws::a_written_line_is_read_back;
 pub use lines::{answer_of, read_head, read_line};
 pub use printing::{write_answer, write_line};

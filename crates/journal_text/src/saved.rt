@@ -3,10 +3,11 @@ ghost use Rattle.std.specs.Prelude.{◌≡◌, ◌<◌, ◌∷◌, List, [], tru
 ghost use Rattle.std.specs.String.{string_bytes};
 ghost use Rattle.journal_text.specs.Saved.{counted, counts_at, has_no_room, is_folded, line_text as line_text_lem, most_marks, saved_text, IsSaved};
 
-use crate::entry::{Address, Entry, JobAt, LineInput};
+use crate::entry::{Address, Entry, LineInput};
 use crate::printing::write_line;
 use indexmap::IndexMap;
 use obj_id::Reply;
+use schedule_text::JobAt;
 use std::alloc::{AllocError, Global};
 use std::marker::Model;
 

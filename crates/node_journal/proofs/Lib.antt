@@ -12,3 +12,4 @@ mod Bases
 mod Rooms
 mod Bisected
 mod Posting
+mod Receipts

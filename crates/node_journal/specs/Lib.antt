@@ -1,4 +1,5 @@
 pub mod Replies
 pub mod Journals
+pub mod Receipts
 pub mod Logs
 pub mod Posts

@@ -5,15 +5,19 @@ use crate::Kept;
 use std::sync::ledger::{Ledger, Share};
 use std::sync::{Arc, Mutex, Wait};
 
+/// The leave to lock what a keeper has. Only this crate makes one, so nobody else reaches a node through its keeper.
+#[derive(Clone, Copy)]
+pub struct Access(());
+
 /// What has a node with its journal behind a lock.
 pub trait Keeper<L: Ledger> {
     /// The node with its journal.
-    fn kept(&self) -> &Mutex<Kept<L>>;
+    fn kept(&self, access: Access) -> &Mutex<Kept<L>>;
 }
 
 impl<L: Ledger, K: Keeper<L>> Keeper<L> for Arc<K> {
-    fn kept(&self) -> &Mutex<Kept<L>> {
-        (**self).kept()
+    fn kept(&self, access: Access) -> &Mutex<Kept<L>> {
+        (**self).kept(access)
     }
 }
 
@@ -47,7 +51,7 @@ fn beside_from<L: Ledger, K: Keeper<L>, R: Wait>(
         seen.give(other, 0, 0);
         return;
     }
-    let mut locked = nodes[next].kept().lock(rt);
+    let mut locked = nodes[next].kept(Access(())).lock(rt);
     let kept = &mut *locked;
     kept.seat.give(seen, 1, 0);
     beside_from(rt, nodes, next + 1, seen, other);

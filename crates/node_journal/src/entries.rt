@@ -1,16 +1,14 @@
 //! What a journal keeps, and what a step gives of it.
 ghost use Rattle.std.specs.Prelude.{◌≡◌};
-ghost use Rattle.obj_id.specs.declared.commands.Reply.TheVariants as reply;
 ghost use Rattle.private_store.specs.declared.schedules.NodeEvent.TheVariants as node_event;
 ghost use Rattle.node_core.specs.Steps.{job_at};
 ghost use Rattle.node_journal.specs.Journals.{begins, entry_for, is_entry, same_entry, step_of};
 ghost use Rattle.node_journal.specs.Replies.{kept_reply};
 
-use crate::copies::copy_of;
 use bytes::Bytes;
 use node_core::{Node, Outcome};
-use obj_id::{Items, JobNo, Reply, Work};
-use private_store::{Event, Judged};
+use obj_id::{Items, JobNo, Reply};
+use private_store::{Event, Judged, brief_work};
 use std::alloc::Global;
 use std::marker::PhantomData;
 use std::sync::ledger::Ledger;
@@ -144,7 +142,7 @@ pub(crate) fn entry_of(alloc: Global, number: u64, outcome: &Outcome) -> Entry
 {
     Entry {
         number,
-        input: copy_of(&outcome.judged),
+        input: outcome.judged,
         reply: kept_reply_of(alloc, &outcome.reply),
     }
 }
@@ -163,23 +161,6 @@ fn kept_reply_of(alloc: Global, reply: &Reply<Bytes>) -> Reply<u64>
         Reply::Work(work) => Reply::Work(brief_work(work)),
         Reply::NoWork => Reply::NoWork,
         Reply::Refused(refusal) => Reply::Refused(*refusal),
-    }
-}
-
-/// The work with the number of its bytes.
-fn brief_work(work: &Work<Bytes>) -> Work<u64>
-    ensures { kept_reply (reply.Work work.now) ≡ reply.Work result }
-{
-    Work {
-        job: work.job,
-        number: work.number,
-        kind: work.kind,
-        key: work.key,
-        length: work.length,
-        payload: match &work.payload {
-            Some(bytes) => Some(bytes.len() as u64),
-            None => None,
-        },
     }
 }
 

@@ -21,6 +21,7 @@ ghost use Rattle.private_store.specs.Jobs.{same_job};
 ghost use Rattle.obj_id.specs.declared.messages.Arrival.{Arrival};
 ghost use Rattle.node_journal.specs.Journals.{entry_for, is_this, rise_above, Tells, AreNumbered, agreement, folded_if, journal_after, most_lines, is_call};
 
+use crate::entered::Entered;
 use crate::entries::{Agreement, Entry, Line, Receipt, entry_of, job_of};
 use crate::folding::{MOST_LINES, base_of, bases_of};
 use crate::logs::Logs;
@@ -245,9 +246,10 @@ impl<L: Ledger> Kept<L> {
         Ok(())
     }
 
-    /// The number of the job's next session, from 1, as `Node::enter` gives it. It makes no entry. Takes no memory.
-    pub fn enter(&mut self, job: JobNo, key: &JobKey) -> Result<u32, Refusal>
-        ensures session { IfOk result (λ session. session ≡ sessions_entered self.old.node.admissions job + 1) }
+    /// The job's next session, whose number, from 1, is as `Node::enter` gives it. It makes no entry. Takes no memory.
+    pub fn enter(&mut self, job: JobNo, key: &JobKey) -> Result<Entered<L>, Refusal>
+        ensures session { IfOk result (λ e. e.session ≡ sessions_entered self.old.node.admissions job + 1) }
+        ensures entered { IfOk result (λ e. (e.node ≡ self.old.number) × (e.job ≡ job) × (e.key ≡ key.now)) }
         ensures ok { OnOk result (self.new.node ≡ record self.old.node { admissions = entered self.old.node.admissions job }) }
         ensures passed { IsOk result → enter_check self.old.node.admissions job key.now ≡ None }
         ensures refusals { IfErr result (λ r. (r ≡ NotAdmitted) ⊎ (r ≡ TooMany)) }
@@ -258,12 +260,19 @@ impl<L: Ledger> Kept<L> {
         let Kept {
             alloc: _,
             node,
-            number: _,
+            number,
             logs: _,
             count: _,
             seat: _,
         } = self;
-        node.enter(job, key)
+        let session = node.enter(job, key)?;
+        Ok(Entered {
+            node: *number,
+            job,
+            key: *key,
+            session,
+            name: PhantomData,
+        })
     }
 
     /// The number of the node.

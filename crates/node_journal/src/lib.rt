@@ -3,14 +3,16 @@
 #![tactic(auto)]
 
 mod beside;
-mod copies;
+mod entered;
 mod entries;
 mod folding;
 mod kept;
+pub mod laws;
 mod logs;
 mod posts;
 
-pub use beside::{Keeper, nothing_beside};
+pub use beside::{Access, Keeper, nothing_beside};
+pub use entered::Entered;
 pub use entries::{Agreement, Entry, Line, Receipt};
 pub use folding::MOST_LINES;
 pub use kept::Kept;

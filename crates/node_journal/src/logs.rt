@@ -10,7 +10,6 @@ ghost use Rattle.node_core.specs.Outcomes.{inputs_noted};
 ghost use Rattle.node_journal.specs.Journals.{notes_for, begins, fresh, folded_if, last_of, base_after, with_lines};
 ghost use Rattle.node_journal.specs.Logs.{journal_of, list_of, spare_of, AreBases, has_base, was_kept as was_kept_lem};
 
-use crate::copies::copy_of_judged;
 use crate::entries::Line;
 use crate::folding::Base;
 use indexmap::IndexMap;
@@ -212,7 +211,7 @@ impl Logs {
         ensures { (other : ℕ) → journal_of self.new other ≡ with_lines (journal_of self.old other) (notes_for number (inputs_noted notes.now) other) }
     {
         for note in notes {
-            self.add(note.job, Line::Note(number, copy_of_judged(&note.input)));
+            self.add(note.job, Line::Note(number, note.input));
         }
     }
 

@@ -16,13 +16,11 @@ ghost use Rattle.node_table.specs.Checks.{visible_state, copy_check};
 ghost use Rattle.node_table.specs.Outcomes.{given_of};
 ghost use Rattle.node_table.specs.Row.{beside_of};
 ghost use Rattle.node_table.specs.Shown.{IsShown, TakesStep};
-ghost use Rattle.private_store.specs.Commands.{refusal_of as refusal_of_lem};
 
 use crate::get_command::told;
 use crate::outcome::Outcome;
 use crate::row::JobRow;
 use obj_id::{ObjectId, Refusal};
-use private_store::Fault;
 use spill_work::Works;
 use std::alloc::Global;
 
@@ -51,19 +49,9 @@ impl JobRow {
         match self.copies().fault(id) {
             Some(fault) => {
                 self.forget_fault(id);
-                told(alloc, refusal_of(fault))
+                told(alloc, fault.refusal())
             }
             None => self.restore(alloc, node, works, id),
         }
-    }
-}
-
-/// What is told of a fault.
-fn refusal_of(fault: Fault) -> Refusal
-    ensures { result ≡ refusal_of_lem fault }
-{
-    match fault {
-        Fault::DeviceFailed => Refusal::DeviceFailed,
-        Fault::Damaged => Refusal::Damaged,
     }
 }

@@ -18,7 +18,6 @@ ghost use Rattle.node_table.specs.Row.{Beside, beside_of};
 ghost use Rattle.node_table.specs.Shown.{IsShown, TakesStep};
 ghost use Rattle.obj_id.specs.declared.messages.PeerMessage.TheVariants.{Pull};
 ghost use Rattle.private_store.specs.Shape.{sized, pulling, failed};
-ghost use Rattle.private_store.specs.Commands.{fetch_refusal};
 ghost use Rattle.private_store.specs.Contents.{no_digest};
 ghost use Rattle.private_store.specs.Private.{to_peer};
 ghost use Rattle.fetch_core.specs.Fetching.{missing_of};
@@ -111,17 +110,7 @@ impl JobRow {
         ensures silent { result.messages ≡ [] }
     {
         self.drop_copy(id);
-        Outcome::only(alloc, Reply::Refused(refusal_of(fault)))
-    }
-}
-
-/// What is told of a fetch that failed.
-fn refusal_of(fault: FetchFault) -> Refusal
-    ensures { result ≡ fetch_refusal fault }
-{
-    match fault {
-        FetchFault::Absent => Refusal::Absent,
-        FetchFault::Damaged => Refusal::Damaged,
+        Outcome::only(alloc, Reply::Refused(fault.refusal()))
     }
 }
 

@@ -31,7 +31,7 @@ pub(crate) fn taken(rt: &impl Abort, node: &mut Node, event: &Event) -> Result<O
 }
 
 /// Gives the node an event that it doesn't refuse.
-fn accepted(rt: &impl Abort, node: &mut Node, event: &Event) -> Result<(), Refusal> {
+pub(crate) fn accepted(rt: &impl Abort, node: &mut Node, event: &Event) -> Result<(), Refusal> {
     let outcome = taken(rt, node, event)?;
     holds!(rt; !matches!(outcome.reply, Reply::Refused(_)));
     Ok(())

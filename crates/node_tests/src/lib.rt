@@ -11,4 +11,6 @@ mod foreseen;
 #[cfg(test)]
 mod lines;
 #[cfg(test)]
+mod restoring;
+#[cfg(test)]
 mod steps;

@@ -39,7 +39,7 @@ pub enum CopyState {
 
 /// A command of a session. `P` stands for written bytes: the bytes themselves, or their number.
 /// Offsets, lengths and counts are in bytes.
-#[derive(Debug, PartialEq, Eq, Drop)]
+#[derive(Clone, Copy, Debug, PartialEq, Eq, Drop)]
 pub enum Command<P> {
     /// A copy of this kind and length, to be written.
     Create(ObjectId, Kind, u32),

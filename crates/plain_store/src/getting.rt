@@ -8,14 +8,13 @@ ghost use Rattle.private_store.specs.Shape.{Copy};
 ghost use Rattle.private_store.specs.Copies.{is_sealed};
 ghost use Rattle.private_store.specs.Events.{is_live};
 ghost use Rattle.private_store.specs.Change.{needing};
-ghost use Rattle.private_store.specs.Commands.{holds_of, fetched_copy as fetched_copy_lem, begin_fetch, get_sealed, get_away, get, refusal_of as refusal_of_lem};
+ghost use Rattle.private_store.specs.Commands.{holds_of, fetched_copy as fetched_copy_lem, begin_fetch, get_sealed, get_away, get};
 ghost use Rattle.plain_store.specs.Checks.{fault_forgotten, held_more};
 
 use crate::copies::{FetchPhase, PlainCopy, PlainFetch};
 use crate::store::PlainStore;
 use crate::told::Told;
 use obj_id::{CopyState, Kind, ObjectId, Refusal, Reply};
-use private_store::Fault;
 use std::alloc::{AllocError, Global};
 
 impl PlainStore {
@@ -106,7 +105,7 @@ impl PlainStore {
         match copy.fault {
             Some(fault) => {
                 self.forget_fault(id);
-                Ok(Told::refused(refusal_of(fault)))
+                Ok(Told::refused(fault.refusal()))
             }
             None => self.restore(alloc, id),
         }
@@ -165,15 +164,5 @@ fn fetched_copy(alloc: Global, number: u64) -> PlainCopy
             number,
             phase: FetchPhase::Locating,
         }),
-    }
-}
-
-/// The refusal that answers a fault.
-fn refusal_of(fault: Fault) -> Refusal
-    ensures { result ≡ refusal_of_lem fault }
-{
-    match fault {
-        Fault::DeviceFailed => Refusal::DeviceFailed,
-        Fault::Damaged => Refusal::Damaged,
     }
 }

@@ -30,7 +30,7 @@ pub enum Input {
 
 /// An input without its contents, as a saved journal has it: what was judged by comparing bytes
 /// stands in one word, and bytes stand as their number.
-#[derive(Debug, PartialEq, Eq, Drop)]
+#[derive(Clone, Copy, Debug, PartialEq, Eq)]
 pub enum Judged {
     Begin(Quota),
     Requota(Quota),

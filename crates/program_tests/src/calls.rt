@@ -5,6 +5,8 @@ use assertions::{holds, same};
 use bytes::Bytes;
 use node_journal::Receipt;
 use obj_id::{Command, JobKey, JobNo, Kind, ObjectId, Quota, Refusal, Reply, TaskNo};
+use private_store::StepAnswer;
+use schedule_text::answer_text;
 use session_engine::Gate;
 use session_threads::{Cluster, Session, SharedNode};
 use std::alloc::{AllocError, Global};
@@ -13,18 +15,33 @@ use std::process::Abort;
 use std::sync::Wait;
 use std::sync::ledger::{Blank, Ledger};
 use std::test::Fail;
+use std::thread::Threads;
 use std::time::Clock;
 
-const JOB: JobNo = JobNo(1);
+pub(crate) const JOB: JobNo = JobNo(1);
 
 const QUOTA: Quota = Quota {
     window: 64,
     device: 0,
 };
 
-const TOLD: &str = "Placed(0, 32) Ok Ok Got(20) ";
+/// What lies in the window, and nothing on the device.
+const NARROW: Quota = Quota {
+    window: 32,
+    device: 0,
+};
 
-/// The commands of an object that is created, filled, sealed and held.
+/// The answers to the commands, in order.
+const TOLD: &str = "\
+placed 0 32
+ok
+ok
+got 20
+bytes 48656c6c6f000000000000000000000000000000
+ok
+";
+
+/// The commands of an object that is created, filled, sealed, held, read and released.
 fn command(alloc: Global, id: ObjectId, turn: u64) -> Result<Command<Bytes>, AllocError> {
     match turn {
         0 => Ok(Command::Create(id, Kind::Primary, 20)),
@@ -33,7 +50,9 @@ fn command(alloc: Global, id: ObjectId, turn: u64) -> Result<Command<Bytes>, All
             Ok(Command::Write(id, 0, Bytes::from_vec(hello)?))
         }
         2 => Ok(Command::Seal(id)),
-        _ => Ok(Command::Get(id)),
+        3 => Ok(Command::Get(id)),
+        4 => Ok(Command::Read(id, 0, 20)),
+        _ => Ok(Command::Release(id)),
     }
 }
 
@@ -61,9 +80,11 @@ fn call_all<L: Ledger, R: Wait + Abort>(
 ) -> Result<Option<Receipt<L>>, AllocError> {
     let mut last = None;
     let mut told = String::new(alloc);
-    for turn in 0..4u64 {
+    for turn in 0..6u64 {
         let (reply, receipt) = called(rt, alloc, node, id, turn)?;
-        told.push_str(format!(in alloc; "{reply:?} ")?.as_str())?;
+        let text = answer_text(alloc, JOB, &StepAnswer::Told(reply))?;
+        told.push_str(text.as_str())?;
+        told.push_str("\n")?;
         let named = receipt.as_ref().map(|receipt| (
             receipt.node(),
             receipt.job(),
@@ -86,7 +107,7 @@ fn call_later<L: Ledger, R: Wait + Abort>(rt: &R, cluster: &Cluster<L>, earlier:
     if let Some(node) = cluster.node(0) {
         let (reply, receipt) = node.call_after(rt, earlier, JOB, 1, Command::Usage);
         holds!(rt; is_used(&reply, 32));
-        same!(rt; receipt.map(|receipt| receipt.number()), Some(6));
+        same!(rt; receipt.map(|receipt| receipt.number()), Some(8));
     }
     // another node's journal says No of it
     if let Some(node) = cluster.node(1) {
@@ -97,22 +118,82 @@ fn call_later<L: Ledger, R: Wait + Abort>(rt: &R, cluster: &Cluster<L>, earlier:
 }
 
 /// Admits the job, and once more if memory ran out.
-fn admit<L: Ledger, R: Wait>(rt: &R, node: &SharedNode<L>) {
+pub(crate) fn admit<L: Ledger, R: Wait>(rt: &R, node: &SharedNode<L>) {
     let (reply, _) = node.admit(rt, JOB, QUOTA, JobKey([0; 32]));
     if matches!(&reply, Reply::Refused(Refusal::NoMemory)) {
         node.admit(rt, JOB, QUOTA, JobKey([0; 32]));
     }
 }
 
+/// Narrows the job's window, and once more if memory ran out.
+fn narrow<L: Ledger, R: Wait>(rt: &R, node: &SharedNode<L>) -> Reply<Bytes> {
+    let (reply, _) = node.requota(rt, JOB, NARROW);
+    if matches!(&reply, Reply::Refused(Refusal::NoMemory)) {
+        return node.requota(rt, JOB, NARROW).0;
+    }
+    reply
+}
+
 /// Ends the job, and once more if memory ran out.
-fn end<L: Ledger, R: Wait>(rt: &R, node: &SharedNode<L>) {
+fn end<L: Ledger, R: Wait>(rt: &R, node: &SharedNode<L>) -> Reply<Bytes> {
     let (reply, _) = node.end_job(rt, JOB);
     if matches!(&reply, Reply::Refused(Refusal::NoMemory)) {
-        node.end_job(rt, JOB);
+        return node.end_job(rt, JOB).0;
+    }
+    reply
+}
+
+/// Narrows the job's window to what lies in it, and ends the job: neither is refused.
+fn narrow_and_end<L: Ledger, R: Wait + Abort>(rt: &R, node: &SharedNode<L>) {
+    holds!(rt; matches!(narrow(rt, node), Reply::Ok));
+    holds!(rt; matches!(end(rt, node), Reply::Ok));
+}
+
+/// Six commands of a direct caller, and one admission by the cluster, whose receipt alone it gathers.
+fn try_six<L: Ledger, R: Threads + Wait + Abort>(
+    rt: &R,
+    alloc: Global,
+    blank: Blank,
+) -> Result<(), AllocError>
+    requires name { blank.name ≡ L.name }
+    requires parts { blank.parts ≡ L.parts }
+    requires one { blank.parts ≡ 1 }
+{
+    let id = ObjectId::new(TaskNo([0; 20]), JOB, 1).expect(rt, "an id");
+    let (_book, seats) = blank.open::<L>();
+    let cluster = Cluster::start(alloc, 1, 1024, seats)?;
+    let node = cluster.node(0).expect(rt, "a node");
+    admit(rt, node);
+    call_all(rt, alloc, node, id)?;
+    let report = cluster.close(rt, Vec::new(alloc));
+    same!(rt; (report.entries, report.receipts, report.disagreeing), (7, 1, 0));
+    same!(rt; report.erase_failures, 0);
+    // what Seal tells the directory, if memory runs out there
+    holds!(rt; report.lost <= 1);
+    Ok(())
+}
+
+fn try_direct_calls<R: Threads + Wait + Abort>(rt: &R, alloc: Global) -> Result<(), AllocError> {
+    let blank = Blank::new(1);
+    try_six::<Brand, R>(rt, alloc, blank)
+}
+
+/// Tried once more if memory ran out before the node was there.
+#[test]
+fn receipts_of_direct_callers_are_not_gathered(rt: HostRuntime) -> Result<(), Fail> {
+    match try_direct_calls(&rt, rt.alloc()) {
+        Ok(()) => Ok(()),
+        Err(_) => Ok(try_direct_calls(&rt, rt.alloc())?),
     }
 }
 
-fn try_cluster<L: Ledger, R: Wait + Abort>(
+/// A receipt of node 0 is shown to node 1, whose journal says No of it.
+fn show_to_another<L: Ledger, R: Wait + Abort>(rt: &R, cluster: &Cluster<L>, receipt: &Receipt<L>) {
+    let node = cluster.node(1).expect(rt, "a node");
+    node.check(rt, receipt);
+}
+
+fn try_cluster<L: Ledger, R: Threads + Wait + Abort>(
     rt: &R,
     alloc: Global,
     blank: Blank,
@@ -127,14 +208,19 @@ fn try_cluster<L: Ledger, R: Wait + Abort>(
     let node = cluster.node(0).expect(rt, "a node");
     admit(rt, node);
     let last = call_all(rt, alloc, node, id)?;
-    call_later(rt, &cluster, &last.expect(rt, "a receipt"));
-    end(rt, node);
-    let report = cluster.report(rt);
-    same!(rt; (report.entries, report.disagreeing, report.lost), (7, 0, 0));
+    let last = last.expect(rt, "a receipt");
+    call_later(rt, &cluster, &last);
+    show_to_another(rt, &cluster, &last);
+    narrow_and_end(rt, node);
+    // the operator's three orders, and the receipt that was shown to another node
+    let report = cluster.close(rt, Vec::new(alloc));
+    same!(rt; (report.entries, report.receipts), (10, 4));
+    same!(rt; (report.disagreeing, report.lost), (1, 0));
+    same!(rt; report.erase_failures, 0);
     Ok(())
 }
 
-fn try_calls<R: Wait + Abort>(rt: &R, alloc: Global) -> Result<(), AllocError> {
+fn try_calls<R: Threads + Wait + Abort>(rt: &R, alloc: Global) -> Result<(), AllocError> {
     let blank = Blank::new(2);
     try_cluster::<Brand, R>(rt, alloc, blank)
 }
@@ -170,17 +256,17 @@ fn get_or_release(id: ObjectId, is_get: bool) -> Command<Bytes> {
     }
 }
 
-/// The session that holds the object ends: the hold is gone at the next step. Then it is held again.
-fn leave_and_hold<L: Ledger, R: Wait + Clock + Abort>(rt: &R, node: &SharedNode<L>, id: ObjectId) {
+/// The session holds the object and ends: the hold is gone at the next step.
+fn hold_and_leave<L: Ledger, R: Wait + Clock + Abort>(rt: &R, node: &SharedNode<L>, id: ObjectId) {
+    let reply = called_again(rt, node, id, true);
+    holds!(rt; matches!(&reply, Reply::Got(20)));
     Session::new(rt, node).leave(JOB, 1);
     let reply = called_again(rt, node, id, false);
     holds!(rt; matches!(&reply, Reply::Refused(Refusal::NotHeld)));
-    let reply = called_again(rt, node, id, true);
-    holds!(rt; matches!(&reply, Reply::Got(20)));
 }
 
 /// Each Leave is made once: at once, or before the next step if memory ran out, as it may if the journal's list has to grow.
-fn try_leaving<L: Ledger, R: Wait + Clock + Abort>(
+fn try_leaving<L: Ledger, R: Threads + Wait + Clock + Abort>(
     rt: &R,
     alloc: Global,
     blank: Blank,
@@ -196,17 +282,17 @@ fn try_leaving<L: Ledger, R: Wait + Clock + Abort>(
     admit(rt, node);
     call_all(rt, alloc, node, id)?;
     for _ in 0..4u32 {
-        leave_and_hold(rt, node, id);
+        hold_and_leave(rt, node, id);
     }
     end(rt, node);
-    let report = cluster.report(rt);
-    same!(rt; (report.entries, report.disagreeing), (18, 0));
+    let report = cluster.close(rt, Vec::new(alloc));
+    same!(rt; (report.entries, report.disagreeing), (20, 0));
     // what Seal tells the directory, if memory runs out there
     holds!(rt; report.lost <= 1);
     Ok(())
 }
 
-fn try_session<R: Wait + Clock + Abort>(rt: &R, alloc: Global) -> Result<(), AllocError> {
+fn try_session<R: Threads + Wait + Clock + Abort>(rt: &R, alloc: Global) -> Result<(), AllocError> {
     let blank = Blank::new(1);
     try_leaving::<Brand, R>(rt, alloc, blank)
 }

@@ -12,10 +12,10 @@ use private_store::{Event, Step};
 use std::alloc::{AllocError, Global};
 
 /// A job at a node.
-#[derive(Clone, Copy, Debug, PartialEq, Eq)]
-struct JobAt {
-    node: u32,
-    job: JobNo,
+#[derive(Clone, Copy, Debug, PartialEq, Eq, Hash)]
+pub struct JobAt {
+    pub node: u32,
+    pub job: JobNo,
 }
 
 /// A session of a job at a node.

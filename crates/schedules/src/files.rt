@@ -1,4 +1,5 @@
 //! The files of worked schedules, journals and frames.
+use crate::repeated::written_out;
 use schedule_text::is_skipped;
 use std::alloc::{AllocError, Global};
 use std::{fs, io};
@@ -32,8 +33,8 @@ impl Case {
         };
         Ok(Case {
             words,
-            text,
-            expected,
+            text: written_out(alloc, text)?,
+            expected: written_out(alloc, expected)?,
         })
     }
 }

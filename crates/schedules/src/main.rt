@@ -4,13 +4,15 @@
 //!
 //! Beside `NAME.schedule` or `NAME.journal` lies `NAME.expected`: what is printed, then the status if it isn't 0, after the
 //! line of a fault. If there is a `NAME.args`, it has the words of the command line, one a line; otherwise the word is
-//! `run`, or `replay` of a journal. A line of `NAME.vectors` is a frame's digits, a space, and what the frame says.
+//! `run`, or `replay` of a journal. A line that comes many times may stand once in these, as `*TIMES FIRST TEXT`. A line of
+//! `NAME.vectors` is a frame's digits, a space, and what the frame says.
 #![tactic(auto)]
 
 mod commands;
 mod compare;
 mod digits;
 mod files;
+mod repeated;
 mod replies;
 mod transcript;
 mod vectors;

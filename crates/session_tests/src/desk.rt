@@ -14,6 +14,9 @@ const KEY: JobKey = JobKey([0; 32]);
 /// The number of each session.
 const SESSION: u32 = 7;
 
+/// What is read of any object.
+pub const PAGE: [u8; 2000] = [7; 2000];
+
 /// A gate that lets sessions into job 1, and keeps the length of the object that was made last. It
 /// promises nothing: tests look at what it counted.
 #[derive(Drop)]
@@ -61,6 +64,7 @@ impl Desk {
             Command::Create(_, _, length) => self.make(*length),
             Command::Seal(_) => Reply::Ok,
             Command::Get(_) => Reply::Got(self.length),
+            Command::Read(..) => Reply::Bytes(Bytes::from_static(&PAGE)),
             Command::Leave => Reply::Ok,
             _ => Reply::Refused(Refusal::Absent),
         }

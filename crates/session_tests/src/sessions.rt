@@ -1,5 +1,5 @@
 //! Sessions over memory.
-use crate::desk::Desk;
+use crate::desk::{Desk, PAGE};
 use assertions::{holds, same};
 use hex::FromHexError;
 use session_engine::{Ended, FaultyStream, SessionFault, serve};
@@ -35,6 +35,10 @@ const GET_WAIT: &str = "0000001d130000000000000000000000000000000000000001000000
 const CREATE_WAIT: &str =
     "0000002214000000000000000000000000000000000000000100000001000000010000000014";
 
+/// Of 2,000 bytes.
+const READ: &str =
+    "00000025060000000000000000000000000000000000000001000000010000000100000000000007d0";
+
 const LEAVE: &str = "0000000112";
 
 const NO_KIND: &str = "0000000115";
@@ -50,6 +54,9 @@ const NOT_ADMITTED: &str = "000000028f01";
 const BAD_ID: &str = "000000028f02";
 
 const EXISTS: &str = "000000028f03";
+
+/// What comes before the 2,000 bytes.
+const BYTES: &str = "000007d183";
 
 const MALFORMED: &str = "000000028f14";
 
@@ -86,7 +93,7 @@ impl<R: Read> Read for Drip<R> {
 }
 
 /// More bytes than any session here is answered.
-const ROOM: usize = 64;
+const ROOM: usize = 4_096;
 
 /// How a session's input comes, and which of its calls fail: 0 is none.
 #[derive(Clone, Copy)]
@@ -348,28 +355,58 @@ fn each_read_fails_in_turn(rt: HostRuntime) -> Result<(), Fail> {
     Ok(())
 }
 
-#[test]
-fn each_write_fails_in_turn(rt: HostRuntime) -> Result<(), Fail> {
-    let alloc = rt.alloc();
-    let input = worked_session(alloc)?;
-    let whole = worked_answers(alloc)?;
-    // each answer is one write
-    for (turn, written) in [(1, 0), (2, 5), (3, 18), (4, 23)] {
+/// The session's writes fail in turn, and then none does. Each answer is one write: of each that fails, how many bytes were written
+/// before it.
+fn fail_writes(
+    rt: &impl Abort,
+    alloc: Global,
+    input: &[u8],
+    whole: &[u8],
+    writes: &[(u64, usize)],
+) -> Result<(), AllocError> {
+    for (turn, written) in writes {
         let way = Way {
-            failing_write: turn,
+            failing_write: *turn,
             ..PLAIN
         };
-        let session = served(&rt, alloc, &input, way, &whole)?;
+        let session = served(rt, alloc, input, way, whole)?;
         assert_eq!(rt; session.outcome, Err(SessionFault::Write), "write {turn}");
-        assert_eq!(rt; session.outbox.written.len(), written, "write {turn}");
+        assert_eq!(rt; session.outbox.written.len(), *written, "write {turn}");
         assert_eq!(rt; session.desk.leaves, 1, "write {turn}");
     }
     let way = Way {
-        failing_write: 5,
+        failing_write: writes.len() as u64 + 1,
         ..PLAIN
     };
-    let session = served(&rt, alloc, &input, way, &whole)?;
+    let session = served(rt, alloc, input, way, whole)?;
     same!(rt; session.outcome, Ok(Ended::Clean));
+    same!(rt; session.outbox.written.as_slice(), whole);
+    Ok(())
+}
+
+#[test]
+fn each_write_fails_in_turn(rt: HostRuntime) -> Result<(), Fail> {
+    let input = worked_session(rt.alloc())?;
+    let whole = worked_answers(rt.alloc())?;
+    let writes = [(1, 0), (2, 5), (3, 18), (4, 23)];
+    fail_writes(&rt, rt.alloc(), &input, &whole, &writes)?;
+    Ok(())
+}
+
+/// The answers to a Hello and a Read.
+fn long_answers(alloc: Global) -> Result<Vec<u8>, FromHexError> {
+    let mut whole = bytes_of(alloc, &[OK, BYTES])?;
+    if whole.extend_from_slice(&PAGE).is_err() {
+        whole.extend_from_slice(&PAGE)?;
+    }
+    Ok(whole)
+}
+
+#[test]
+fn a_long_answer_comes_whole_or_not_at_all(rt: HostRuntime) -> Result<(), Fail> {
+    let input = bytes_of(rt.alloc(), &[HELLO, READ])?;
+    let whole = long_answers(rt.alloc())?;
+    fail_writes(&rt, rt.alloc(), &input, &whole, &[(1, 0), (2, 5)])?;
     Ok(())
 }
 

@@ -1,3 +1,4 @@
 pub mod Witnesses
 pub mod DeviceCalls
 pub mod Gathering
+pub mod Stepping

@@ -1,11 +1,13 @@
 -- What a receipt says of an answer, and what a session's gate promises of its answers.
-use Rattle.std.specs.Prelude.{◌≡◌, ℕ, ◌⊎◌, List, Option, Some, IsSomeAnd, ⊤}
+use Rattle.std.specs.Prelude.{◌≡◌, ℕ, ◌⊎◌, true, List, Option, Some, IsSomeAnd, ⊤}
 use Rattle.obj_id.specs.declared.ids.JobNo.{JobNo}
 use Rattle.obj_id.specs.declared.commands.Command.{Command}
 use Rattle.obj_id.specs.declared.commands.Command.TheVariants as command
 use Rattle.obj_id.specs.declared.commands.Reply.{Reply}
 use Rattle.obj_id.specs.declared.commands.Reply.TheVariants as reply
+use Rattle.obj_id.specs.declared.messages.Arrival.{Arrival}
 use Rattle.obj_id.specs.declared.refusals.Refusal.TheVariants.{NoMemory}
+use Rattle.obj_id.specs.declared.works.JobKey.{JobKey}
 use Rattle.private_store.specs.declared.frames.Awaited.{Awaited}
 use Rattle.private_store.specs.declared.frames.Awaited.TheVariants as awaited
 use Rattle.private_store.specs.declared.inputs.Judged.TheVariants as judged
@@ -14,8 +16,9 @@ use Rattle.private_store.specs.declared.schedules.Event.TheVariants as event
 use Rattle.private_store.specs.Contents.{brief}
 use Rattle.node_core.specs.Steps.{job_of_event}
 use Rattle.node_journal.specs.declared.entries.Entry.{Entry}
+use Rattle.node_journal.specs.Posts.{is_entered}
 use Rattle.node_journal.specs.Replies.{kept_reply}
-use Rattle.session_engine.specs.Calls.{Asked, to_call, to_wait, to_leave, Answered, replied, left}
+use Rattle.session_engine.specs.Calls.{Asked, to_enter, to_call, to_wait, to_leave, Answered, entered, replied, left}
 
 -- what a receipt tells of its entry: the job under which it is kept, and the entry
 pub record Witness : Type 0 where
@@ -32,6 +35,13 @@ pub record IsCalled (job : JobNo) (session : ℕ) (c : Command (List ℕ)) (told
   pub of_job : witness.job ≡ job
   pub input : witness.entry.input ≡ Some (judged.Call session (brief c))
   pub answer : witness.entry.reply ≡ kept_reply told
+
+-- the entry is of this message of the job
+pub record IsArrived (job : JobNo) (a : Arrival) (witness : Witness) : Type 0 where
+  pub of_job : witness.job ≡ job
+  pub told : Reply (List ℕ)
+  pub answer : witness.entry.reply ≡ kept_reply told
+  pub input : is_entered a told witness.entry.input ≡ true
 
 -- the command that is tried again
 abbrev pub tried : Awaited → Command (List ℕ)
@@ -50,6 +60,17 @@ pub record IsLast (job : JobNo) (session : ℕ) (witness : Witness) : Type 0 whe
 -- the last receipt is of the Leave, or the session is left later and it is the one from before
 abbrev pub IsLeft : JobNo → ℕ → Option Witness → Option Witness → Type 0
 IsLeft job session before last = IsSomeAnd last (IsLast job session) ⊎ (last ≡ before)
+
+-- what a node let in: a job, the key that was shown, and the number of the session
+pub record Pass : Type 0 where
+  pub job : JobNo
+  pub key : JobKey
+  pub session : ℕ
+
+-- the session that entered is the last that was let in, with this job, key and number
+abbrev pub IsLetIn : Asked → Answered → Option Pass → Type 0
+IsLetIn (to_enter job key) (entered number) pass = pass ≡ Some (record { job = job; key = key; session = number })
+IsLetIn _ _ pass = ⊤
 
 abbrev pub IsWitnessed : Asked → Answered → Option Witness → Option Witness → Type 0
 IsWitnessed (to_call job session c) (replied told) before last = IsStepped job session c told last

@@ -2,10 +2,10 @@
 ghost use Rattle.std.specs.Prelude.{◌≡◌, ◌↔◌, ◌≤◌, ◌<◌, vec_len, IfOk, IsSome};
 ghost use Rattle.job_admission.specs.Admissions.{largest_memory};
 
-use crate::SharedNode;
 use crate::posting::{WayIn, Ways, receive};
 use crate::tally::Tally;
 use crate::waiting::Waiting;
+use crate::{SharedNode, Working};
 use node_journal::nothing_beside;
 use owner_directory::Directory;
 use std::alloc::{AllocError, Global};
@@ -19,9 +19,10 @@ use std::{io, mem};
 pub struct Report {
     /// Entries of the journals.
     pub entries: u64,
-    /// Receipts that the operator and the sessions were given.
+    /// Receipts that the cluster's own actors gathered, each looked for in its node's journal: those of sessions, workers and links,
+    /// and of the operator's orders; and those that were handed to `SharedNode::check`. Not those that direct callers of a node keep.
     pub receipts: u64,
-    /// Those of them that were looked for and that their node's journal doesn't have: 0 in a right run.
+    /// Those of them that their node's journal doesn't have: 0 in a right run.
     pub disagreeing: u64,
     /// Messages that didn't come to the place that they were sent to: a link was full or closed, or there was no memory.
     pub lost: u64,
@@ -113,7 +114,7 @@ impl<L: Ledger> Cluster<L> {
     }
 
     /// Closes the links, and waits for what was accepted to be received. What is sent from then on is lost.
-    pub fn disconnect<R: Threads + Wait>(&mut self, rt: &R) {
+    fn disconnect<R: Threads + Wait>(&mut self, rt: &R) {
         for node in &self.nodes {
             node.ways.close(rt);
         }
@@ -151,11 +152,25 @@ impl<L: Ledger> Cluster<L> {
         self.waiting.shut(rt);
     }
 
-    /// Waits for the open sessions to end, and says what was counted.
-    pub fn report<R: Wait>(&self, rt: &R) -> Report {
+    /// Shuts all nodes, and waits for the open sessions, then for the links, and then for these workers: so what a session sent last
+    /// still arrives, and what an arrival leaves to be erased still is. At last it says what was counted.
+    pub fn close<R: Threads + Wait>(self, rt: &R, workers: Vec<Working<L>>) -> Report {
+        let mut cluster = self;
+        cluster.shut(rt);
+        for node in &cluster.nodes {
+            node.end_sessions(rt);
+        }
+        cluster.disconnect(rt);
+        for worker in workers {
+            worker.end(rt);
+        }
+        cluster.report(rt)
+    }
+
+    /// What was counted.
+    fn report<R: Wait>(&self, rt: &R) -> Report {
         let mut report = Report::new();
         for node in &self.nodes {
-            node.end_sessions(rt);
             report.count(node.entries(rt), node.upkeep.counted(rt));
         }
         report

@@ -81,14 +81,14 @@ impl<L: Ledger> Gathered<L> {
     }
 }
 
-/// Looks for the entries of receipts, and counts those that the journal says aren't there.
+/// Looks for the entries of receipts, and counts them and those that the journal says aren't there.
 pub(crate) fn look_for<L: Ledger, R: Wait>(
     rt: &R,
     kept: &Kept<L>,
     tallies: &Tallies,
     receipts: &[Receipt<L>],
 ) {
-    tallies.disagreeing(rt, count_missing(kept, receipts));
+    tallies.looked_for(rt, receipts.len() as u64, count_missing(kept, receipts));
 }
 
 /// Of how many of the receipts the journal says that the entry isn't there. One that was folded isn't counted.

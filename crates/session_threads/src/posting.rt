@@ -1,7 +1,6 @@
 //! The ways out of a node: what a step sends is handed over once the node's lock is left.
 use crate::SharedNode;
 use crate::gathered::Gathered;
-use crate::stepping::Stepped;
 use fetch_link::{LinkReceiver, LinkSender, Sent, open};
 use node_journal::{Mail, Posted};
 use obj_id::{Message, PeerMessage, Place};
@@ -120,30 +119,16 @@ impl<L: Ledger> SharedNode<L> {
         }
     }
 
-    /// A message of a link arrives, and what its step sends is handed over, or it is lost.
+    /// A message of a link arrives, and its receipt is gathered, or it is lost, as it is without room for the receipt.
     fn receive_one<R: Wait>(&self, rt: &R, posted: Posted<L>, gathered: &mut Gathered<L>) {
-        match self.arrive_gathering(rt, posted, gathered) {
-            None => self.upkeep.tallies.lost(rt, 1),
-            Some(mail) => {
-                self.post(rt, mail);
-            }
-        }
-    }
-
-    /// A message of a link arrives, and its receipt is gathered: what its step sends. None if it is lost, as it is without room for
-    /// its receipt.
-    fn arrive_gathering<R: Wait>(
-        &self,
-        rt: &R,
-        posted: Posted<L>,
-        gathered: &mut Gathered<L>,
-    ) -> Option<Mail<L>> {
         if gathered.make_room(rt, self).is_err() {
-            return None;
+            self.upkeep.tallies.lost(rt, 1);
+            return;
         }
-        let Stepped { receipt, mail, .. } = self.arrive(rt, posted)?;
-        gathered.add(receipt);
-        Some(mail)
+        match self.arrive(rt, posted) {
+            Ok(receipt) => gathered.add(receipt),
+            Err(_) => self.upkeep.tallies.lost(rt, 1),
+        }
     }
 }
 

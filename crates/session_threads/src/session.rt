@@ -4,6 +4,7 @@ use crate::SharedNode;
 use crate::frames::framed;
 use crate::gathered::Gathered;
 use bytes::Bytes;
+use node_journal::Entered;
 use obj_id::{Command, JobKey, JobNo, Refusal, Reply};
 use private_store::Awaited;
 use session_engine::Gate;
@@ -17,6 +18,8 @@ pub struct Session<'a, L: Ledger, R: Wait + Clock> {
     rt: &'a R,
     node: &'a SharedNode<L>,
     gathered: Gathered<L>,
+    // the session that the node let in last
+    entered: Option<Entered<L>>,
 }
 
 impl<'a, L: Ledger, R: Wait + Clock> Session<'a, L, R> {
@@ -26,6 +29,7 @@ impl<'a, L: Ledger, R: Wait + Clock> Session<'a, L, R> {
             rt,
             node,
             gathered: Gathered::new(node.upkeep.alloc),
+            entered: None,
         }
     }
 
@@ -35,17 +39,20 @@ impl<'a, L: Ledger, R: Wait + Clock> Session<'a, L, R> {
     }
 }
 
-/// After each answer the last receipt is of this job, session, command and reply, or the reply is `NoMemory`. After the session was
+/// Who enters has the number that the node gave to this job and key. After each answer the last receipt is of this job, session, command and reply, or the reply is `NoMemory`. After the session was
 /// left, the last receipt is of its Leave, or the same as before.
 impl<'a, L: Ledger, R: Wait + Clock> Gate for Session<'a, L, R> {
     ghost use Rattle.std.specs.Prelude.{option_map};
-    ghost use Rattle.session_threads.specs.Witnesses.{IsWitnessed};
+    ghost use Rattle.session_threads.specs.Witnesses.{IsWitnessed, IsLetIn};
 
     ghost gives = { λ before asked told after. IsWitnessed asked told (option_map (λ r. record { job = r.job; entry = r.entry }) before.gathered.last)
-        (option_map (λ r. record { job = r.job; entry = r.entry }) after.gathered.last) };
+        (option_map (λ r. record { job = r.job; entry = r.entry }) after.gathered.last) × IsLetIn asked told (option_map (λ e. record { job = e.job; key = e.key; session = e.session }) after.entered) };
 
     fn enter(&mut self, job: JobNo, key: JobKey) -> Result<u32, Refusal> {
-        self.node.enter(self.rt, job, &key)
+        let entered = self.node.enter(self.rt, job, &key)?;
+        let session = entered.session();
+        self.entered = Some(entered);
+        Ok(session)
     }
 
     fn call(&mut self, job: JobNo, session: u32, command: Command<Bytes>) -> Reply<Bytes> {

@@ -6,18 +6,20 @@ ghost use Rattle.private_store.specs.Answers.{wants_memory, is_small_reply};
 ghost use Rattle.job_admission.specs.Admissions.{largest_memory};
 ghost use Rattle.node_journal.specs.Replies.{kept_reply};
 ghost use Rattle.session_engine.specs.Calls.{IsEntryRefusal};
-ghost use Rattle.session_threads.specs.Witnesses.{IsCalled, IsUnder, tried};
+ghost use Rattle.obj_id.specs.declared.messages.Arrival.{Arrival};
+ghost use Rattle.private_store.specs.Cluster.{arrival_of};
+ghost use Rattle.session_threads.specs.Witnesses.{IsCalled, IsArrived, IsUnder, tried};
 
 use crate::gathered::{Gathered, look_for};
 use crate::posting::Ways;
 use crate::stepping::{
     Stepped, step_arrival, step_call, step_call_after, step_end, step_event, step_located,
-    step_take,
+    step_order, step_take,
 };
 use crate::upkeep::Upkeep;
 use crate::waiting::{Moved, Waiting};
 use bytes::Bytes;
-use node_journal::{Keeper, Kept, Posted, Receipt};
+use node_journal::{Access, Entered, Keeper, Kept, Posted, Receipt};
 use obj_id::{Command, JobKey, JobNo, Quota, Refusal, Reply};
 use private_store::{Awaited, Event};
 use std::alloc::Global;
@@ -38,7 +40,7 @@ pub struct SharedNode<L: Ledger> {
 }
 
 impl<L: Ledger> Keeper<L> for SharedNode<L> {
-    fn kept(&self) -> &Mutex<Kept<L>> {
+    fn kept(&self, _access: Access) -> &Mutex<Kept<L>> {
         &self.kept
     }
 }
@@ -185,7 +187,8 @@ impl<L: Ledger> SharedNode<L> {
         (stepped, self.upkeep.waiting.seen(rt, job))
     }
 
-    /// The operator admits a job, with the receipt of the entry. There is none exactly if the reply is `NoMemory`.
+    /// The operator admits a job, with the receipt of the entry, which was looked for. There is none exactly if the reply is
+    /// `NoMemory`.
     pub fn admit<R: Wait>(
         &self,
         rt: &R,
@@ -195,10 +198,11 @@ impl<L: Ledger> SharedNode<L> {
     ) -> (Reply<Bytes>, Option<Receipt<L>>)
         ensures { MatchOption result.1 (result.0 ≡ reply.Refused NoMemory) (λ r. (r.job ≡ job) × (r.entry.reply ≡ kept_reply result.0)) }
     {
-        self.operate(rt, &Event::Admit(job, quota, key))
+        self.order(rt, &Event::Admit(job, quota, key))
     }
 
-    /// The operator changes a job's quotas, with the receipt of the entry. There is none exactly if the reply is `NoMemory`.
+    /// The operator changes a job's quotas, with the receipt of the entry, which was looked for. There is none exactly if the reply
+    /// is `NoMemory`.
     pub fn requota<R: Wait>(
         &self,
         rt: &R,
@@ -207,11 +211,11 @@ impl<L: Ledger> SharedNode<L> {
     ) -> (Reply<Bytes>, Option<Receipt<L>>)
         ensures { MatchOption result.1 (result.0 ≡ reply.Refused NoMemory) (λ r. (r.job ≡ job) × (r.entry.reply ≡ kept_reply result.0)) }
     {
-        self.operate(rt, &Event::Requota(job, quota))
+        self.order(rt, &Event::Requota(job, quota))
     }
 
-    /// The operator ends a job, with the receipt of the entry. There is none exactly if the reply is `NoMemory`. If the end isn't
-    /// refused, the job's journal is folded at once, unless there is no memory for that.
+    /// The operator ends a job, with the receipt of the entry, which was looked for. There is none exactly if the reply is
+    /// `NoMemory`. If the end isn't refused, the job's journal is folded at once, unless there is no memory for that.
     pub fn end_job<R: Wait>(&self, rt: &R, job: JobNo) -> (Reply<Bytes>, Option<Receipt<L>>)
         ensures { MatchOption result.1 (result.0 ≡ reply.Refused NoMemory) (λ r. (r.job ≡ job) × (r.entry.reply ≡ kept_reply result.0)) }
     {
@@ -224,7 +228,20 @@ impl<L: Ledger> SharedNode<L> {
         }
     }
 
-    /// An event of the operator's or of a worker, with the receipt of its entry.
+    /// An event of the operator's, with the receipt of its entry, which was looked for.
+    fn order<R: Wait>(&self, rt: &R, event: &Event) -> (Reply<Bytes>, Option<Receipt<L>>)
+        ensures { MatchOption result.1 (result.0 ≡ reply.Refused NoMemory) (λ r. (IsUnder r.job.0 event.now) × (r.entry.reply ≡ kept_reply result.0)) }
+    {
+        let mut kept = self.kept.lock(rt);
+        let stepped = step_order(rt, &mut *kept, &self.upkeep, event);
+        drop(kept);
+        match stepped {
+            Ok(stepped) => self.hand_out(rt, stepped),
+            Err(refusal) => (Reply::Refused(refusal), None),
+        }
+    }
+
+    /// An event of a worker, with the receipt of its entry.
     pub(crate) fn operate<R: Wait>(
         &self,
         rt: &R,
@@ -286,17 +303,26 @@ impl<L: Ledger> SharedNode<L> {
         }
     }
 
-    /// Lets a session into the job, whose key it shows, and gives its number.
-    pub fn enter<R: Wait>(&self, rt: &R, job: JobNo, key: &JobKey) -> Result<u32, Refusal>
-        ensures { IfErr result IsEntryRefusal }
+    /// Lets a session into the job, whose key it shows: its number is the one that a node of the cluster gave.
+    pub fn enter<R: Wait>(&self, rt: &R, job: JobNo, key: &JobKey) -> Result<Entered<L>, Refusal>
+        ensures entered { IfOk result (λ e. (e.job ≡ job) × (e.key ≡ key.now)) }
+        ensures refused { IfErr result IsEntryRefusal }
     {
         self.kept.lock(rt).enter(job, key)
     }
 
-    /// A message that was posted to the node arrives, with what the step gave. None if it is lost: it was posted to another place,
-    /// or there was no memory for it.
-    pub(crate) fn arrive<R: Wait>(&self, rt: &R, posted: Posted<L>) -> Option<Stepped<L>> {
-        step_arrival(rt, &mut *self.kept.lock(rt), &self.upkeep, posted)
+    /// A message that was posted to the node arrives, what the step sends is handed over, and the receipt is of the message's entry.
+    /// `Stale` if it was posted to another place, or isn't made for a node; and `NoMemory`. Then it is lost.
+    pub fn arrive<R: Wait>(&self, rt: &R, posted: Posted<L>) -> Result<Receipt<L>, Refusal>
+        ensures arrived { IfOk result (λ r. (a : Arrival) → arrival_of posted.from posted.message ≡ Some a → IsArrived posted.job a (record { job = r.job; entry = r.entry })) }
+        ensures refused { IfErr result (λ r. (r ≡ NoMemory) ⊎ (r ≡ Stale)) }
+    {
+        let mut kept = self.kept.lock(rt);
+        let stepped = step_arrival(rt, &mut *kept, &self.upkeep, posted);
+        drop(kept);
+        let Stepped { receipt, mail, .. } = stepped?;
+        self.post(rt, mail);
+        Ok(receipt)
     }
 
     /// What the directory answered to a message of the node arrives: whether it isn't lost.

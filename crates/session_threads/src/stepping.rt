@@ -1,10 +1,18 @@
 //! The steps of a node that is locked, with what follows at once.
-ghost use Rattle.std.specs.Prelude.{◌≡◌, ◌⊎◌, ℕ, ◌==◌, ◌<◌, true, false, IfOk, IfErr};
+ghost use Rattle.std.specs.Prelude.{◌≡◌, ◌⊎◌, ℕ, ◌==◌, ◌<◌, List, true, false, Some, None, IfOk, IfErr, OnErr, IfSome, IfNone, IsErrOf, ◌↔◌};
+ghost use Rattle.obj_id.specs.declared.commands.Command.TheVariants as command;
+ghost use Rattle.obj_id.specs.declared.messages.Arrival.{Arrival};
 ghost use Rattle.obj_id.specs.declared.refusals.Refusal.TheVariants.{NoMemory, Stale};
 ghost use Rattle.private_store.specs.Answers.{wants_memory, is_small_reply};
 ghost use Rattle.node_journal.specs.Journals.{folded_if};
 ghost use Rattle.node_journal.specs.Logs.{journal_of};
 ghost use Rattle.node_journal.specs.Replies.{kept_reply};
+ghost use Rattle.private_store.specs.declared.schedules.Event.TheVariants as event;
+ghost use Rattle.private_store.specs.declared.schedules.NodeEvent.TheVariants as node_event;
+ghost use Rattle.private_store.specs.Cluster.{arrival_of};
+ghost use Rattle.spill_work.specs.Line.{front_of};
+ghost use Rattle.node_journal.specs.Posts.{posts_left, IsAstray};
+ghost use Rattle.session_threads.specs.Stepping.{seen, IsUntouched, IsOneStep, IsOneStepFolded, IsOneLeave, IsOneArrival, HasArrived};
 ghost use Rattle.session_threads.specs.Witnesses.{IsCalled, IsUnder};
 
 use crate::gathered::look_for;
@@ -37,6 +45,10 @@ pub(crate) fn step_call<L: Ledger, R: Wait>(
 ) -> Result<Stepped<L>, Refusal>
     ensures called { IfOk result (λ s. (wants_memory s.reply ≡ false) × IsCalled job session command s.reply (record { job = s.receipt.job; entry = s.receipt.entry })) }
     ensures small { IfOk result (λ s. is_small_reply s.reply ≡ true) }
+    ensures once { IfOk result (λ s. IsOneStep (node_event.Own (event.Call job session command)) s.reply (posts_left s.mail) (record { job = s.receipt.job; entry = s.receipt.entry }) (seen kept.old.node kept.old.count kept.old.logs) (seen kept.new.node kept.new.count kept.new.logs)) }
+    ensures node { IfOk result (λ s. s.receipt.node ≡ kept.old.number) }
+    ensures same { OnErr result (IsUntouched (seen kept.old.node kept.old.count kept.old.logs) (seen kept.new.node kept.new.count kept.new.logs)) }
+    ensures number { kept.new.number ≡ kept.old.number }
     ensures memory { IfErr result (λ r. r ≡ NoMemory) }
 {
     let event = Event::Call(job, session, command);
@@ -59,6 +71,10 @@ pub(crate) fn step_call_after<L: Ledger, R: Wait>(
     ensures called { IfOk result (λ s. (wants_memory s.reply ≡ false) × IsCalled job session command s.reply (record { job = s.receipt.job; entry = s.receipt.entry })) }
     ensures later { IfOk result (λ s. (s.receipt.node ≡ receipt.now.node) × (receipt.now.entry.number < s.receipt.entry.number)) }
     ensures small { IfOk result (λ s. is_small_reply s.reply ≡ true) }
+    ensures once { IfOk result (λ s. IsOneStep (node_event.Own (event.Call job session command)) s.reply (posts_left s.mail) (record { job = s.receipt.job; entry = s.receipt.entry }) (seen kept.old.node kept.old.count kept.old.logs) (seen kept.new.node kept.new.count kept.new.logs)) }
+    ensures node { IfOk result (λ s. s.receipt.node ≡ kept.old.number) }
+    ensures same { OnErr result (IsUntouched (seen kept.old.node kept.old.count kept.old.logs) (seen kept.new.node kept.new.count kept.new.logs)) }
+    ensures number { kept.new.number ≡ kept.old.number }
     ensures refusal { IfErr result (λ r. (r ≡ NoMemory) ⊎ (r ≡ Stale)) }
 {
     let event = Event::Call(job, session, command);
@@ -77,12 +93,35 @@ pub(crate) fn step_event<L: Ledger, R: Wait>(
     event: &Event,
 ) -> Result<Stepped<L>, Refusal>
     ensures stepped { IfOk result (λ s. (IsUnder s.receipt.job.0 event.now) × (s.receipt.entry.reply ≡ kept_reply s.reply)) }
+    ensures once { IfOk result (λ s. IsOneStep (node_event.Own event.now) s.reply (posts_left s.mail) (record { job = s.receipt.job; entry = s.receipt.entry }) (seen kept.old.node kept.old.count kept.old.logs) (seen kept.new.node kept.new.count kept.new.logs)) }
+    ensures node { IfOk result (λ s. s.receipt.node ≡ kept.old.number) }
+    ensures same { OnErr result (IsUntouched (seen kept.old.node kept.old.count kept.old.logs) (seen kept.new.node kept.new.count kept.new.logs)) }
+    ensures number { kept.new.number ≡ kept.old.number }
     ensures memory { IfErr result (λ r. r ≡ NoMemory) }
 {
     match kept.step(event) {
         Ok(made) => Ok(settled(rt, kept, upkeep, made)),
         Err(_) => Err(Refusal::NoMemory),
     }
+}
+
+/// An event of the operator's, whose entry is looked for. The error is out of memory.
+pub(crate) fn step_order<L: Ledger, R: Wait>(
+    rt: &R,
+    kept: &mut Kept<L>,
+    upkeep: &Upkeep,
+    event: &Event,
+) -> Result<Stepped<L>, Refusal>
+    ensures stepped { IfOk result (λ s. (IsUnder s.receipt.job.0 event.now) × (s.receipt.entry.reply ≡ kept_reply s.reply)) }
+    ensures once { IfOk result (λ s. IsOneStep (node_event.Own event.now) s.reply (posts_left s.mail) (record { job = s.receipt.job; entry = s.receipt.entry }) (seen kept.old.node kept.old.count kept.old.logs) (seen kept.new.node kept.new.count kept.new.logs)) }
+    ensures node { IfOk result (λ s. s.receipt.node ≡ kept.old.number) }
+    ensures same { OnErr result (IsUntouched (seen kept.old.node kept.old.count kept.old.logs) (seen kept.new.node kept.new.count kept.new.logs)) }
+    ensures number { kept.new.number ≡ kept.old.number }
+    ensures memory { IfErr result (λ r. r ≡ NoMemory) }
+{
+    let stepped = step_event(rt, kept, upkeep, event)?;
+    look_for(rt, kept, &upkeep.tallies, slice::from_ref(&stepped.receipt));
+    Ok(stepped)
 }
 
 /// The end of a job. If it isn't refused, the job's journal is folded at once. The error is out of memory.
@@ -93,11 +132,13 @@ pub(crate) fn step_end<L: Ledger, R: Wait>(
     job: JobNo,
 ) -> Result<Stepped<L>, Refusal>
     ensures stepped { IfOk result (λ s. (s.receipt.job ≡ job) × (s.receipt.entry.reply ≡ kept_reply s.reply)) }
+    ensures once { IfOk result (λ s. IsOneStepFolded (node_event.Own (event.JobEnd job)) job.0 s.reply (posts_left s.mail) (record { job = s.receipt.job; entry = s.receipt.entry }) (seen kept.old.node kept.old.count kept.old.logs) (seen kept.new.node kept.new.count kept.new.logs)) }
+    ensures same { OnErr result (IsUntouched (seen kept.old.node kept.old.count kept.old.logs) (seen kept.new.node kept.new.count kept.new.logs)) }
+    ensures number { kept.new.number ≡ kept.old.number }
     ensures memory { IfErr result (λ r. r ≡ NoMemory) }
 {
-    let stepped = step_event(rt, kept, upkeep, &Event::JobEnd(job))?;
-    // before the fold, after which the journal says no more of it
-    look_for(rt, kept, &upkeep.tallies, slice::from_ref(&stepped.receipt));
+    // its entry is looked for before the fold, after which the journal says no more of it
+    let stepped = step_order(rt, kept, upkeep, &Event::JobEnd(job))?;
     fold_ended(kept, job, &stepped.reply);
     Ok(stepped)
 }
@@ -118,7 +159,12 @@ pub(crate) fn step_take<L: Ledger, R: Wait>(
     rt: &R,
     kept: &mut Kept<L>,
     upkeep: &Upkeep,
-) -> Option<Result<Stepped<L>, Refusal>> {
+) -> Option<Result<Stepped<L>, Refusal>>
+    ensures once { IfSome result (λ r. IfOk r (λ s. IsOneStep (node_event.Own event.Take) s.reply (posts_left s.mail) (record { job = s.receipt.job; entry = s.receipt.entry }) (seen kept.old.node kept.old.count kept.old.logs) (seen kept.new.node kept.new.count kept.new.logs))) }
+    ensures same { IfSome result (λ r. OnErr r (IsUntouched (seen kept.old.node kept.old.count kept.old.logs) (seen kept.new.node kept.new.count kept.new.logs))) }
+    ensures none { IfNone result (IsUntouched (seen kept.old.node kept.old.count kept.old.logs) (seen kept.new.node kept.new.count kept.new.logs) × (front_of kept.old.node.works.works ≡ None)) }
+    ensures number { kept.new.number ≡ kept.old.number }
+{
     if kept.has_work() {
         Some(step_event(rt, kept, upkeep, &Event::Take))
     } else {
@@ -132,7 +178,11 @@ pub(crate) fn step_mark<L: Ledger, R: Wait>(
     rt: &R,
     kept: &mut Kept<L>,
     upkeep: &Upkeep,
-) -> Option<Mail<L>> {
+) -> Option<Mail<L>>
+    ensures once { IfSome result (λ mail. IsOneLeave (posts_left mail) (seen kept.old.node kept.old.count kept.old.logs) (seen kept.new.node kept.new.count kept.new.logs)) }
+    ensures same { IfNone result (IsUntouched (seen kept.old.node kept.old.count kept.old.logs) (seen kept.new.node kept.new.count kept.new.logs)) }
+    ensures number { kept.new.number ≡ kept.old.number }
+{
     let mark = upkeep.sessions.first_marked(rt)?;
     match step_call(rt, kept, upkeep, mark.job, mark.session, Command::Leave) {
         Err(_) => None,
@@ -145,17 +195,26 @@ pub(crate) fn step_mark<L: Ledger, R: Wait>(
     }
 }
 
-/// A message that was posted to the node arrives. None if it is lost: it was posted to another place, or there was no memory
-/// for it.
+/// A message that was posted to the node arrives. `Stale` if it was posted to another place or isn't made for a node, and
+/// `NoMemory`: then it is lost.
 pub(crate) fn step_arrival<L: Ledger, R: Wait>(
     rt: &R,
     kept: &mut Kept<L>,
     upkeep: &Upkeep,
     posted: Posted<L>,
-) -> Option<Stepped<L>> {
+) -> Result<Stepped<L>, Refusal>
+    ensures once { IfOk result (λ s. (a : Arrival) → arrival_of posted.from posted.message ≡ Some a → IsOneArrival posted.job a s.reply (posts_left s.mail) (record { job = s.receipt.job; entry = s.receipt.entry }) (seen kept.old.node kept.old.count kept.old.logs) (seen kept.new.node kept.new.count kept.new.logs)) }
+    ensures node { IfOk result (λ s. s.receipt.node ≡ kept.old.number) }
+    ensures of_job { IfOk result (λ s. s.receipt.job ≡ posted.job) }
+    ensures stale { IsErrOf result Stale ↔ IsAstray kept.old.number posted }
+    ensures same { OnErr result (IsUntouched (seen kept.old.node kept.old.count kept.old.logs) (seen kept.new.node kept.new.count kept.new.logs)) }
+    ensures refused { IfErr result (λ r. (r ≡ NoMemory) ⊎ (r ≡ Stale)) }
+    ensures number { kept.new.number ≡ kept.old.number }
+{
     match kept.arrive(posted) {
-        Ok(made) => Some(settled(rt, kept, upkeep, made)),
-        Err(_) => None,
+        Ok(made) => Ok(settled(rt, kept, upkeep, made)),
+        Err(Refusal::Stale) => Err(Refusal::Stale),
+        Err(_) => Err(Refusal::NoMemory),
     }
 }
 
@@ -165,10 +224,14 @@ pub(crate) fn step_located<L: Ledger, R: Wait>(
     kept: &mut Kept<L>,
     upkeep: &Upkeep,
     located: Posted<L>,
-) -> bool {
+) -> bool
+    ensures once { result ≡ true → (a : Arrival) → arrival_of located.from located.message ≡ Some a → HasArrived located.job a (seen kept.old.node kept.old.count kept.old.logs) (seen kept.new.node kept.new.count kept.new.logs) }
+    ensures same { result ≡ false → IsUntouched (seen kept.old.node kept.old.count kept.old.logs) (seen kept.new.node kept.new.count kept.new.logs) }
+    ensures number { kept.new.number ≡ kept.old.number }
+{
     match step_arrival(rt, kept, upkeep, located) {
-        None => false,
-        Some(stepped) => {
+        Err(_) => false,
+        Ok(stepped) => {
             look_for(rt, kept, &upkeep.tallies, slice::from_ref(&stepped.receipt));
             true
         }
@@ -178,6 +241,7 @@ pub(crate) fn step_located<L: Ledger, R: Wait>(
 /// Settles a step that was made, and gives the rest of it.
 fn settled<L: Ledger, R: Wait>(rt: &R, kept: &Kept<L>, upkeep: &Upkeep, made: Made<L>) -> Stepped<L>
     ensures reply { result.reply ≡ made.outcome.reply }
+    ensures mail { posts_left result.mail ≡ made.outcome.messages }
     ensures receipt { result.receipt ≡ made.receipt }
 {
     let Parts {

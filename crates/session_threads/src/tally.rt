@@ -4,9 +4,9 @@ use std::sync::{Mutex, Wait};
 /// What was counted at a node. Each number stays at its type's last value.
 #[derive(Clone, Copy)]
 pub(crate) struct Tally {
-    /// Receipts that the node's own actors were given.
+    /// Receipts that were looked for in the journal.
     pub receipts: u64,
-    /// Those of them that were looked for and that the journal doesn't have.
+    /// Those of them that the journal doesn't have.
     pub disagreeing: u64,
     /// Messages that didn't come to the place that they were sent to.
     pub lost: u64,
@@ -38,16 +38,11 @@ impl Tallies {
         *self.tally.lock(rt)
     }
 
-    /// A receipt was given.
-    pub(crate) fn given<R: Wait>(&self, rt: &R) {
-        let mut tally = self.tally.lock(rt);
-        tally.receipts = tally.receipts.saturating_add(1);
-    }
-
-    /// A journal doesn't have the entries of so many receipts.
-    pub(crate) fn disagreeing<R: Wait>(&self, rt: &R, missing: u64) {
-        if missing > 0 {
+    /// So many receipts were looked for, and the journal doesn't have the entries of so many of them.
+    pub(crate) fn looked_for<R: Wait>(&self, rt: &R, receipts: u64, missing: u64) {
+        if receipts > 0 {
             let mut tally = self.tally.lock(rt);
+            tally.receipts = tally.receipts.saturating_add(receipts);
             tally.disagreeing = tally.disagreeing.saturating_add(missing);
         }
     }

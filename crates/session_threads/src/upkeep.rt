@@ -44,7 +44,7 @@ impl Upkeep {
         }
     }
 
-    /// Counts a step, lets its keys wait, and wakes the worker, if it has something to do, and who waits for what the step may have
+    /// Lets the keys of a step wait, and wakes the worker, if it has something to do, and who waits for what the step may have
     /// moved for this job. The node is locked, so that nobody is between a look and a wait.
     pub(crate) fn settle<R: Wait>(
         &self,
@@ -55,7 +55,6 @@ impl Upkeep {
         stir: Stir,
     ) {
         let (has_keys, unerased) = self.keys.add(rt, erase);
-        self.tallies.given(rt);
         self.tallies.unerased(rt, unerased);
         if has_keys || has_work {
             self.bell.ask(rt);

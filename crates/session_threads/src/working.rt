@@ -36,11 +36,9 @@ pub struct Working<L: Ledger> {
 }
 
 impl<L: Ledger> Working<L> {
-    /// Waits for the open sessions of the node to end, and then for its worker, which erases the keys that wait. Works that
-    /// nobody has taken by then are left.
-    pub fn end<R: Threads + Wait>(self, rt: &R) {
+    /// Waits for the worker, which erases the keys that wait. Works that nobody has taken by then are left.
+    pub(crate) fn end<R: Threads + Wait>(self, rt: &R) {
         let Working { node, thread } = self;
-        node.end_sessions(rt);
         node.upkeep.bell.end(rt);
         thread.join(rt);
     }

@@ -15,7 +15,7 @@ use Rattle.private_store.specs.declared.schedules.Step.TheVariants.{At, Deliver}
 use Rattle.private_store.specs.declared.schedules.StepAnswer.{StepAnswer}
 use Rattle.private_store.specs.declared.schedules.StepAnswer.TheVariants.{Told, HandedOver, NoMessage}
 use Rattle.private_store.specs.Answers.{brief_reply, wants_memory}
-use Rattle.journal_text.specs.declared.entry.JobAt.{JobAt}
+use Rattle.schedule_text.specs.declared.lines.JobAt.{JobAt}
 use Rattle.journal_text.specs.declared.entry.LineInput.{LineInput}
 use Rattle.journal_text.specs.declared.entry.LineInput.TheVariants as line
 use Rattle.journal_text.specs.declared.saved.Mark.{Mark}

@@ -1,11 +1,12 @@
 -- The operator's lines that were carried out, and what was printed for them.
-use Rattle.std.specs.Prelude.{◌≡◌, ℕ, suc, false, true, Bool, List, [], ◌∷◌, ◌++◌, length, Option, IfSome, Result, Ok, Err, codes, ⊤, ◌⊎◌}
+use Rattle.std.specs.Prelude.{◌≡◌, ℕ, suc, false, true, Bool, List, [], ◌∷◌, ◌++◌, length, Option, IfSome, Result, Ok, Err, codes, decimal, ⊤, ◌⊎◌}
 use Rattle.std.specs.Io.KnownBytes.{Appends, Consumes, Keeps}
 use Rattle.std.specs.Str.{IsUtf8}
 use Rattle.obj_id.specs.declared.commands.Reply.{Reply}
 use Rattle.private_store.specs.declared.schedules.StepAnswer.TheVariants.{Told}
 use Rattle.schedule_text.specs.declared.prefixes.Prefix.TheVariants.{Operator}
 use Rattle.schedule_text.specs.Printing.{line_text}
+use Rattle.session_threads.specs.declared.cluster.Report.{Report}
 use Rattle.store_program.specs.declared.fault.Fault.{Fault}
 use Rattle.store_program.specs.declared.fault.Fault.TheVariants.{NotAStep, Input, Output, Socket, Folded, NoMemory}
 use Rattle.store_program.specs.declared.operator.Change.{Change}
@@ -125,3 +126,8 @@ pub record Served (nodes count : ℕ) (read_old read_new written_old written_new
   pub consumed : Consumes read_old read_new (orders_of lines ++ rest)
   pub written : IsWritten written_old written_new (answers_of lines) result
   pub ends : ServingEnds nodes count (suc (length lines)) read_old (orders_of lines) rest result
+
+-- the line of a report
+abbrev pub report_line : Report → List ℕ
+report_line r =
+    with_feed (codes "report " ++ decimal r.entries ++ codes " " ++ decimal r.receipts ++ codes " " ++ decimal r.disagreeing ++ codes " " ++ decimal r.lost ++ codes " " ++ decimal r.erase_failures)

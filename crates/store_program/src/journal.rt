@@ -1,7 +1,6 @@
 //! The journal of a run, if one is asked for: what each step was to the jobs, in order.
 ghost use Rattle.std.specs.Prelude.{◌≡◌, [], List, true, false, is_some, IfOk, IfErr, IfSome, OnOk, OnErr};
 ghost use Rattle.store_program.specs.declared.fault.Fault.TheVariants.{Folded};
-ghost use Rattle.obj_id.specs.declared.commands.Reply.TheVariants as reply;
 ghost use Rattle.journal_text.specs.declared.saved.Mark.{Mark};
 ghost use Rattle.journal_text.specs.Saved.{is_folded, saved_text, IsSaved};
 ghost use Rattle.private_store.specs.Answers.{brief_reply};
@@ -9,10 +8,11 @@ ghost use Rattle.store_program.specs.Kept.{entries_told, entry_mark, entry_place
 
 use crate::Fault;
 use bytes::Bytes;
-use journal_text::{Answered, JobAt, LineInput, Mark, SavedJournal};
+use journal_text::{Answered, LineInput, Mark, SavedJournal};
 use node_core::Note;
-use obj_id::{Items, JobNo, Location, Message, Place, Refusal, Reply, Work};
-use private_store::{Event, Judged, Step, StepAnswer};
+use obj_id::{Items, JobNo, Location, Message, Place, Refusal, Reply};
+use private_store::{Event, Judged, Step, StepAnswer, brief_work};
+use schedule_text::JobAt;
 use std::alloc::{AllocError, Global};
 use std::marker::Model;
 
@@ -259,22 +259,5 @@ fn brief_reply(alloc: Global, reply: &Reply<Bytes>) -> Result<Reply<u64>, AllocE
         Reply::Work(work) => Ok(Reply::Work(brief_work(work))),
         Reply::NoWork => Ok(Reply::NoWork),
         Reply::Refused(refusal) => Ok(Reply::Refused(*refusal)),
-    }
-}
-
-/// The work with the number of its bytes. Takes no memory.
-fn brief_work(work: &Work<Bytes>) -> Work<u64>
-    ensures { brief_reply (reply.Work work.now) ≡ reply.Work result }
-{
-    Work {
-        job: work.job,
-        number: work.number,
-        kind: work.kind,
-        key: work.key,
-        length: work.length,
-        payload: match &work.payload {
-            Some(bytes) => Some(bytes.len() as u64),
-            None => None,
-        },
     }
 }

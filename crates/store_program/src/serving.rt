@@ -8,7 +8,8 @@ ghost use Rattle.schedule_text.specs.Fields.{Reads};
 ghost use Rattle.schedule_text.specs.Printing.{line_text};
 ghost use Rattle.store_program.specs.declared.fault.Fault.TheVariants.{Output};
 ghost use Rattle.store_program.specs.Orders.{IsOrder};
-ghost use Rattle.store_program.specs.Servings.{Served, ServesLine, StopsOrder, Replies, StopsReply};
+ghost use Rattle.std.specs.String.{string_bytes};
+ghost use Rattle.store_program.specs.Servings.{report_line, Served, ServesLine, StopsOrder, Replies, StopsReply};
 
 use crate::Fault;
 use crate::operator::{Change, Order, read_order};
@@ -100,7 +101,7 @@ fn hear_order(alloc: Global, text: &[u8], nodes: u32) -> Result<Option<Order>, A
     }
 }
 
-/// Makes a change at the node of this number, looks for its receipt, and writes the line of the answer.
+/// Makes a change at the node of this number, and writes the line of the answer.
 fn answer_change<L: Ledger, R: Wait, O: Write>(
     rt: &R,
     alloc: Global,
@@ -112,14 +113,11 @@ fn answer_change<L: Ledger, R: Wait, O: Write>(
     ensures ok { OnOk result (Replies node (O.contents writer.old) (O.contents writer.new)) }
     ensures err { IfErr result (StopsReply (O.contents writer.old) (O.contents writer.new)) }
 {
-    let (reply, receipt) = match change {
+    let (reply, _receipt) = match change {
         Change::Admit(job, quota, key) => shared.admit(rt, job, quota, key),
         Change::Requota(job, quota) => shared.requota(rt, job, quota),
         Change::End(job) => shared.end_job(rt, job),
     };
-    if let Some(receipt) = &receipt {
-        shared.check(rt, receipt);
-    }
     write_answer(alloc, node, reply, writer)
 }
 
@@ -153,19 +151,27 @@ fn hand_over<O: Write>(bytes: &[u8], writer: &mut O) -> Result<(), Fault>
     }
 }
 
-/// Writes the line of a report, and hands it over.
-pub fn write_report<O: Write>(alloc: Global, report: &Report, writer: &mut O) -> Result<(), Fault> {
+/// Writes the line of a report, and hands it over: entries, receipts, those that disagree, messages lost, and keys not erased.
+pub fn write_report<O: Write>(alloc: Global, report: &Report, writer: &mut O) -> Result<(), Fault>
+    ensures ok { OnOk result (Appends (O.contents writer.old) (O.contents writer.new) (report_line report.now)) }
+    ensures err { IfErr result (StopsReply (O.contents writer.old) (O.contents writer.new)) }
+{
+    let Ok(line) = report_line(alloc, report) else {
+        return Err(Fault::NoMemory)
+    };
+    hand_over(line.as_bytes(), writer)
+}
+
+/// The line of a report.
+fn report_line(alloc: Global, report: &Report) -> Result<String, AllocError>
+    ensures { IfOk result (λ line. string_bytes line ≡ report_line report.now) }
+{
     let Report {
         entries,
         receipts,
         disagreeing,
         lost,
         erase_failures,
-    } = report;
-    let Ok(line) = format!(in alloc;
-        "report {entries} {receipts} {disagreeing} {lost} {erase_failures}\n"
-    ) else {
-        return Err(Fault::NoMemory)
-    };
-    hand_over(line.as_bytes(), writer)
+    } = *report;
+    format!(in alloc; "report {entries} {receipts} {disagreeing} {lost} {erase_failures}\n")
 }

@@ -89,9 +89,9 @@ fn serve_named<
         },
     };
     cluster.shut(&rt);
-    close_nodes(&rt, served);
-    cluster.disconnect(&rt);
-    let report = cluster.report(&rt);
+    let Served { workers, doors } = served;
+    close_doors(&rt, doors);
+    let report = cluster.close(&rt, workers);
     outcome?;
     write_report(alloc, &report, writer)
 }
@@ -203,15 +203,11 @@ fn is_left<R: Files + Net>(rt: &R, path: &str) -> bool {
     }
 }
 
-/// Accepts no stream any more, removes the sockets' files, waits for the open sessions, and ends the workers.
-fn close_nodes<L: Ledger, R: Threads + Wait + Files>(rt: &R, served: Served<L>) {
-    let Served { workers, doors } = served;
+/// Accepts no stream any more, and removes the sockets' files.
+fn close_doors<R: Threads + Files>(rt: &R, doors: Vec<Door>) {
     for door in doors {
         let Door { path, listening } = door;
         let _ = listening.end(rt);
         let _ = fs::remove_file(rt, path.as_str());
-    }
-    for worker in workers {
-        worker.end(rt);
     }
 }

@@ -1,8 +1,9 @@
-//! A fetch of two chunks, if memory is wanting.
+//! A fetch of two chunks: if memory is wanting, and if a chunk is lost, repeated or damaged.
 use assertions::holds;
 use bytes::Bytes;
-use fetch_core::{FetchIn, chunks_asked};
+use fetch_core::{FetchIn, Stage, chunks_asked};
 use obj_id::{Digest, JobNo, Location, ObjectId, PeerMessage, Refusal, TaskNo};
+use private_store::FetchFault;
 use sha2::{Digest as _, Sha256};
 use std::alloc::Global;
 use std::test::Fail;
@@ -86,6 +87,60 @@ fn both_chunks_are_asked_for_and_taken(rt: HostRuntime) -> Result<(), Fail> {
     let bytes = object();
     let mut fetch = pulling(rt.alloc(), &bytes)?;
     holds!(rt; takes_both(&mut fetch, &bytes));
+    Ok(())
+}
+
+/// Whether a chunk that was lost stays missing, and the fetch is whole once it is sent again.
+fn takes_what_was_lost(fetch: &mut FetchIn, bytes: &[u8]) -> bool {
+    fetch.take_chunk(NUMBER, SOURCE, 1, 10)
+        && fetch.missing() == [0].as_slice()
+        && fetch.take_chunk(NUMBER, SOURCE, 0, CHUNK)
+        && fetch.missing().is_empty()
+        && fetch.complete(bytes)
+}
+
+#[test]
+fn a_lost_chunk_is_asked_for_again(rt: HostRuntime) -> Result<(), Fail> {
+    let bytes = object();
+    let mut fetch = pulling(rt.alloc(), &bytes)?;
+    holds!(rt; takes_what_was_lost(&mut fetch, &bytes));
+    Ok(())
+}
+
+/// Whether each chunk is taken once, and fills no gap when it comes again.
+fn takes_each_once(fetch: &mut FetchIn, bytes: &[u8]) -> bool {
+    fetch.take_chunk(NUMBER, SOURCE, 0, CHUNK)
+        && !fetch.take_chunk(NUMBER, SOURCE, 0, CHUNK)
+        && fetch.missing() == [1].as_slice()
+        && fetch.take_chunk(NUMBER, SOURCE, 1, 10)
+        && !fetch.take_chunk(NUMBER, SOURCE, 1, 10)
+        && !fetch.take_chunk(NUMBER, SOURCE, 0, CHUNK)
+        && fetch.complete(bytes)
+}
+
+#[test]
+fn a_repeated_chunk_fills_nothing(rt: HostRuntime) -> Result<(), Fail> {
+    let bytes = object();
+    let mut fetch = pulling(rt.alloc(), &bytes)?;
+    holds!(rt; takes_each_once(&mut fetch, &bytes));
+    Ok(())
+}
+
+/// Whether the fetch takes both chunks, fails as damaged on these bytes, and then takes nothing more.
+fn fails_on(fetch: &mut FetchIn, damaged: &[u8]) -> bool {
+    fetch.take_chunk(NUMBER, SOURCE, 0, CHUNK)
+        && fetch.take_chunk(NUMBER, SOURCE, 1, 10)
+        && !fetch.complete(damaged)
+        && fetch.stage() == Stage::Failed(FetchFault::Damaged)
+        && !fetch.take_chunk(NUMBER, SOURCE, 0, CHUNK)
+}
+
+#[test]
+fn a_damaged_chunk_fails_the_fetch(rt: HostRuntime) -> Result<(), Fail> {
+    let mut bytes = object();
+    let mut fetch = pulling(rt.alloc(), &bytes)?;
+    bytes[65_545] ^= 1;
+    holds!(rt; fails_on(&mut fetch, &bytes));
     Ok(())
 }
 

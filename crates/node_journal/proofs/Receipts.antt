@@ -1,0 +1,112 @@
+-- An entry that a receipt names has the answer that is due.
+use Rattle.std.proofs.Common.{◌≡◌, ℕ, Bool, true, false, cond, ◌&&◌, ◌||◌, List, [], ◌∷◌, ◌++◌, map, append_assoc, Option, Some, None, refl, sym, ap, subst, ◌∙◌}
+use Rattle.std.specs.Prelude.{if◌then◌else◌, not, nat_le, option_map, option_to_list}
+use Rattle.std.specs.List.{list_any}
+use Rattle.std.proofs.Math.Logic.{∥∥₁_map}
+use Rattle.obj_id.specs.declared.commands.Reply.{Reply}
+use Rattle.private_store.specs.declared.inputs.Judged.{Judged}
+use Rattle.private_store.specs.Replay.{Brief, Line as Replayed, replayed, brief_after, brief_step}
+use Rattle.private_store.proofs.Tests.{both_right}
+use Rattle.node_core.specs.Hosted.{Hosted}
+use Rattle.node_journal.specs.declared.entries.Agreement.{Agreement}
+use Rattle.node_journal.specs.declared.entries.Agreement.TheVariants as agree
+use Rattle.node_journal.specs.declared.entries.Entry.{Entry}
+use Rattle.node_journal.specs.declared.entries.Line.{Line}
+use Rattle.node_journal.specs.declared.entries.Line.TheVariants as line
+use Rattle.node_journal.specs.Replies.{unlisted}
+use Rattle.node_journal.specs.Journals.{Journal, AreDue, Tells, agreement, is_entry, is_this, line_of, lines_of, same_entry}
+use Rattle.node_journal.specs.Receipts.{AnswersAgree, IsDueIn}
+
+-- ---- where it stands
+
+record Stands (entry : Entry) (ls : List Line) : Type 0 where
+  pub own : Entry
+  pub before : List Line
+  pub after : List Line
+  pub is : ls ≡ before ++ line.Entry own ∷ after
+  pub same : same_entry entry (line.Entry own) ≡ true
+
+later : (entry : Entry) (l : Line) (ls : List Line) → Stands entry ls → Stands entry (l ∷ ls)
+later entry l ls s = record { own = s.own; before = l ∷ s.before; after = s.after; is = ap (λ xs. l ∷ xs) s.is; same = s.same }
+
+stands : (entry : Entry) (ls : List Line) → list_any (is_this entry) ls ≡ true → Stands entry ls
+stands entry [] h = absurd cc
+stands entry (line.Note n x ∷ ls) h = later entry (line.Note n x) ls (stands entry ls h)
+stands entry (line.Entry own ∷ ls) h = by (is_this entry (line.Entry own)) refl (λ some. stands entry ls some) h
+  where
+    by : (b : Bool) → is_this entry (line.Entry own) ≡ b → (list_any (is_this entry) ls ≡ true → Stands entry ls) → (b || list_any (is_this entry) ls) ≡ true → Stands entry (line.Entry own ∷ ls)
+    by true is on some = record { own = own; before = []; after = ls; is = refl; same = both_right (is_entry entry.number (line.Entry own)) (same_entry entry (line.Entry own)) is }
+    by false is on some = later entry (line.Entry own) ls (on some)
+
+-- ---- what it is answered
+
+abbrev rest_of : {X : Type 0} → List X → List X
+rest_of [] = []
+rest_of (x ∷ xs) = xs
+
+abbrev first_of : {X : Type 0} → X → List X → X
+first_of y [] = y
+first_of y (x ∷ xs) = x
+
+after_one : (brief : Brief) (o : Option Replayed) (rest : List Replayed) → AreDue brief (option_to_list o ++ rest) → AreDue (replayed brief (option_to_list o)) rest
+after_one brief None rest h = h
+after_one brief (Some t) rest h = ap rest_of h
+
+replayed_one : (brief : Brief) (o : Option Replayed) (rest : List Replayed) → replayed brief (option_to_list o ++ rest) ≡ replayed (replayed brief (option_to_list o)) rest
+replayed_one brief None rest = refl
+replayed_one brief (Some t) rest = refl
+
+due_first : (brief : Brief) (own : Entry) (o : Option Judged) (x : Judged) (rest : List Replayed) → o ≡ Some x
+    → AreDue brief (option_to_list (option_map (λ (y : Judged). record { input = y; reply = own.reply }) o) ++ rest) → own.reply ≡ unlisted (brief_step brief x).reply
+due_first brief own o x rest is h =
+    let due : AreDue brief (record { input = x; reply = own.reply } ∷ rest) = subst (λ p. AreDue brief (option_to_list (option_map (λ (y : Judged). record { input = y; reply = own.reply }) p) ++ rest)) is h in
+    ap (first_of own.reply) due
+
+due_at : (brief : Brief) (before : List Line) (own : Entry) (after : List Line) (x : Judged) → own.input ≡ Some x → AreDue brief (lines_of (before ++ line.Entry own ∷ after))
+    → own.reply ≡ unlisted (brief_step (replayed brief (lines_of before)) x).reply
+due_at brief [] own after x is h = due_first brief own own.input x (lines_of after) is h
+due_at brief (l ∷ before) own after x is h =
+    due_at (replayed brief (option_to_list (line_of l))) before own after x is (after_one brief (line_of l) (lines_of (before ++ line.Entry own ∷ after)) h)
+    ∙ ap (λ b. unlisted (brief_step b x).reply) (sym (replayed_one brief (line_of l) (lines_of before)))
+
+-- ---- a receipt that the journal has
+
+found : (here : Bool) (entry : Entry) (journal : Journal) → agreement here entry journal ≡ agree.Yes → list_any (is_this entry) journal.list ≡ true
+found false entry journal h = absurd cc
+found true entry journal h = by (nat_le entry.number journal.covered) (list_any (is_this entry) journal.list) h
+  where
+    by : (covered some : Bool) → (if covered then agree.Folded else (if some then agree.Yes else agree.No)) ≡ agree.Yes → some ≡ true
+    by true some e = absurd cc
+    by false true e = refl
+    by false false e = absurd cc
+
+pub receipt_due : (node : Hosted) (journals : ℕ → Journal) (job : ℕ) (here : Bool) (entry : Entry) → ∥ Tells node journals ∥₁ → agreement here entry (journals job) ≡ agree.Yes → ∥ IsDueIn (journals job) entry ∥₁
+receipt_due node journals job here entry told h = ∥∥₁_map told (λ t.
+    let s = stands entry (journals job).list (found here entry (journals job) h) in
+    record {
+      own = s.own;
+      before = s.before;
+      after = s.after;
+      stands = s.is;
+      same = s.same;
+      due = λ x is. due_at (journals job).base.store s.before s.own s.after x is (subst (λ ls. AreDue (journals job).base.store (lines_of ls)) s.is (t.told job).due);
+    })
+
+-- ---- two journals
+
+abbrev after_inputs : Brief → List Judged → Brief
+after_inputs brief [] = brief
+after_inputs brief (x ∷ xs) = after_inputs (brief_after brief x) xs
+
+-- what is replayed are the inputs
+by_inputs : (brief : Brief) (ls : List Replayed) → replayed brief ls ≡ after_inputs brief (map (λ (l : Replayed). l.input) ls)
+by_inputs brief [] = refl
+by_inputs brief (l ∷ ls) = by_inputs (brief_after brief l.input) ls
+
+pub answers_agree : (first second : Journal) (a b : Entry) → AnswersAgree first second a b
+answers_agree first second a b d e base same x is was =
+    let one = by_inputs first.base.store (lines_of d.before) in
+    let two = by_inputs second.base.store (lines_of e.before) in
+    d.due x is
+    ∙ ap (λ brief. unlisted (brief_step brief x).reply) (one ∙ (λ i. after_inputs (base i) (same i)) ∙ sym two)
+    ∙ sym (e.due x was)

@@ -1,0 +1,29 @@
+-- What a receipt is worth: the journal has an entry like its own, whose answer is the one that is due.
+use Rattle.std.specs.Prelude.{◌≡◌, true, List, ◌∷◌, ◌++◌, map, Some}
+use Rattle.private_store.specs.declared.inputs.Judged.{Judged}
+use Rattle.private_store.specs.Replay.{Line as Replayed, brief_step, replayed}
+use Rattle.node_journal.specs.declared.entries.Entry.{Entry}
+use Rattle.node_journal.specs.declared.entries.Line.{Line}
+use Rattle.node_journal.specs.declared.entries.Line.TheVariants as line
+use Rattle.node_journal.specs.Replies.{unlisted}
+use Rattle.node_journal.specs.Journals.{Journal, lines_of, same_entry}
+
+-- an entry that compares as equal to this one stands in the journal; and if its event was an input of the job, its answer is that of
+-- the job's private store, without contents, after the inputs that the journal tells of up to there
+pub record IsDueIn (journal : Journal) (entry : Entry) : Type 0 where
+  pub own : Entry
+  pub before : List Line
+  pub after : List Line
+  pub stands : journal.list ≡ before ++ line.Entry own ∷ after
+  pub same : same_entry entry (line.Entry own) ≡ true
+  pub due : (x : Judged) → own.input ≡ Some x → own.reply ≡ unlisted (brief_step (replayed journal.base.store (lines_of before)) x).reply
+
+-- what came before the entry, as inputs of its job
+abbrev pub inputs_before : {journal : Journal} {entry : Entry} → IsDueIn journal entry → List Judged
+inputs_before d = map (λ (l : Replayed). l.input) (lines_of d.before)
+
+-- of two journals that begin with the same store, two entries of one input after the same inputs have the same answer
+abbrev pub AnswersAgree : Journal → Journal → Entry → Entry → Type 0
+AnswersAgree first second a b =
+    (d : IsDueIn first a) (e : IsDueIn second b) → first.base.store ≡ second.base.store → inputs_before d ≡ inputs_before e
+    → (x : Judged) → d.own.input ≡ Some x → e.own.input ≡ Some x → d.own.reply ≡ e.own.reply

@@ -1,0 +1,23 @@
+//! What receipts are worth. Each function does nothing; its contract is a theorem.
+ghost use Rattle.std.specs.Prelude.{◌≡◌, ◌==◌};
+ghost use Rattle.node_journal.specs.declared.entries.Agreement.TheVariants.{Yes};
+ghost use Rattle.node_journal.specs.declared.entries.Entry.{Entry};
+ghost use Rattle.node_journal.specs.Journals.{Journal, agreement};
+ghost use Rattle.node_journal.specs.Logs.{journal_of};
+ghost use Rattle.node_journal.specs.Receipts.{AnswersAgree, IsDueIn};
+
+use crate::{Kept, Receipt};
+use std::sync::ledger::Ledger;
+
+/// Whenever a node with its journal can be seen: if the journal says Yes of a receipt, it has an entry that compares as equal to the
+/// receipt's; and the answer of that entry is the one, without contents, that the job's private store gives after the inputs that
+/// the journal holds up to there.
+pub fn what_agrees_is_due<L: Ledger>(kept: &Kept<L>, receipt: &Receipt<L>)
+    ensures { agreement (receipt.now.node == kept.now.number) receipt.now.entry (journal_of kept.now.logs receipt.now.job.0) ≡ Yes → ∥ IsDueIn (journal_of kept.now.logs receipt.now.job.0) receipt.now.entry ∥₁ }
+{}
+
+/// If two journals of a job begin with the same store and hold the same inputs before an entry each, and the entries are of the
+/// same input, their answers are the same, without contents: what neighbours did in between doesn't show.
+pub fn equal_inputs_have_equal_answers()
+    ensures { (first second : Journal) (a b : Entry) → AnswersAgree first second a b }
+{}

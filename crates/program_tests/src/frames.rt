@@ -1,0 +1,150 @@
+//! Sessions at a node: streams that were written by hand, and what they are answered.
+ghost use Rattle.std.specs.Prelude.{◌≡◌};
+
+use crate::calls::admit;
+use assertions::holds;
+use hex::FromHexError;
+use session_engine::{Ended, SessionFault, serve};
+use session_threads::{Cluster, Session, SharedNode};
+use std::alloc::{AllocError, Global};
+use std::marker::Brand;
+use std::process::Abort;
+use std::sync::Wait;
+use std::sync::ledger::{Blank, Ledger};
+use std::time::Clock;
+
+/// A Hello of job 1 with its key.
+const HELLO: &str =
+    "0000002501000000010000000000000000000000000000000000000000000000000000000000000000";
+
+/// A Hello, and then an object of 20 bytes that is created, sealed and held.
+const WORKED: &str = "\
+0000002501000000010000000000000000000000000000000000000000000000000000000000000000\
+0000002202000000000000000000000000000000000000000100000001000000010000000014\
+0000001d0400000000000000000000000000000000000000010000000100000001\
+0000001d0500000000000000000000000000000000000000010000000100000001";
+
+const TOLD: &str = "0000000180000000098100000000000000200000000180000000058200000014";
+
+/// A Hello, and then a frame of a kind that there is not.
+const NO_KIND: &str = "\
+0000002501000000010000000000000000000000000000000000000000000000000000000000000000\
+0000000115";
+
+/// A Hello, and then a copy of no kind that there is.
+const NO_KIND_OF_COPY: &str = "\
+0000002501000000010000000000000000000000000000000000000000000000000000000000000000\
+0000002202000000000000000000000000000000000000000100000001000000010200000014";
+
+/// A Hello, and then a Get of an invalid id.
+const NO_ID: &str = "\
+0000002501000000010000000000000000000000000000000000000000000000000000000000000000\
+0000001d0500000000000000000000000000000000000000000000000000000000";
+
+/// More bytes than any stream here is answered.
+const ROOM: usize = 64;
+
+/// What came of a stream.
+#[derive(Drop)]
+struct Served {
+    outcome: Result<Ended, SessionFault>,
+    written: Vec<u8>,
+}
+
+/// Serves the stream at the node.
+fn told_at<L: Ledger, R: Wait + Clock>(
+    rt: &R,
+    alloc: Global,
+    node: &SharedNode<L>,
+    input: &[u8],
+) -> Result<Served, AllocError> {
+    let mut written = Vec::with_capacity(alloc, ROOM)?;
+    let mut reader = input;
+    let mut session = Session::new(rt, node);
+    let outcome = serve(alloc, &mut reader, &mut written, &mut session);
+    Ok(Served { outcome, written })
+}
+
+/// Serves the stream at a node of one job, which has a window of 64 bytes.
+fn told_by<L: Ledger, R: Wait + Clock + Abort>(
+    rt: &R,
+    alloc: Global,
+    blank: Blank,
+    input: &[u8],
+) -> Result<Served, AllocError>
+    requires name { blank.name ≡ L.name }
+    requires parts { blank.parts ≡ L.parts }
+    requires one { blank.parts ≡ 1 }
+{
+    let (_book, seats) = blank.open::<L>();
+    let cluster = Cluster::start(alloc, 1, 1024, seats)?;
+    let node = cluster.node(0).expect(rt, "a node");
+    admit(rt, node);
+    told_at(rt, alloc, node, input)
+}
+
+fn told<R: Wait + Clock + Abort>(
+    rt: &R,
+    alloc: Global,
+    input: &[u8],
+) -> Result<Served, AllocError> {
+    let blank = Blank::new(1);
+    told_by::<Brand, R>(rt, alloc, blank, input)
+}
+
+/// Whether the stream of these digits is answered so, and ends so.
+fn is_told(
+    rt: &(impl Wait + Clock + Abort),
+    alloc: Global,
+    input: &str,
+    answers: &str,
+    ended: Ended,
+) -> Result<bool, FromHexError> {
+    let input = hex::decode(alloc, input)?;
+    let answers = hex::decode(alloc, answers)?;
+    let told = told(rt, alloc, &input)?;
+    Ok(told.outcome == Ok(ended) && told.written == answers)
+}
+
+/// The same, tried once more if memory ran out.
+fn check(
+    rt: &(impl Wait + Clock + Abort),
+    alloc: Global,
+    input: &str,
+    answers: &str,
+    ended: Ended,
+) {
+    if !matches!(is_told(rt, alloc, input, answers, ended), Ok(true)) {
+        holds!(rt; matches!(is_told(rt, alloc, input, answers, ended), Ok(true)));
+    }
+}
+
+#[test]
+fn streams_are_answered_at_a_node(rt: HostRuntime) {
+    let alloc = rt.alloc();
+    check(&rt, alloc, WORKED, TOLD, Ended::Clean);
+    check(&rt, alloc, HELLO, "0000000180", Ended::Clean);
+    check(&rt, alloc, NO_ID, "0000000180000000028f02", Ended::Clean);
+}
+
+#[test]
+fn streams_that_are_no_frames_end_at_a_node(rt: HostRuntime) {
+    let alloc = rt.alloc();
+    check(&rt, alloc, "00000000", "000000028f14", Ended::Malformed);
+    check(&rt, alloc, "ffffffff", "000000028f14", Ended::Malformed);
+    check(&rt, alloc, "000000", "", Ended::MidFrame);
+    check(
+        &rt,
+        alloc,
+        NO_KIND,
+        "0000000180000000028f14",
+        Ended::Malformed,
+    );
+    check(
+        &rt,
+        alloc,
+        NO_KIND_OF_COPY,
+        "0000000180000000028f14",
+        Ended::Malformed,
+    );
+}

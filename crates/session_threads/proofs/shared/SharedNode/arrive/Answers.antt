@@ -1,0 +1,13 @@
+use Rattle.std.proofs.Common.{ap}
+use Rattle.node_journal.specs.declared.entries.Entry.{Entry}
+use Rattle.session_threads.proofs.shared.SharedNode.arrive.Goals as goal
+
+pub returns-clause-arrived : goal.returns-clause-arrived
+returns-clause-arrived g c a is =
+    let arrival = c.in_ok-receipt.ensures.once a is in
+    record {
+      of_job = c.in_ok-receipt.ensures.of_job;
+      told = c.in_ok-receipt.field-0.reply;
+      answer = ap (λ (e : Entry). e.reply) arrival.step.entry;
+      input = arrival.entered;
+    }

@@ -1,0 +1,27 @@
+use Rattle.std.proofs.Common.{sym, ap, ◌∙◌}
+use Rattle.node_core.specs.Outcomes.{given_of}
+use Rattle.node_journal.specs.Journals.{entry_for}
+use Rattle.node_journal.specs.Posts.{is_entered}
+use Rattle.session_threads.proofs.stepping.step_arrival.Goals as goal
+
+pub returns-in-Ok-clause-once : goal.returns-in-Ok-clause-once
+returns-in-Ok-clause-once g c a is =
+    let old = c.args.kept.now in
+    let made = c.in-Ok.made in
+    let done = rw c.in-Ok.is at c.arrive.ensures in
+    let told = c.settled.ensures in
+    let kept = ap (λ r. r.entry) told.receipt ∙ done.receipt.2 in
+    record {
+      step = record {
+        given = given_of made.outcome;
+        was = made.outcome.judged;
+        answer = sym told.reply;
+        posts = sym told.mail;
+        node = done.node a is;
+        count = done.count;
+        journals = done.journal a is;
+        of_job = ap (λ r. r.job.0) told.receipt ∙ done.receipt.1;
+        entry = kept ∙ ap (entry_for _ made.outcome.judged) (sym told.reply);
+      };
+      entered = (λ i. is_entered a (told.reply i) (kept i).input) ∙ done.entered a is;
+    }
