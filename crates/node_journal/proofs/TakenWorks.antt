@@ -36,6 +36,7 @@ use Rattle.node_core.specs.Steps.{Given, JobJudged, StepsFrom, IsEventAnswer, be
 use Rattle.node_core.proofs.AllJobs.{works_shown}
 use Rattle.node_core.proofs.Taking.{one_each}
 use Rattle.job_admission.specs.Admissions.{admit_check, live_at}
+use Rattle.node_journal.specs.declared.entries.EventName.{EventName}
 use Rattle.node_journal.specs.declared.entries.Line.{Line}
 use Rattle.node_journal.specs.declared.entries.Line.TheVariants as line
 use Rattle.node_journal.specs.Journals.{Journal, entry_for, notes_for, lines_made, taken_after, taken_from, taken_of, taken_come_first, with_lines, folded_if}
@@ -100,7 +101,7 @@ module _ (job number : ℕ) (view : View) (work : Work (List ℕ)) where
 
 -- ---- what leaves the line
 
-module _ (old : Hosted) (v : ℕ → View) (shows : ShowsAll old v) (number : ℕ) where
+module _ (old : Hosted) (v : ℕ → View) (shows : ShowsAll old v) (number : ℕ) (named : EventName) where
   abbrev works : List Queued
   works = old.works.works
 
@@ -111,7 +112,7 @@ module _ (old : Hosted) (v : ℕ → View) (shows : ShowsAll old v) (number : �
       omega (arith, each, one)
 
   abbrev Leaves : Event → Reply (List ℕ) → Option Judged → Type 0
-  Leaves e told was = KeepsTaken works (line_left works (Own e) told) (job_at works (Own e)) (line.Entry (entry_for number was told))
+  Leaves e told was = KeepsTaken works (line_left works (Own e) told) (job_at works (Own e)) (line.Entry (entry_for number named was told))
 
   -- what an event with this answer is to its job
   abbrev pub word : Event → Reply (List ℕ) → Option Judged
@@ -123,8 +124,8 @@ module _ (old : Hosted) (v : ℕ → View) (shows : ShowsAll old v) (number : �
       let given = work_is asked.job.0 asked.number (v asked.job.0) work is in
       let once = few asked.job asked.number in
       let own : job_at works (Own event.Take) ≡ asked.job.0 = ap (λ o. option_map_or (λ (a : Asked). a.job.0) o 0) front in
-      subst (λ k. KeepsTaken works (line_left works (Own event.Take) (reply.Work work)) k (line.Entry (entry_for number None (reply.Work work)))) (sym own)
-      (subst (λ left. KeepsTaken works left asked.job.0 (line.Entry (entry_for number None (reply.Work work)))) (λ i. map (taken_if (sym (given.0) i) (sym (given.1) i)) works)
+      subst (λ k. KeepsTaken works (line_left works (Own event.Take) (reply.Work work)) k (line.Entry (entry_for number named None (reply.Work work)))) (sym own)
+      (subst (λ left. KeepsTaken works left asked.job.0 (line.Entry (entry_for number named None (reply.Work work)))) (λ i. map (taken_if (sym (given.0) i) (sym (given.1) i)) works)
       (record {
         first = first_marked asked works front once;
         counts = of_one asked.job (λ k. count k works) (λ k. count k (map (taken_if asked.job asked.number) works)) (λ n. n + 1) (one_more asked works front once ∙ plus_one (count asked.job works))
@@ -138,7 +139,7 @@ module _ (old : Hosted) (v : ℕ → View) (shows : ShowsAll old v) (number : �
   take_leaves told is = subst (λ t. Leaves event.Take t None) (sym is) (by (front_of works) refl)
     where
       nothing : Leaves event.Take reply.NoWork None
-      nothing = same_line works (job_at works (Own event.Take)) (line.Entry (entry_for number None reply.NoWork)) (λ n. refl)
+      nothing = same_line works (job_at works (Own event.Take)) (line.Entry (entry_for number named None reply.NoWork)) (λ n. refl)
 
       given : (asked : Asked) → front_of works ≡ Some asked → (o : Option (Work (List ℕ))) → work_of asked.job.0 asked.number (v asked.job.0) ≡ o → Leaves event.Take (option_map_or reply.Work o reply.NoWork) None
       given asked front None is = nothing
@@ -167,7 +168,7 @@ module _ (old : Hosted) (v : ℕ → View) (shows : ShowsAll old v) (number : �
             (λ other apart. others_keep job n other works apart);
       }
       by false out =
-          let made : Line = line.Entry (entry_for number None (answered (stale_unless false))) in
+          let made : Line = line.Entry (entry_for number named None (answered (stale_unless false))) in
           subst (λ left. KeepsTaken works left job.0 made) (sym (stays job n works out)) (same_line works job.0 made (λ m. refl))
 
   -- the end of a job
@@ -183,7 +184,7 @@ module _ (old : Hosted) (v : ℕ → View) (shows : ShowsAll old v) (number : �
         counts = of_one job (λ k. count k works) (λ k. count k (filter (λ w. not (is_of job w)) works)) (λ m. 0) (none_left job works)
             (λ other apart. others_left (λ w. not (is_of job w)) other works (λ w of. ap not (differ job.0 other.0 w.asked.job.0 apart of)));
       }
-      by false = same_line works job.0 (line.Entry (entry_for number None (reply.Refused NotAdmitted))) (λ m. refl)
+      by false = same_line works job.0 (line.Entry (entry_for number named None (reply.Refused NotAdmitted))) (λ m. refl)
 
   leaves : (e : Event) (told : Reply (List ℕ)) → IsEventAnswer old v e told → Leaves e told (word e told)
   leaves (event.Admit job quota key) told is = subst (λ t. Leaves (event.Admit job quota key) t (word (event.Admit job quota key) t)) (sym is) (by (admit_check old.admissions job quota))
@@ -207,34 +208,34 @@ module _ (old : Hosted) (v : ℕ → View) (shows : ShowsAll old v) (number : �
 
   -- a step
   pub step_keeps : (e : Event) (given : Given) (new : Hosted) → StepsFrom old v (Own e) given new → (was : Option Judged) → was ≡ word e given.reply
-      → KeepsTaken works new.works.works (job_at works (Own e)) (line.Entry (entry_for number was given.reply))
+      → KeepsTaken works new.works.works (job_at works (Own e)) (line.Entry (entry_for number named was given.reply))
   step_keeps e given new from was is =
-      let made : Line = line.Entry (entry_for number was given.reply) in
+      let made : Line = line.Entry (entry_for number named was given.reply) in
       subst (λ after. KeepsTaken works after (job_at works (Own e)) made) (sym from.line)
       (and_asked works (line_left works (Own e) given.reply) (asked_now old.number v (own_here (before_of old v) (Own e) given.reply)) (job_at works (Own e)) made
       (subst (Leaves e given.reply) (sym is) (leaves e given.reply from.operator))
       (asked_untaken (own_here (before_of old v) (Own e) given.reply)))
 
   -- a message takes no work and ends none
-  message_keeps : (view : View) (a : Arrival) (n : ℕ) (told : Reply (List ℕ)) → taken_after n (line.Entry (entry_for number (Some (judge old.number view (input.Arrive a))) told)) ≡ n
+  message_keeps : (view : View) (a : Arrival) (n : ℕ) (told : Reply (List ℕ)) → taken_after n (line.Entry (entry_for number named (Some (judge old.number view (input.Arrive a))) told)) ≡ n
   message_keeps view (arrival.Located id k entries) n told = refl
   message_keeps view (arrival.FromPeer from (peer.Pull id k size digest indexes)) n told = refl
   message_keeps view (arrival.FromPeer from (peer.Chunk id k index bytes)) n told = refl
   message_keeps view (arrival.FromPeer from (peer.NotHere id k)) n told = refl
 
   pub arrival_keeps : (to : JobNo) (a : Arrival) (given : Given) (new : Hosted) → StepsFrom old v (Arrive to a) given new → (was : Option Judged) → was ≡ Some (judge old.number (v to.0) (input.Arrive a))
-      → KeepsTaken works new.works.works to.0 (line.Entry (entry_for number was given.reply))
+      → KeepsTaken works new.works.works to.0 (line.Entry (entry_for number named was given.reply))
   arrival_keeps to a given new from was is =
-      let made : Line = line.Entry (entry_for number was given.reply) in
+      let made : Line = line.Entry (entry_for number named was given.reply) in
       subst (λ after. KeepsTaken works after to.0 made) (sym from.line)
       (and_asked works works (asked_now old.number v (own_here (before_of old v) (Arrive to a) given.reply)) to.0 made
-      (same_line works to.0 made (λ n. ap (λ w. taken_after n (line.Entry (entry_for number w given.reply))) is ∙ message_keeps (v to.0) a n given.reply))
+      (same_line works to.0 made (λ n. ap (λ w. taken_after n (line.Entry (entry_for number named w given.reply))) is ∙ message_keeps (v to.0) a n given.reply))
       (asked_untaken (own_here (before_of old v) (Arrive to a) given.reply)))
 
 -- one that came too late
-pub stale_keeps : (works : List Queued) (own number : ℕ) (was : Option Judged) (told : Reply (List ℕ)) (r : Refusal) → was ≡ None → told ≡ reply.Refused r
-    → KeepsTaken works works own (line.Entry (entry_for number was told))
-stale_keeps works own number was told r none refused = same_line works own (line.Entry (entry_for number was told)) (λ n i. taken_after n (line.Entry (entry_for number (none i) (refused i))))
+pub stale_keeps : (works : List Queued) (own number : ℕ) (named : EventName) (was : Option Judged) (told : Reply (List ℕ)) (r : Refusal) → was ≡ None → told ≡ reply.Refused r
+    → KeepsTaken works works own (line.Entry (entry_for number named was told))
+stale_keeps works own number named was told r none refused = same_line works own (line.Entry (entry_for number named was told)) (λ n i. taken_after n (line.Entry (entry_for number named (none i) (refused i))))
 
 -- ---- what a journal tells
 
@@ -249,23 +250,23 @@ notes_keep n number job notes = by (filter (λ (note : JobJudged). note.job == j
     by [] = refl
     by (x ∷ xs) = by xs
 
-taken_made : (j : Journal) (number own job : ℕ) (was : Option Judged) (given : Given)
-    → taken_of (with_lines j (lines_made number own was given job)) ≡ (if own == job then taken_after (taken_of j) (line.Entry (entry_for number was given.reply)) else taken_of j)
-taken_made j number own job was given = from-append j.base.taken j.list (lines_made number own was given job) ∙ by (own == job)
+taken_made : (j : Journal) (number own job : ℕ) (named : EventName) (was : Option Judged) (given : Given)
+    → taken_of (with_lines j (lines_made number named own was given job)) ≡ (if own == job then taken_after (taken_of j) (line.Entry (entry_for number named was given.reply)) else taken_of j)
+taken_made j number own job named was given = from-append j.base.taken j.list (lines_made number named own was given job) ∙ by (own == job)
   where
     made : Line
-    made = line.Entry (entry_for number was given.reply)
+    made = line.Entry (entry_for number named was given.reply)
 
-    by : (b : Bool) → taken_from (taken_of j) (cond b (line.Entry (entry_for number was given.reply) ∷ []) [] ++ notes_for number given.notes job) ≡ cond b (taken_after (taken_of j) (line.Entry (entry_for number was given.reply))) (taken_of j)
+    by : (b : Bool) → taken_from (taken_of j) (cond b (line.Entry (entry_for number named was given.reply) ∷ []) [] ++ notes_for number given.notes job) ≡ cond b (taken_after (taken_of j) (line.Entry (entry_for number named was given.reply))) (taken_of j)
     by true = notes_keep (taken_after (taken_of j) made) number job given.notes
     by false = notes_keep (taken_of j) number job given.notes
 
 -- the journals tell of what the line has
-pub next_taken : (before after : List Queued) (number own job : ℕ) (was : Option Judged) (given : Given) (j next : Journal) → KeepsTaken before after own (line.Entry (entry_for number was given.reply))
-    → next ≡ with_lines j (lines_made number own was given job) → taken_of j ≡ count (numbered job) before → taken_of next ≡ count (numbered job) after
-next_taken before after number own job was given j next keeps is h =
-    ap taken_of is ∙ taken_made j number own job was given
-    ∙ ap (λ n. if own == job then taken_after n (line.Entry (entry_for number was given.reply)) else n) h
+pub next_taken : (before after : List Queued) (number own job : ℕ) (named : EventName) (was : Option Judged) (given : Given) (j next : Journal) → KeepsTaken before after own (line.Entry (entry_for number named was given.reply))
+    → next ≡ with_lines j (lines_made number named own was given job) → taken_of j ≡ count (numbered job) before → taken_of next ≡ count (numbered job) after
+next_taken before after number own job named was given j next keeps is h =
+    ap taken_of is ∙ taken_made j number own job named was given
+    ∙ ap (λ n. if own == job then taken_after n (line.Entry (entry_for number named was given.reply)) else n) h
     ∙ sym (keeps.counts job)
 
 -- folding keeps that

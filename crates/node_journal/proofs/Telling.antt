@@ -32,10 +32,11 @@ use Rattle.node_core.specs.Steps.{Given, JobJudged, Steps, StepsFrom, IsStepOf, 
 use Rattle.node_core.specs.OneJob.{input_of}
 use Rattle.node_core.specs.Judged.{IsJudged, arrived, IsArrivalJudged, IsSmall, IsSmallCall}
 use Rattle.node_journal.specs.declared.entries.Entry.{Entry}
+use Rattle.node_journal.specs.declared.entries.EventName.{EventName}
 use Rattle.node_journal.specs.declared.entries.Line.{Line}
 use Rattle.node_journal.specs.declared.entries.Line.TheVariants as line
 use Rattle.node_journal.specs.Replies.{unlisted, kept_reply}
-use Rattle.node_journal.specs.Journals.{Journal, fresh, entry_for, notes_for, lines_made, line_of, lines_of, AreDue, IsTold, Tells, taken_of, taken_come_first, folded_if, with_lines, is_call}
+use Rattle.node_journal.specs.Journals.{Journal, fresh, entry_for, event_name, notes_for, lines_made, line_of, lines_of, AreDue, IsTold, Tells, taken_of, taken_come_first, folded_if, with_lines, is_call}
 use Rattle.node_core.proofs.AllJobs.{own_of, IsFinishAnswer, finish_answer, own_due_is}
 use Rattle.node_core.proofs.Notes.{is_note, AreJobNotes, here_notes}
 use Rattle.node_journal.proofs.OwnInputs.{of_job, here_is, if_own, own_inputs}
@@ -154,8 +155,11 @@ from-append node view (x ∷ xs) ys = from-append node (view_step node view x).v
 -- ---- one entry more, and its notes
 
 module _ (old new : Hosted) (e : Event) (given : Given) (number : ℕ) (steps : Steps old (Own e) given new) (was : Option Judged) (is_judged : IsJudged old e given.reply was) where
+  abbrev named : EventName
+  named = event_name (Own e)
+
   abbrev entry : Entry
-  entry = entry_for number was given.reply
+  entry = entry_for number named was given.reply
 
   -- the job that the entry stands under
   abbrev own : ℕ
@@ -255,34 +259,34 @@ module _ (old new : Hosted) (e : Event) (given : Given) (number : ℕ) (steps : 
         by false o t is = subst (λ ls. IsTold (v job) (record j { list = ls })) (sym (append-nil j.list)) h
 
     one_told : (job : ℕ) (j : Journal) → IsTold (v job) j
-        → IsTold (view_from old.number (v job) (inputs_to before (Own e) given.reply job)) (with_lines j (lines_made number own was given job))
+        → IsTold (view_from old.number (v job) (inputs_to before (Own e) given.reply job)) (with_lines j (lines_made number named own was given job))
     one_told job j h =
         let entered : List Line = if own == job then line.Entry entry ∷ [] else [] in
         let mine : List Input = if_own (own == job) (input_of e given.reply) in
         let inputs = inputs_are job ∙ ap (λ xs. xs ++ only_of job noted) (input_at (input_of e given.reply) refl job) in
-        subst (λ xs. IsTold (view_from old.number (v job) xs) (with_lines j (lines_made number own was given job))) (sym inputs)
-        (subst (λ w. IsTold w (with_lines j (lines_made number own was given job))) (sym (from-append old.number (v job) mine (only_of job noted)))
+        subst (λ xs. IsTold (view_from old.number (v job) xs) (with_lines j (lines_made number named own was given job))) (sym inputs)
+        (subst (λ w. IsTold w (with_lines j (lines_made number named own was given job))) (sym (from-append old.number (v job) mine (only_of job noted)))
         (subst (λ notes. IsTold (view_from old.number (view_from old.number (v job) mine) (only_of job noted)) (with_lines j (entered ++ notes_for number notes job))) (sym from.notes)
         (subst (λ ls. IsTold (view_from old.number (view_from old.number (v job) mine) (only_of job noted)) (record j { list = ls })) (append_assoc j.list entered (notes_for number (judged_notes old.number v noted) job))
         (notes_told old.number number job v noted (here_notes before (Own e) given.reply) (view_from old.number (v job) mine) (with_lines j entered) (own_told job j h)))))
 
   -- the fact under the lock
-  told_next : (before after : ℕ → Journal) → ((job : ℕ) → after job ≡ with_lines (before job) (lines_made number own was given job)) → Tells old before → Tells new after
+  told_next : (before after : ℕ → Journal) → ((job : ℕ) → after job ≡ with_lines (before job) (lines_made number named own was given job)) → Tells old before → Tells new after
   told_next before after is h = record {
     views = λ job. view_from old.number (h.views job) (inputs_to (before_of old h.views) (Own e) given.reply job);
     shown = (steps.each h.views h.shown).views;
     told = λ job.
         subst (IsTold (view_from old.number (h.views job) (inputs_to (before_of old h.views) (Own e) given.reply job))) (sym (is job))
         (one_told h.views h.shown job (before job) (h.told job));
-    taken = λ job. next_taken old.works.works new.works.works number own job was given (before job) (after job) keeps (is job) (h.taken job);
+    taken = λ job. next_taken old.works.works new.works.works number own job named was given (before job) (after job) keeps (is job) (h.taken job);
     first = keeps.first h.first;
   }
     where
       keeps : KeepsTaken old.works.works new.works.works own (line.Entry entry)
-      keeps = step_keeps old h.views h.shown number e given new (steps.each h.views h.shown) was (judged_is h.views h.shown (input_of e given.reply) refl)
+      keeps = step_keeps old h.views h.shown number named e given new (steps.each h.views h.shown) was (judged_is h.views h.shown (input_of e given.reply) refl)
 
   -- also where lists are folded first
-  pub all_told : (before after : ℕ → Journal) (full : ℕ → Bool) → ((job : ℕ) → after job ≡ with_lines (folded_if (full job) (before job)) (lines_made number own was given job)) → ∥ Tells old before ∥₁ → ∥ Tells new after ∥₁
+  pub all_told : (before after : ℕ → Journal) (full : ℕ → Bool) → ((job : ℕ) → after job ≡ with_lines (folded_if (full job) (before job)) (lines_made number named own was given job)) → ∥ Tells old before ∥₁ → ∥ Tells new after ∥₁
   all_told before after full is h = ∥∥₁_map h (λ t. told_next (λ job. folded_if (full job) (before job)) after is (told_folded old before full t))
 
   -- what a session is answered
@@ -319,11 +323,14 @@ module _ (old new : Hosted) (to : JobNo) (a : Arrival) (given : Given) (number :
   abbrev x : Input
   x = input.Arrive a
 
+  abbrev brought : EventName
+  brought = event_name (Arrive to a)
+
   abbrev came : Line
-  came = line.Entry (entry_for number was given.reply)
+  came = line.Entry (entry_for number brought was given.reply)
 
   abbrev made : ℕ → List Line
-  made job = lines_made number to.0 was given job
+  made job = lines_made number brought to.0 was given job
 
   made_is : (job : ℕ) → made job ≡ (if to.0 == job then came ∷ [] else [])
   made_is job =
@@ -395,10 +402,10 @@ module _ (old new : Hosted) (to : JobNo) (a : Arrival) (given : Given) (number :
   arrival_next before after is h = by (is_some (live_at old.admissions to)) (came_from h.views h.shown).operator
     where
       keeps : given.reply ≡ reply.Ok → KeepsTaken old.works.works new.works.works to.0 came
-      keeps ok = arrival_keeps old h.views h.shown number to a given new (came_from h.views h.shown) was (word_is h.views h.shown reply.Ok ok)
+      keeps ok = arrival_keeps old h.views h.shown number brought to a given new (came_from h.views h.shown) was (word_is h.views h.shown reply.Ok ok)
 
       same : given.reply ≡ reply.Refused Stale → KeepsTaken old.works.works old.works.works to.0 came
-      same late = stale_keeps old.works.works to.0 number was given.reply Stale (word_is h.views h.shown (reply.Refused Stale) late) late
+      same late = stale_keeps old.works.works to.0 number brought was given.reply Stale (word_is h.views h.shown (reply.Refused Stale) late) late
 
       by : (live : Bool) → given.reply ≡ answered (stale_unless live) → Tells new after
       by true ok = record {
@@ -407,14 +414,14 @@ module _ (old new : Hosted) (to : JobNo) (a : Arrival) (given : Given) (number :
         told = λ job.
             subst (IsTold (view_from old.number (h.views job) (inputs_to (before_of old h.views) (Arrive to a) given.reply job))) (sym (is job))
             (taken_told h.views h.shown ok job (before job) (h.told job));
-        taken = λ job. next_taken old.works.works new.works.works number to.0 job was given (before job) (after job) (keeps ok) (is job) (h.taken job);
+        taken = λ job. next_taken old.works.works new.works.works number to.0 job brought was given (before job) (after job) (keeps ok) (is job) (h.taken job);
         first = (keeps ok).first h.first;
       }
       by false late = subst (λ node. Tells node after) (sym (stale late)) (record {
         views = h.views;
         shown = h.shown;
         told = λ job. subst (IsTold (h.views job)) (sym (is job)) (stale_told h.views h.shown late job (before job) (h.told job));
-        taken = λ job. next_taken old.works.works old.works.works number to.0 job was given (before job) (after job) (same late) (is job) (h.taken job);
+        taken = λ job. next_taken old.works.works old.works.works number to.0 job brought was given (before job) (after job) (same late) (is job) (h.taken job);
         first = h.first;
       })
 

@@ -3,6 +3,9 @@ use Rattle.std.specs.Prelude.{◌≡◌, ℕ, ◌+◌, ◌-◌, ◌==◌, nat_lt
 use Rattle.std.specs.List.{list_all, list_any}
 use Rattle.std.specs.Option.{option_map_or}
 use Rattle.obj_id.specs.declared.ids.JobNo.{JobNo}
+use Rattle.obj_id.specs.declared.messages.Arrival.{Arrival}
+use Rattle.obj_id.specs.declared.messages.Arrival.TheVariants as arrival
+use Rattle.obj_id.specs.declared.messages.PeerMessage.TheVariants as peer
 use Rattle.obj_id.specs.declared.commands.Reply.{Reply}
 use Rattle.obj_id.specs.declared.commands.Reply.TheVariants as reply
 use Rattle.private_store.specs.declared.inputs.Judged.{Judged}
@@ -22,6 +25,8 @@ use Rattle.node_core.specs.Foreseen.{takers_of}
 use Rattle.node_core.specs.Steps.{Given, JobJudged, job_at}
 use Rattle.node_journal.specs.declared.folding.Base.{Base}
 use Rattle.node_journal.specs.declared.entries.Entry.{Entry}
+use Rattle.node_journal.specs.declared.entries.EventName.{EventName}
+use Rattle.node_journal.specs.declared.entries.EventName.TheVariants as name
 use Rattle.node_journal.specs.declared.entries.Agreement.{Agreement}
 use Rattle.node_journal.specs.declared.entries.Agreement.TheVariants as agree
 use Rattle.node_journal.specs.declared.entries.Line.{Line}
@@ -49,9 +54,26 @@ most_lines = 65536
 
 -- ---- what a step adds
 
--- the entry that an event makes which was this to its job, and was answered so
-abbrev pub entry_for : ℕ → Option Judged → Reply (List ℕ) → Entry
-entry_for number was told = record { number = number; input = was; reply = kept_reply told }
+-- a message without its contents
+abbrev pub arrival_name : Arrival → EventName
+arrival_name (arrival.Located id fetch entries) = name.Located id fetch
+arrival_name (arrival.FromPeer from (peer.Pull id fetch size digest indexes)) = name.Pull from id fetch
+arrival_name (arrival.FromPeer from (peer.Chunk id fetch index bytes)) = name.Chunk from id fetch index
+arrival_name (arrival.FromPeer from (peer.NotHere id fetch)) = name.NotHere from id fetch
+
+-- an event without its contents, its job and its key
+abbrev pub event_name : NodeEvent → EventName
+event_name (Own (event.Admit job quota key)) = name.Admit quota
+event_name (Own (event.Requota job quota)) = name.Requota quota
+event_name (Own (event.JobEnd job)) = name.JobEnd
+event_name (Own event.Take) = name.Take
+event_name (Own (event.Finish job number a)) = name.Finish number
+event_name (Own (event.Call job session c)) = name.Call session
+event_name (Arrive job a) = arrival_name a
+
+-- the entry of an event of this name, which was this to its job, and was answered so
+abbrev pub entry_for : ℕ → EventName → Option Judged → Reply (List ℕ) → Entry
+entry_for number named was told = record { number = number; event = named; input = was; reply = kept_reply told }
 
 -- what a step of this number tells the job as the taker of hands
 abbrev pub notes_for : ℕ → List JobJudged → ℕ → List Line
@@ -59,9 +81,9 @@ notes_for number notes job = map (λ note. line.Note number note.input) (filter 
 
 -- the lines of a job that an event makes whose entry stands under the job of this number: the entry, if the job is that one, and
 -- then what it was told
-abbrev pub lines_made : ℕ → ℕ → Option Judged → Given → ℕ → List Line
-lines_made number own was given job =
-    (if own == job then line.Entry (entry_for number was given.reply) ∷ [] else []) ++ notes_for number given.notes job
+abbrev pub lines_made : ℕ → EventName → ℕ → Option Judged → Given → ℕ → List Line
+lines_made number named own was given job =
+    (if own == job then line.Entry (entry_for number named was given.reply) ∷ [] else []) ++ notes_for number given.notes job
 
 -- ---- the replay
 
@@ -197,7 +219,7 @@ is_folded_by node e job ls = has_no_room (job_at node.works.works e) (takers_at 
 -- a job's journal after a step of this number that the node took: folded first if there might be no room, with its lines
 abbrev pub journal_after : Hosted → ℕ → NodeEvent → Option Judged → Given → ℕ → Journal → Journal
 journal_after node number e was given job journal =
-    with_lines (folded_if (is_folded_by node e job journal.list) journal) (lines_made number (job_at node.works.works e) was given job)
+    with_lines (folded_if (is_folded_by node e job journal.list) journal) (lines_made number (event_name e) (job_at node.works.works e) was given job)
 
 -- ---- beginnings
 

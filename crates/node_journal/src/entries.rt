@@ -2,22 +2,59 @@
 ghost use Rattle.std.specs.Prelude.{◌≡◌};
 ghost use Rattle.private_store.specs.declared.schedules.NodeEvent.TheVariants as node_event;
 ghost use Rattle.node_core.specs.Steps.{job_at};
-ghost use Rattle.node_journal.specs.Journals.{begins, entry_for, is_entry, same_entry, step_of};
+ghost use Rattle.node_journal.specs.Journals.{arrival_name, begins, entry_for, event_name, is_entry, same_entry, step_of};
 ghost use Rattle.node_journal.specs.Replies.{kept_reply};
 
 use bytes::Bytes;
 use node_core::{Node, Outcome};
-use obj_id::{Items, JobNo, Reply};
+use obj_id::{Arrival, Items, JobNo, ObjectId, PeerMessage, Quota, Reply};
 use private_store::{Event, Judged, brief_work};
 use std::alloc::Global;
 use std::marker::PhantomData;
 use std::sync::ledger::Ledger;
+
+/// Which event an entry is of, without contents. A key isn't kept.
+#[derive(Clone, Copy, Debug, PartialEq, Eq)]
+pub enum EventName {
+    /// The operator admits the job, or changes its quota.
+    Admit(Quota),
+    Requota(Quota),
+    JobEnd,
+    Take,
+    /// The number of the work.
+    Finish(u64),
+    /// The number of the session.
+    Call(u32),
+    /// The directory's answer to the fetch of this number.
+    Located {
+        id: ObjectId,
+        fetch: u64,
+    },
+    /// From the node of a number, for the fetch of one.
+    Pull {
+        from: u32,
+        id: ObjectId,
+        fetch: u64,
+    },
+    Chunk {
+        from: u32,
+        id: ObjectId,
+        fetch: u64,
+        index: u32,
+    },
+    NotHere {
+        from: u32,
+        id: ObjectId,
+        fetch: u64,
+    },
+}
 
 /// An entry of a job's journal.
 #[derive(Debug, PartialEq, Eq, Drop)]
 pub struct Entry {
     /// From 1, over all jobs of the node.
     pub number: u64,
+    pub event: EventName,
     /// What the event was to its job, without contents: none if the operator was refused, or a Finish or a message was stale.
     pub input: Option<Judged>,
     /// The answer without contents: bytes as their number, and a list without its items.
@@ -82,7 +119,7 @@ impl Line {
 /// What a journal answers to a receipt.
 #[derive(Clone, Copy, Debug, PartialEq, Eq, Drop)]
 pub enum Agreement {
-    /// Its entry is there, with its number, input and answer.
+    /// Its entry is there, with its number, event, input and answer.
     Yes,
     /// It is of another node, or its number isn't covered and its entry isn't there.
     No,
@@ -121,6 +158,13 @@ impl<L: Ledger> Receipt<L> {
         self.job
     }
 
+    /// Which event the entry is of, without contents.
+    pub fn event(&self) -> EventName
+        ensures { result ≡ self.now.entry.event }
+    {
+        self.entry.event
+    }
+
     /// What the event was to its job, without contents: none if the operator was refused, or a Finish or a message was stale.
     pub fn input(&self) -> &Option<Judged>
         ensures { result.now ≡ self.now.entry.input }
@@ -136,12 +180,13 @@ impl<L: Ledger> Receipt<L> {
     }
 }
 
-/// The entry of this number, of a step that gave this. Takes no memory.
-pub(crate) fn entry_of(alloc: Global, number: u64, outcome: &Outcome) -> Entry
-    ensures { result ≡ entry_for number outcome.now.judged outcome.now.reply }
+/// The entry of this number, of a step of this event that gave this. Takes no memory.
+pub(crate) fn entry_of(alloc: Global, number: u64, event: EventName, outcome: &Outcome) -> Entry
+    ensures { result ≡ entry_for number event outcome.now.judged outcome.now.reply }
 {
     Entry {
         number,
+        event,
         input: outcome.judged,
         reply: kept_reply_of(alloc, &outcome.reply),
     }
@@ -175,5 +220,49 @@ pub(crate) fn job_of(node: &Node, event: &Event) -> JobNo
         Event::Take => node.job_in_turn(),
         Event::Finish(job, _, _) => *job,
         Event::Call(job, _, _) => *job,
+    }
+}
+
+/// The event's name.
+pub(crate) fn name_of(event: &Event) -> EventName
+    ensures { result ≡ event_name (node_event.Own event.now) }
+{
+    match event {
+        Event::Admit(_, quota, _) => EventName::Admit(*quota),
+        Event::Requota(_, quota) => EventName::Requota(*quota),
+        Event::JobEnd(_) => EventName::JobEnd,
+        Event::Take => EventName::Take,
+        Event::Finish(_, number, _) => EventName::Finish(*number),
+        Event::Call(_, session, _) => EventName::Call(*session),
+    }
+}
+
+/// The name of a message that arrives.
+pub(crate) fn name_of_arrival(arrival: &Arrival) -> EventName
+    ensures { result ≡ arrival_name arrival.now }
+{
+    match arrival {
+        Arrival::Located(id, fetch, _) => EventName::Located {
+            id: *id,
+            fetch: *fetch,
+        },
+        Arrival::FromPeer(from, message) => match message {
+            PeerMessage::Pull { id, number, .. } => EventName::Pull {
+                from: *from,
+                id: *id,
+                fetch: *number,
+            },
+            PeerMessage::Chunk(id, fetch, index, _) => EventName::Chunk {
+                from: *from,
+                id: *id,
+                fetch: *fetch,
+                index: *index,
+            },
+            PeerMessage::NotHere(id, fetch) => EventName::NotHere {
+                from: *from,
+                id: *id,
+                fetch: *fetch,
+            },
+        },
     }
 }

@@ -19,10 +19,10 @@ ghost use Rattle.node_journal.specs.Posts.{IsAstray, is_entered};
 ghost use Rattle.private_store.specs.Cluster.{arrival_of};
 ghost use Rattle.private_store.specs.Jobs.{same_job};
 ghost use Rattle.obj_id.specs.declared.messages.Arrival.{Arrival};
-ghost use Rattle.node_journal.specs.Journals.{entry_for, is_this, rise_above, Tells, AreNumbered, agreement, folded_if, journal_after, most_lines, is_call};
+ghost use Rattle.node_journal.specs.Journals.{entry_for, event_name, is_this, rise_above, Tells, AreNumbered, agreement, folded_if, journal_after, most_lines, is_call};
 
 use crate::entered::Entered;
-use crate::entries::{Agreement, Entry, Line, Receipt, entry_of, job_of};
+use crate::entries::{Agreement, Entry, Line, Receipt, entry_of, job_of, name_of, name_of_arrival};
 use crate::folding::{MOST_LINES, base_of, bases_of};
 use crate::logs::Logs;
 use crate::posts::{Made, Posted, arrival};
@@ -89,7 +89,7 @@ impl<L: Ledger> Kept<L> {
         ensures node { IfOk result (λ r. Steps self.old.node (node_event.Own event.now) (given_of r.outcome) self.new.node) }
         ensures journal { IfOk result (λ r. (job : ℕ) → journal_of self.new.logs job
             ≡ journal_after self.old.node (self.old.count + 1) (node_event.Own event.now) r.outcome.judged (given_of r.outcome) job (journal_of self.old.logs job)) }
-        ensures receipt { IfOk result (λ r. (r.receipt.node ≡ self.old.number) × (r.receipt.job.0 ≡ job_at self.old.node.works.works (node_event.Own event.now)) × (r.receipt.entry ≡ entry_for (self.old.count + 1) r.outcome.judged r.outcome.reply)) }
+        ensures receipt { IfOk result (λ r. (r.receipt.node ≡ self.old.number) × (r.receipt.job.0 ≡ job_at self.old.node.works.works (node_event.Own event.now)) × (r.receipt.entry ≡ entry_for (self.old.count + 1) (event_name (node_event.Own event.now)) r.outcome.judged r.outcome.reply)) }
         ensures judged { IfOk result (λ r. IsJudged self.old.node event.now r.outcome.reply r.outcome.judged) }
         ensures count { OnOk result (self.new.count ≡ self.old.count + 1) }
         ensures answered { IfOk result (λ r. is_call event.now ≡ true → wants_memory r.outcome.reply ≡ false) }
@@ -117,7 +117,7 @@ impl<L: Ledger> Kept<L> {
         let receipt = Receipt {
             node: *number,
             job,
-            entry: entry_of(*alloc, next, &outcome),
+            entry: entry_of(*alloc, next, name_of(event), &outcome),
             name: PhantomData,
         };
         Ok(Made { outcome, receipt })
@@ -134,7 +134,7 @@ impl<L: Ledger> Kept<L> {
         ensures node { IfOk result (λ r. (a : Arrival) → arrival_of posted.from posted.message ≡ Some a → Steps self.old.node (node_event.Arrive posted.job a) (given_of r.outcome) self.new.node) }
         ensures journal { IfOk result (λ r. (a : Arrival) → arrival_of posted.from posted.message ≡ Some a → (other : ℕ) → journal_of self.new.logs other
             ≡ journal_after self.old.node (self.old.count + 1) (node_event.Arrive posted.job a) r.outcome.judged (given_of r.outcome) other (journal_of self.old.logs other)) }
-        ensures receipt { IfOk result (λ r. (r.receipt.node ≡ self.old.number) × (r.receipt.job.0 ≡ posted.job.0) × (r.receipt.entry ≡ entry_for (self.old.count + 1) r.outcome.judged r.outcome.reply)) }
+        ensures receipt { IfOk result (λ r. (r.receipt.node ≡ self.old.number) × (r.receipt.job.0 ≡ posted.job.0) × ((a : Arrival) → arrival_of posted.from posted.message ≡ Some a → r.receipt.entry ≡ entry_for (self.old.count + 1) (event_name (node_event.Arrive posted.job a)) r.outcome.judged r.outcome.reply)) }
         ensures judged { IfOk result (λ r. (a : Arrival) → arrival_of posted.from posted.message ≡ Some a → IsArrivalJudged self.old.node posted.job a r.outcome.reply r.outcome.judged) }
         ensures entered { IfOk result (λ r. (a : Arrival) → arrival_of posted.from posted.message ≡ Some a → is_entered a r.outcome.reply r.outcome.judged ≡ true) }
         ensures silent { IfOk result (λ r. r.outcome.notes ≡ []) }
@@ -165,7 +165,7 @@ impl<L: Ledger> Kept<L> {
         ensures node { IfOk result (λ r. Steps self.old.node (node_event.Arrive job arrival.now) (given_of r.outcome) self.new.node) }
         ensures journal { IfOk result (λ r. (other : ℕ) → journal_of self.new.logs other
             ≡ journal_after self.old.node (self.old.count + 1) (node_event.Arrive job arrival.now) r.outcome.judged (given_of r.outcome) other (journal_of self.old.logs other)) }
-        ensures receipt { IfOk result (λ r. (r.receipt.node ≡ self.old.number) × (r.receipt.job.0 ≡ job.0) × (r.receipt.entry ≡ entry_for (self.old.count + 1) r.outcome.judged r.outcome.reply)) }
+        ensures receipt { IfOk result (λ r. (r.receipt.node ≡ self.old.number) × (r.receipt.job.0 ≡ job.0) × (r.receipt.entry ≡ entry_for (self.old.count + 1) (event_name (node_event.Arrive job arrival.now)) r.outcome.judged r.outcome.reply)) }
         ensures judged { IfOk result (λ r. IsArrivalJudged self.old.node job arrival.now r.outcome.reply r.outcome.judged) }
         ensures entered { IfOk result (λ r. is_entered arrival.now r.outcome.reply r.outcome.judged ≡ true) }
         ensures silent { IfOk result (λ r. r.outcome.notes ≡ []) }
@@ -192,7 +192,7 @@ impl<L: Ledger> Kept<L> {
         let receipt = Receipt {
             node: *number,
             job,
-            entry: entry_of(*alloc, next, &outcome),
+            entry: entry_of(*alloc, next, name_of_arrival(arrival), &outcome),
             name: PhantomData,
         };
         Ok(Made { outcome, receipt })
@@ -208,7 +208,7 @@ impl<L: Ledger> Kept<L> {
         ensures node { IfOk result (λ r. Steps self.old.node (node_event.Own event.now) (given_of r.outcome) self.new.node) }
         ensures journal { IfOk result (λ r. (job : ℕ) → journal_of self.new.logs job
             ≡ journal_after self.old.node (self.old.count + 1) (node_event.Own event.now) r.outcome.judged (given_of r.outcome) job (journal_of self.old.logs job)) }
-        ensures receipt { IfOk result (λ r. (r.receipt.node ≡ self.old.number) × (r.receipt.job.0 ≡ job_at self.old.node.works.works (node_event.Own event.now)) × (r.receipt.entry ≡ entry_for (self.old.count + 1) r.outcome.judged r.outcome.reply)) }
+        ensures receipt { IfOk result (λ r. (r.receipt.node ≡ self.old.number) × (r.receipt.job.0 ≡ job_at self.old.node.works.works (node_event.Own event.now)) × (r.receipt.entry ≡ entry_for (self.old.count + 1) (event_name (node_event.Own event.now)) r.outcome.judged r.outcome.reply)) }
         ensures judged { IfOk result (λ r. IsJudged self.old.node event.now r.outcome.reply r.outcome.judged) }
         ensures count { OnOk result (self.new.count ≡ self.old.count + 1) }
         ensures answered { IfOk result (λ r. is_call event.now ≡ true → wants_memory r.outcome.reply ≡ false) }
@@ -297,7 +297,7 @@ impl<L: Ledger> Kept<L> {
     }
 
     /// What the journal says of a receipt: `No` to another node's; `Folded` if its number is covered; and otherwise whether its entry
-    /// is there under its job, with its number, input and answer. The number is looked for by bisection.
+    /// is there under its job, with its number, event, input and answer. The number is looked for by bisection.
     pub fn agrees(&self, receipt: &Receipt<L>) -> Agreement
         ensures { result ≡ agreement (receipt.now.node == self.now.number) receipt.now.entry (journal_of self.now.logs receipt.now.job.0) }
     {
@@ -392,8 +392,9 @@ fn record(
     // the bases are those before the step
     let bases = bases_of(alloc, node, logs, job, takers.as_slice())?;
     let outcome = node.apply(event)?;
+    let entry = entry_of(alloc, number, name_of(event), &outcome);
     logs.fold_all(bases);
-    logs.add(job, Line::Entry(entry_of(alloc, number, &outcome)));
+    logs.add(job, Line::Entry(entry));
     logs.add_notes(number, outcome.notes.as_slice());
     Ok(outcome)
 }
@@ -426,7 +427,8 @@ fn record_arrival(
     // the base is that before the step
     let bases = bases_of(alloc, node, logs, job, &[])?;
     let outcome = node.arrive(job, arrival)?;
+    let entry = entry_of(alloc, number, name_of_arrival(arrival), &outcome);
     logs.fold_all(bases);
-    logs.add(job, Line::Entry(entry_of(alloc, number, &outcome)));
+    logs.add(job, Line::Entry(entry));
     Ok(outcome)
 }

@@ -119,9 +119,14 @@ fn call_later<L: Ledger, R: Wait + Abort>(rt: &R, cluster: &Cluster<L>, earlier:
 
 /// Admits the job, and once more if memory ran out.
 pub(crate) fn admit<L: Ledger, R: Wait>(rt: &R, node: &SharedNode<L>) {
-    let (reply, _) = node.admit(rt, JOB, QUOTA, JobKey([0; 32]));
+    admit_with(rt, node, QUOTA);
+}
+
+/// The same, with this quota.
+pub(crate) fn admit_with<L: Ledger, R: Wait>(rt: &R, node: &SharedNode<L>, quota: Quota) {
+    let (reply, _) = node.admit(rt, JOB, quota, JobKey([0; 32]));
     if matches!(&reply, Reply::Refused(Refusal::NoMemory)) {
-        node.admit(rt, JOB, QUOTA, JobKey([0; 32]));
+        node.admit(rt, JOB, quota, JobKey([0; 32]));
     }
 }
 

@@ -10,3 +10,5 @@ mod frames;
 mod journal;
 #[cfg(test)]
 mod runs;
+#[cfg(test)]
+mod works;

@@ -1,2 +1,4 @@
 mod Crossing
+mod Erasing
+mod Rounds
 mod SmallLists

@@ -1,5 +1,9 @@
 -- What a device is asked for a work, and what is then handed in.
-use Rattle.std.specs.Prelude.{◌≡◌, ℕ, List, Option, Some, None, Result, Ok, Err}
+use Rattle.std.specs.Prelude.{◌≡◌, ◌⊎◌, ℕ, List, ◌∷◌, [], ◌++◌, Option, Some, None, IsSomeAnd, MatchOption, ⊤, Result, Ok, Err}
+use Rattle.std.specs.Option.{option_to_list}
+use Rattle.obj_id.specs.declared.commands.Reply.{Reply}
+use Rattle.obj_id.specs.declared.commands.Reply.TheVariants as reply
+use Rattle.obj_id.specs.declared.refusals.Refusal.TheVariants as refusal
 use Rattle.obj_id.specs.declared.works.DeviceKey.{DeviceKey}
 use Rattle.obj_id.specs.declared.works.DeviceAnswer.{DeviceAnswer}
 use Rattle.obj_id.specs.declared.works.DeviceAnswer.TheVariants as answer
@@ -8,7 +12,12 @@ use Rattle.obj_id.specs.declared.works.WorkKind.{WorkKind}
 use Rattle.obj_id.specs.declared.works.WorkKind.TheVariants.{Write, Read}
 use Rattle.private_store.specs.declared.schedules.Event.{Event}
 use Rattle.private_store.specs.declared.schedules.Event.TheVariants as event
+use Rattle.node_journal.specs.declared.entries.Receipt.{Receipt}
 use Rattle.spill_device.specs.declared.DeviceFault.{DeviceFault}
+use Rattle.session_threads.specs.declared.working.WorkDone.{WorkDone}
+use Rattle.session_threads.specs.declared.working.WorkDone.TheVariants as done
+use Rattle.session_threads.specs.Gathering.{in_order}
+use Rattle.session_threads.specs.Witnesses.{IsOf, witness_of}
 
 -- what is handed in for a write that went so, and for a read
 abbrev pub after_write : Result (Unit {0}) DeviceFault → DeviceAnswer
@@ -34,3 +43,64 @@ pub record IsCarriedOut {D : Type 0} (writes : D → DeviceKey → List ℕ → 
 abbrev pub written_key : WorkKind → DeviceKey → Option DeviceKey
 written_key Write key = Some key
 written_key Read key = None
+
+-- ---- a round
+
+-- the device was asked to erase each of these keys, in order
+abbrev pub AreErased : {D : Type 0} → (D → DeviceKey → Result (Unit {0}) DeviceFault → D → Type 0) → D → List DeviceKey → D → Type 0
+AreErased erases old [] new = new ≡ old
+AreErased {D} erases old (key ∷ keys) new = (between : D) × (went : Result (Unit {0}) DeviceFault) × erases old key went between × AreErased erases between keys new
+
+-- what an answer to a Finish makes of a round
+abbrev pub done_after : Reply (List ℕ) → WorkDone
+done_after (reply.Refused refusal.NoMemory) = done.NoMemory
+done_after (reply.Refused r) = done.Stale
+done_after told = done.Done
+
+-- what was written is erased if the Finish came too late; otherwise nothing is asked of the device
+abbrev pub IsErasedIf : {D : Type 0} → (D → DeviceKey → Result (Unit {0}) DeviceFault → D → Type 0) → WorkDone → D → Option DeviceKey → D → Type 0
+IsErasedIf erases done.Stale old (Some key) new = AreErased erases old (key ∷ []) new
+IsErasedIf erases went old written new = new ≡ old
+
+-- the reply is the work that a Take gave, and its receipt is the last
+abbrev pub IsTaken : {L : Type 0} → Reply (List ℕ) → Option (Receipt L) → Type 0
+IsTaken (reply.Work work) last = IsSomeAnd last (λ r. IsOf event.Take (reply.Work work) (witness_of r))
+IsTaken told last = ⊤
+
+-- the event was answered so, and its receipt comes after this one; without memory there is none
+pub record IsHandedIn {L : Type 0} (made : Event) (told : Reply (List ℕ)) (last : Option (Receipt L)) (gathered : List (Receipt L)) : Type 0 where
+  pub earlier : List (Receipt L)
+  pub given : Option (Receipt L)
+  pub are : gathered ≡ in_order earlier last ++ option_to_list given
+  pub is_given : MatchOption given (told ≡ reply.Refused refusal.NoMemory) (λ r. IsOf made told (witness_of r))
+
+-- the event is handed in, and with its answer the round ends
+pub record EndsRound {D L : Type 0} (erases : D → DeviceKey → Result (Unit {0}) DeviceFault → D → Type 0) (made : Event) (written : Option DeviceKey) (old : D) (went : WorkDone) (new : D) (last : Option (Receipt L)) (gathered : List (Receipt L)) : Type 0 where
+  pub told : Reply (List ℕ)
+  pub is_done : went ≡ done_after told
+  pub erased : IsErasedIf erases went old written new
+  pub handed : IsHandedIn made told last gathered
+
+-- the device was called for a work that the node gave, and its answer handed in; the receipts of both are the last
+pub record HasWorked {D L : Type 0} (writes : D → DeviceKey → List ℕ → Result (Unit {0}) DeviceFault → D → Type 0) (reads : D → DeviceKey → ℕ → Result (List ℕ) DeviceFault → D → Type 0)
+    (erases : D → DeviceKey → Result (Unit {0}) DeviceFault → D → Type 0) (old : D) (went : WorkDone) (new : D) (gathered : List (Receipt L)) : Type 0 where
+  pub work : Work (List ℕ)
+  pub made : Event
+  pub between : D
+  pub taken : Receipt L
+  pub is_taken : IsOf event.Take (reply.Work work) (witness_of taken)
+  pub carried : IsCarriedOut writes reads old work made between
+  pub ends : EndsRound erases made (written_key work.kind work.key) between went new (Some taken) gathered
+
+-- no work was taken, and the device not called; or one was
+abbrev pub HasTaken : {D L : Type 0} → (D → DeviceKey → List ℕ → Result (Unit {0}) DeviceFault → D → Type 0) → (D → DeviceKey → ℕ → Result (List ℕ) DeviceFault → D → Type 0)
+    → (D → DeviceKey → Result (Unit {0}) DeviceFault → D → Type 0) → D → WorkDone → D → List (Receipt L) → Type 0
+HasTaken writes reads erases old went new gathered = ((new ≡ old) × ((went ≡ done.Nothing) ⊎ (went ≡ done.NoMemory))) ⊎ HasWorked writes reads erases old went new gathered
+
+-- a round: keys are erased; then another worker has the place, or a Finish that was kept there is handed in, or a work is taken
+pub record IsRound {D L : Type 0} (writes : D → DeviceKey → List ℕ → Result (Unit {0}) DeviceFault → D → Type 0) (reads : D → DeviceKey → ℕ → Result (List ℕ) DeviceFault → D → Type 0)
+    (erases : D → DeviceKey → Result (Unit {0}) DeviceFault → D → Type 0) (old : D) (went : WorkDone) (new : D) (last : Option (Receipt L)) (gathered : List (Receipt L)) : Type 0 where
+  pub keys : List DeviceKey
+  pub between : D
+  pub erased : AreErased erases old keys between
+  pub rest : ((new ≡ between) × (went ≡ done.Nothing)) ⊎ (((made : Event) × (written : Option DeviceKey) × EndsRound erases made written between went new last gathered) ⊎ HasTaken writes reads erases between went new gathered)

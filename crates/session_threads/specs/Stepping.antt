@@ -11,7 +11,7 @@ use Rattle.private_store.specs.declared.schedules.NodeEvent.TheVariants as node_
 use Rattle.private_store.specs.Private.{Post}
 use Rattle.node_core.specs.Hosted.{Hosted}
 use Rattle.node_core.specs.Steps.{Given, Steps, job_at}
-use Rattle.node_journal.specs.Journals.{entry_for, folded_if, journal_after}
+use Rattle.node_journal.specs.Journals.{entry_for, event_name, folded_if, journal_after}
 use Rattle.node_journal.specs.Logs.{JobLog, journal_of}
 use Rattle.node_journal.specs.Posts.{is_entered}
 use Rattle.session_threads.specs.Witnesses.{Witness}
@@ -41,7 +41,7 @@ pub record IsOneStep (e : NodeEvent) (told : Reply (List ℕ)) (sent : List Post
   pub count : new.count ≡ old.count + 1
   pub journals : (job : ℕ) → journal_of new.logs job ≡ journal_after old.node (old.count + 1) e was given job (journal_of old.logs job)
   pub of_job : witness.job.0 ≡ job_at old.node.works.works e
-  pub entry : witness.entry ≡ entry_for (old.count + 1) was told
+  pub entry : witness.entry ≡ entry_for (old.count + 1) (event_name e) was told
 
 -- one step was made, and then the journal of the job of this number was folded, or not
 pub record IsOneStepFolded (e : NodeEvent) (job : ℕ) (told : Reply (List ℕ)) (sent : List Post) (witness : Witness) (old new : Locked) : Type 0 where

@@ -13,9 +13,13 @@ use Rattle.private_store.specs.declared.frames.Awaited.TheVariants as awaited
 use Rattle.private_store.specs.declared.inputs.Judged.TheVariants as judged
 use Rattle.private_store.specs.declared.schedules.Event.{Event}
 use Rattle.private_store.specs.declared.schedules.Event.TheVariants as event
+use Rattle.private_store.specs.declared.schedules.NodeEvent.TheVariants.{Own, Arrive}
 use Rattle.private_store.specs.Contents.{brief}
 use Rattle.node_core.specs.Steps.{job_of_event}
 use Rattle.node_journal.specs.declared.entries.Entry.{Entry}
+use Rattle.node_journal.specs.declared.entries.EventName.TheVariants as name
+use Rattle.node_journal.specs.declared.entries.Receipt.{Receipt}
+use Rattle.node_journal.specs.Journals.{event_name}
 use Rattle.node_journal.specs.Posts.{is_entered}
 use Rattle.node_journal.specs.Replies.{kept_reply}
 use Rattle.session_engine.specs.Calls.{Asked, to_enter, to_call, to_wait, to_leave, Answered, entered, replied, left}
@@ -25,6 +29,9 @@ pub record Witness : Type 0 where
   pub job : JobNo
   pub entry : Entry
 
+abbrev pub witness_of : {L : Type 0} → Receipt L → Witness
+witness_of receipt = record { job = receipt.job; entry = receipt.entry }
+
 -- whether the entry of an event may stand under the job of this number: a Take's stands under the job whose work it gives
 abbrev pub IsUnder : ℕ → Event → Type 0
 IsUnder job event.Take = ⊤
@@ -33,12 +40,20 @@ IsUnder job e = job ≡ job_of_event e
 -- the entry is of this job, session and command, and has this answer
 pub record IsCalled (job : JobNo) (session : ℕ) (c : Command (List ℕ)) (told : Reply (List ℕ)) (witness : Witness) : Type 0 where
   pub of_job : witness.job ≡ job
+  pub named : witness.entry.event ≡ name.Call session
   pub input : witness.entry.input ≡ Some (judged.Call session (brief c))
+  pub answer : witness.entry.reply ≡ kept_reply told
+
+-- the entry is of this event, and has this answer: it stands under the event's job, or under that whose work a Take gives
+pub record IsOf (e : Event) (told : Reply (List ℕ)) (witness : Witness) : Type 0 where
+  pub of_job : IsUnder witness.job.0 e
+  pub named : witness.entry.event ≡ event_name (Own e)
   pub answer : witness.entry.reply ≡ kept_reply told
 
 -- the entry is of this message of the job
 pub record IsArrived (job : JobNo) (a : Arrival) (witness : Witness) : Type 0 where
   pub of_job : witness.job ≡ job
+  pub named : witness.entry.event ≡ event_name (Arrive job a)
   pub told : Reply (List ℕ)
   pub answer : witness.entry.reply ≡ kept_reply told
   pub input : is_entered a told witness.entry.input ≡ true

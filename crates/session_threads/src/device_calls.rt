@@ -1,6 +1,6 @@
 //! What a worker asks of its device, and what it then hands in.
 ghost use Rattle.std.specs.Prelude.{◌≡◌, true};
-ghost use Rattle.session_threads.specs.DeviceCalls.{IsAsked, IsCarriedOut, written_key};
+ghost use Rattle.session_threads.specs.DeviceCalls.{AreErased, IsAsked, IsCarriedOut, written_key};
 
 use bytes::Bytes;
 use obj_id::{DeviceAnswer, DeviceKey, Work, WorkKind};
@@ -46,7 +46,9 @@ fn answer_of<D: SpillDevice>(device: &mut D, work: &Work<Bytes>) -> DeviceAnswer
 }
 
 /// Erases keys: of how many it failed.
-pub(crate) fn erase_all<D: SpillDevice>(device: &mut D, keys: &[DeviceKey]) -> u64 {
+pub(crate) fn erase_all<D: SpillDevice>(device: &mut D, keys: &[DeviceKey]) -> u64
+    ensures { AreErased D.erase_gives device.old keys.now device.new }
+{
     let mut failed = 0u64;
     for key in keys {
         if device.erase(*key).is_err() {

@@ -4,11 +4,13 @@ ghost use Rattle.obj_id.specs.declared.commands.Reply.TheVariants as reply;
 ghost use Rattle.obj_id.specs.declared.refusals.Refusal.TheVariants.{NoMemory, Stale};
 ghost use Rattle.private_store.specs.Answers.{wants_memory, is_small_reply};
 ghost use Rattle.job_admission.specs.Admissions.{largest_memory};
-ghost use Rattle.node_journal.specs.Replies.{kept_reply};
+ghost use Rattle.private_store.specs.declared.schedules.Event.TheVariants as event;
 ghost use Rattle.session_engine.specs.Calls.{IsEntryRefusal};
 ghost use Rattle.obj_id.specs.declared.messages.Arrival.{Arrival};
 ghost use Rattle.private_store.specs.Cluster.{arrival_of};
-ghost use Rattle.session_threads.specs.Witnesses.{IsCalled, IsArrived, IsUnder, tried};
+ghost use Rattle.session_threads.specs.DeviceCalls.{IsHandedIn, IsTaken};
+ghost use Rattle.session_threads.specs.Gathering.{in_order};
+ghost use Rattle.session_threads.specs.Witnesses.{IsCalled, IsArrived, IsOf, tried, witness_of};
 
 use crate::gathered::{Gathered, look_for};
 use crate::posting::Ways;
@@ -74,7 +76,7 @@ impl<L: Ledger> SharedNode<L> {
         session: u32,
         command: Command<Bytes>,
     ) -> (Reply<Bytes>, Option<Receipt<L>>)
-        ensures called { MatchOption result.1 (result.0 ≡ reply.Refused NoMemory) (λ r. (wants_memory result.0 ≡ false) × IsCalled job session command result.0 (record { job = r.job; entry = r.entry })) }
+        ensures called { MatchOption result.1 (result.0 ≡ reply.Refused NoMemory) (λ r. (wants_memory result.0 ≡ false) × IsCalled job session command result.0 (witness_of r)) }
         ensures small { is_small_reply result.0 ≡ true }
     {
         self.leave_marked(rt);
@@ -98,7 +100,7 @@ impl<L: Ledger> SharedNode<L> {
         session: u32,
         command: Command<Bytes>,
     ) -> (Reply<Bytes>, Option<Receipt<L>>)
-        ensures called { MatchOption result.1 ((result.0 ≡ reply.Refused NoMemory) ⊎ (result.0 ≡ reply.Refused Stale)) (λ r. (wants_memory result.0 ≡ false) × IsCalled job session command result.0 (record { job = r.job; entry = r.entry })) }
+        ensures called { MatchOption result.1 ((result.0 ≡ reply.Refused NoMemory) ⊎ (result.0 ≡ reply.Refused Stale)) (λ r. (wants_memory result.0 ≡ false) × IsCalled job session command result.0 (witness_of r)) }
         ensures later { IfSome result.1 (λ r. (r.node ≡ receipt.now.node) × (receipt.now.entry.number < r.entry.number)) }
         ensures small { is_small_reply result.0 ≡ true }
     {
@@ -123,7 +125,7 @@ impl<L: Ledger> SharedNode<L> {
         session: u32,
         awaited: Awaited,
     ) -> (Reply<Bytes>, Option<Receipt<L>>)
-        ensures called { MatchOption result.1 (result.0 ≡ reply.Refused NoMemory) (λ r. (wants_memory result.0 ≡ false) × IsCalled job session (tried awaited) result.0 (record { job = r.job; entry = r.entry })) }
+        ensures called { MatchOption result.1 (result.0 ≡ reply.Refused NoMemory) (λ r. (wants_memory result.0 ≡ false) × IsCalled job session (tried awaited) result.0 (witness_of r)) }
         ensures small { is_small_reply result.0 ≡ true }
     {
         for _ in rt.forever() {
@@ -143,7 +145,7 @@ impl<L: Ledger> SharedNode<L> {
         session: u32,
         awaited: &Awaited,
     ) -> (Reply<Bytes>, Option<Receipt<L>>, bool)
-        ensures called { MatchOption result.1 (result.0 ≡ reply.Refused NoMemory) (λ r. (wants_memory result.0 ≡ false) × IsCalled job session (tried awaited.now) result.0 (record { job = r.job; entry = r.entry })) }
+        ensures called { MatchOption result.1 (result.0 ≡ reply.Refused NoMemory) (λ r. (wants_memory result.0 ≡ false) × IsCalled job session (tried awaited.now) result.0 (witness_of r)) }
         ensures small { is_small_reply result.0 ≡ true }
     {
         let (stepped, seen) = self.step_awaited(rt, job, session, awaited);
@@ -196,7 +198,7 @@ impl<L: Ledger> SharedNode<L> {
         quota: Quota,
         key: JobKey,
     ) -> (Reply<Bytes>, Option<Receipt<L>>)
-        ensures { MatchOption result.1 (result.0 ≡ reply.Refused NoMemory) (λ r. (r.job ≡ job) × (r.entry.reply ≡ kept_reply result.0)) }
+        ensures { MatchOption result.1 (result.0 ≡ reply.Refused NoMemory) (λ r. IsOf (event.Admit job quota key) result.0 (witness_of r)) }
     {
         self.order(rt, &Event::Admit(job, quota, key))
     }
@@ -209,7 +211,7 @@ impl<L: Ledger> SharedNode<L> {
         job: JobNo,
         quota: Quota,
     ) -> (Reply<Bytes>, Option<Receipt<L>>)
-        ensures { MatchOption result.1 (result.0 ≡ reply.Refused NoMemory) (λ r. (r.job ≡ job) × (r.entry.reply ≡ kept_reply result.0)) }
+        ensures { MatchOption result.1 (result.0 ≡ reply.Refused NoMemory) (λ r. IsOf (event.Requota job quota) result.0 (witness_of r)) }
     {
         self.order(rt, &Event::Requota(job, quota))
     }
@@ -217,7 +219,7 @@ impl<L: Ledger> SharedNode<L> {
     /// The operator ends a job, with the receipt of the entry, which was looked for. There is none exactly if the reply is
     /// `NoMemory`. If the end isn't refused, the job's journal is folded at once, unless there is no memory for that.
     pub fn end_job<R: Wait>(&self, rt: &R, job: JobNo) -> (Reply<Bytes>, Option<Receipt<L>>)
-        ensures { MatchOption result.1 (result.0 ≡ reply.Refused NoMemory) (λ r. (r.job ≡ job) × (r.entry.reply ≡ kept_reply result.0)) }
+        ensures { MatchOption result.1 (result.0 ≡ reply.Refused NoMemory) (λ r. IsOf (event.JobEnd job) result.0 (witness_of r)) }
     {
         let mut kept = self.kept.lock(rt);
         let stepped = step_end(rt, &mut *kept, &self.upkeep, job);
@@ -230,7 +232,7 @@ impl<L: Ledger> SharedNode<L> {
 
     /// An event of the operator's, with the receipt of its entry, which was looked for.
     fn order<R: Wait>(&self, rt: &R, event: &Event) -> (Reply<Bytes>, Option<Receipt<L>>)
-        ensures { MatchOption result.1 (result.0 ≡ reply.Refused NoMemory) (λ r. (IsUnder r.job.0 event.now) × (r.entry.reply ≡ kept_reply result.0)) }
+        ensures { MatchOption result.1 (result.0 ≡ reply.Refused NoMemory) (λ r. IsOf event.now result.0 (witness_of r)) }
     {
         let mut kept = self.kept.lock(rt);
         let stepped = step_order(rt, &mut *kept, &self.upkeep, event);
@@ -247,7 +249,7 @@ impl<L: Ledger> SharedNode<L> {
         rt: &R,
         event: &Event,
     ) -> (Reply<Bytes>, Option<Receipt<L>>)
-        ensures { MatchOption result.1 (result.0 ≡ reply.Refused NoMemory) (λ r. (IsUnder r.job.0 event.now) × (r.entry.reply ≡ kept_reply result.0)) }
+        ensures { MatchOption result.1 (result.0 ≡ reply.Refused NoMemory) (λ r. IsOf event.now result.0 (witness_of r)) }
     {
         let mut kept = self.kept.lock(rt);
         let stepped = step_event(rt, &mut *kept, &self.upkeep, event);
@@ -258,13 +260,15 @@ impl<L: Ledger> SharedNode<L> {
         }
     }
 
-    /// An event of a worker, whose receipt is gathered.
+    /// An event of a worker, whose receipt is gathered, if there is one.
     pub(crate) fn operate_gathering<R: Wait>(
         &self,
         rt: &R,
         event: &Event,
         gathered: &mut Gathered<L>,
-    ) -> Reply<Bytes> {
+    ) -> Reply<Bytes>
+        ensures { IsHandedIn event.now result gathered.old.last (in_order gathered.new.earlier.items gathered.new.last) }
+    {
         if gathered.make_room(rt, self).is_err() {
             return Reply::Refused(Refusal::NoMemory);
         }
@@ -276,11 +280,9 @@ impl<L: Ledger> SharedNode<L> {
     }
 
     /// A worker takes a work, if one waits that nobody has taken. The receipt is gathered.
-    pub(crate) fn take_gathering<R: Wait>(
-        &self,
-        rt: &R,
-        gathered: &mut Gathered<L>,
-    ) -> Reply<Bytes> {
+    pub(crate) fn take_gathering<R: Wait>(&self, rt: &R, gathered: &mut Gathered<L>) -> Reply<Bytes>
+        ensures { IsTaken result gathered.new.last }
+    {
         if gathered.make_room(rt, self).is_err() {
             return Reply::Refused(Refusal::NoMemory);
         }
@@ -291,8 +293,10 @@ impl<L: Ledger> SharedNode<L> {
         reply
     }
 
-    /// A worker takes a work, if one waits that nobody has taken.
-    fn take<R: Wait>(&self, rt: &R) -> (Reply<Bytes>, Option<Receipt<L>>) {
+    /// A worker takes a work, if one waits that nobody has taken: otherwise, and without memory, there is no receipt.
+    fn take<R: Wait>(&self, rt: &R) -> (Reply<Bytes>, Option<Receipt<L>>)
+        ensures { MatchOption result.1 ((result.0 ≡ reply.NoWork) ⊎ (result.0 ≡ reply.Refused NoMemory)) (λ r. IsOf event.Take result.0 (witness_of r)) }
+    {
         let mut kept = self.kept.lock(rt);
         let stepped = step_take(rt, &mut *kept, &self.upkeep);
         drop(kept);
@@ -314,7 +318,7 @@ impl<L: Ledger> SharedNode<L> {
     /// A message that was posted to the node arrives, what the step sends is handed over, and the receipt is of the message's entry.
     /// `Stale` if it was posted to another place, or isn't made for a node; and `NoMemory`. Then it is lost.
     pub fn arrive<R: Wait>(&self, rt: &R, posted: Posted<L>) -> Result<Receipt<L>, Refusal>
-        ensures arrived { IfOk result (λ r. (a : Arrival) → arrival_of posted.from posted.message ≡ Some a → IsArrived posted.job a (record { job = r.job; entry = r.entry })) }
+        ensures arrived { IfOk result (λ r. (a : Arrival) → arrival_of posted.from posted.message ≡ Some a → IsArrived posted.job a (witness_of r)) }
         ensures refused { IfErr result (λ r. (r ≡ NoMemory) ⊎ (r ≡ Stale)) }
     {
         let mut kept = self.kept.lock(rt);

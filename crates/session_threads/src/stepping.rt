@@ -6,14 +6,13 @@ ghost use Rattle.obj_id.specs.declared.refusals.Refusal.TheVariants.{NoMemory, S
 ghost use Rattle.private_store.specs.Answers.{wants_memory, is_small_reply};
 ghost use Rattle.node_journal.specs.Journals.{folded_if};
 ghost use Rattle.node_journal.specs.Logs.{journal_of};
-ghost use Rattle.node_journal.specs.Replies.{kept_reply};
 ghost use Rattle.private_store.specs.declared.schedules.Event.TheVariants as event;
 ghost use Rattle.private_store.specs.declared.schedules.NodeEvent.TheVariants as node_event;
 ghost use Rattle.private_store.specs.Cluster.{arrival_of};
 ghost use Rattle.spill_work.specs.Line.{front_of};
 ghost use Rattle.node_journal.specs.Posts.{posts_left, IsAstray};
 ghost use Rattle.session_threads.specs.Stepping.{seen, IsUntouched, IsOneStep, IsOneStepFolded, IsOneLeave, IsOneArrival, HasArrived};
-ghost use Rattle.session_threads.specs.Witnesses.{IsCalled, IsUnder};
+ghost use Rattle.session_threads.specs.Witnesses.{IsCalled, IsOf, witness_of};
 
 use crate::gathered::look_for;
 use crate::upkeep::Upkeep;
@@ -43,9 +42,9 @@ pub(crate) fn step_call<L: Ledger, R: Wait>(
     session: u32,
     command: Command<Bytes>,
 ) -> Result<Stepped<L>, Refusal>
-    ensures called { IfOk result (λ s. (wants_memory s.reply ≡ false) × IsCalled job session command s.reply (record { job = s.receipt.job; entry = s.receipt.entry })) }
+    ensures called { IfOk result (λ s. (wants_memory s.reply ≡ false) × IsCalled job session command s.reply (witness_of s.receipt)) }
     ensures small { IfOk result (λ s. is_small_reply s.reply ≡ true) }
-    ensures once { IfOk result (λ s. IsOneStep (node_event.Own (event.Call job session command)) s.reply (posts_left s.mail) (record { job = s.receipt.job; entry = s.receipt.entry }) (seen kept.old.node kept.old.count kept.old.logs) (seen kept.new.node kept.new.count kept.new.logs)) }
+    ensures once { IfOk result (λ s. IsOneStep (node_event.Own (event.Call job session command)) s.reply (posts_left s.mail) (witness_of s.receipt) (seen kept.old.node kept.old.count kept.old.logs) (seen kept.new.node kept.new.count kept.new.logs)) }
     ensures node { IfOk result (λ s. s.receipt.node ≡ kept.old.number) }
     ensures same { OnErr result (IsUntouched (seen kept.old.node kept.old.count kept.old.logs) (seen kept.new.node kept.new.count kept.new.logs)) }
     ensures number { kept.new.number ≡ kept.old.number }
@@ -68,10 +67,10 @@ pub(crate) fn step_call_after<L: Ledger, R: Wait>(
     session: u32,
     command: Command<Bytes>,
 ) -> Result<Stepped<L>, Refusal>
-    ensures called { IfOk result (λ s. (wants_memory s.reply ≡ false) × IsCalled job session command s.reply (record { job = s.receipt.job; entry = s.receipt.entry })) }
+    ensures called { IfOk result (λ s. (wants_memory s.reply ≡ false) × IsCalled job session command s.reply (witness_of s.receipt)) }
     ensures later { IfOk result (λ s. (s.receipt.node ≡ receipt.now.node) × (receipt.now.entry.number < s.receipt.entry.number)) }
     ensures small { IfOk result (λ s. is_small_reply s.reply ≡ true) }
-    ensures once { IfOk result (λ s. IsOneStep (node_event.Own (event.Call job session command)) s.reply (posts_left s.mail) (record { job = s.receipt.job; entry = s.receipt.entry }) (seen kept.old.node kept.old.count kept.old.logs) (seen kept.new.node kept.new.count kept.new.logs)) }
+    ensures once { IfOk result (λ s. IsOneStep (node_event.Own (event.Call job session command)) s.reply (posts_left s.mail) (witness_of s.receipt) (seen kept.old.node kept.old.count kept.old.logs) (seen kept.new.node kept.new.count kept.new.logs)) }
     ensures node { IfOk result (λ s. s.receipt.node ≡ kept.old.number) }
     ensures same { OnErr result (IsUntouched (seen kept.old.node kept.old.count kept.old.logs) (seen kept.new.node kept.new.count kept.new.logs)) }
     ensures number { kept.new.number ≡ kept.old.number }
@@ -92,8 +91,8 @@ pub(crate) fn step_event<L: Ledger, R: Wait>(
     upkeep: &Upkeep,
     event: &Event,
 ) -> Result<Stepped<L>, Refusal>
-    ensures stepped { IfOk result (λ s. (IsUnder s.receipt.job.0 event.now) × (s.receipt.entry.reply ≡ kept_reply s.reply)) }
-    ensures once { IfOk result (λ s. IsOneStep (node_event.Own event.now) s.reply (posts_left s.mail) (record { job = s.receipt.job; entry = s.receipt.entry }) (seen kept.old.node kept.old.count kept.old.logs) (seen kept.new.node kept.new.count kept.new.logs)) }
+    ensures stepped { IfOk result (λ s. IsOf event.now s.reply (witness_of s.receipt)) }
+    ensures once { IfOk result (λ s. IsOneStep (node_event.Own event.now) s.reply (posts_left s.mail) (witness_of s.receipt) (seen kept.old.node kept.old.count kept.old.logs) (seen kept.new.node kept.new.count kept.new.logs)) }
     ensures node { IfOk result (λ s. s.receipt.node ≡ kept.old.number) }
     ensures same { OnErr result (IsUntouched (seen kept.old.node kept.old.count kept.old.logs) (seen kept.new.node kept.new.count kept.new.logs)) }
     ensures number { kept.new.number ≡ kept.old.number }
@@ -112,8 +111,8 @@ pub(crate) fn step_order<L: Ledger, R: Wait>(
     upkeep: &Upkeep,
     event: &Event,
 ) -> Result<Stepped<L>, Refusal>
-    ensures stepped { IfOk result (λ s. (IsUnder s.receipt.job.0 event.now) × (s.receipt.entry.reply ≡ kept_reply s.reply)) }
-    ensures once { IfOk result (λ s. IsOneStep (node_event.Own event.now) s.reply (posts_left s.mail) (record { job = s.receipt.job; entry = s.receipt.entry }) (seen kept.old.node kept.old.count kept.old.logs) (seen kept.new.node kept.new.count kept.new.logs)) }
+    ensures stepped { IfOk result (λ s. IsOf event.now s.reply (witness_of s.receipt)) }
+    ensures once { IfOk result (λ s. IsOneStep (node_event.Own event.now) s.reply (posts_left s.mail) (witness_of s.receipt) (seen kept.old.node kept.old.count kept.old.logs) (seen kept.new.node kept.new.count kept.new.logs)) }
     ensures node { IfOk result (λ s. s.receipt.node ≡ kept.old.number) }
     ensures same { OnErr result (IsUntouched (seen kept.old.node kept.old.count kept.old.logs) (seen kept.new.node kept.new.count kept.new.logs)) }
     ensures number { kept.new.number ≡ kept.old.number }
@@ -131,8 +130,8 @@ pub(crate) fn step_end<L: Ledger, R: Wait>(
     upkeep: &Upkeep,
     job: JobNo,
 ) -> Result<Stepped<L>, Refusal>
-    ensures stepped { IfOk result (λ s. (s.receipt.job ≡ job) × (s.receipt.entry.reply ≡ kept_reply s.reply)) }
-    ensures once { IfOk result (λ s. IsOneStepFolded (node_event.Own (event.JobEnd job)) job.0 s.reply (posts_left s.mail) (record { job = s.receipt.job; entry = s.receipt.entry }) (seen kept.old.node kept.old.count kept.old.logs) (seen kept.new.node kept.new.count kept.new.logs)) }
+    ensures stepped { IfOk result (λ s. IsOf (event.JobEnd job) s.reply (witness_of s.receipt)) }
+    ensures once { IfOk result (λ s. IsOneStepFolded (node_event.Own (event.JobEnd job)) job.0 s.reply (posts_left s.mail) (witness_of s.receipt) (seen kept.old.node kept.old.count kept.old.logs) (seen kept.new.node kept.new.count kept.new.logs)) }
     ensures same { OnErr result (IsUntouched (seen kept.old.node kept.old.count kept.old.logs) (seen kept.new.node kept.new.count kept.new.logs)) }
     ensures number { kept.new.number ≡ kept.old.number }
     ensures memory { IfErr result (λ r. r ≡ NoMemory) }
@@ -160,7 +159,9 @@ pub(crate) fn step_take<L: Ledger, R: Wait>(
     kept: &mut Kept<L>,
     upkeep: &Upkeep,
 ) -> Option<Result<Stepped<L>, Refusal>>
-    ensures once { IfSome result (λ r. IfOk r (λ s. IsOneStep (node_event.Own event.Take) s.reply (posts_left s.mail) (record { job = s.receipt.job; entry = s.receipt.entry }) (seen kept.old.node kept.old.count kept.old.logs) (seen kept.new.node kept.new.count kept.new.logs))) }
+    ensures stepped { IfSome result (λ r. IfOk r (λ s. IsOf event.Take s.reply (witness_of s.receipt))) }
+    ensures memory { IfSome result (λ r. IfErr r (λ refusal. refusal ≡ NoMemory)) }
+    ensures once { IfSome result (λ r. IfOk r (λ s. IsOneStep (node_event.Own event.Take) s.reply (posts_left s.mail) (witness_of s.receipt) (seen kept.old.node kept.old.count kept.old.logs) (seen kept.new.node kept.new.count kept.new.logs))) }
     ensures same { IfSome result (λ r. OnErr r (IsUntouched (seen kept.old.node kept.old.count kept.old.logs) (seen kept.new.node kept.new.count kept.new.logs))) }
     ensures none { IfNone result (IsUntouched (seen kept.old.node kept.old.count kept.old.logs) (seen kept.new.node kept.new.count kept.new.logs) × (front_of kept.old.node.works.works ≡ None)) }
     ensures number { kept.new.number ≡ kept.old.number }
@@ -203,7 +204,7 @@ pub(crate) fn step_arrival<L: Ledger, R: Wait>(
     upkeep: &Upkeep,
     posted: Posted<L>,
 ) -> Result<Stepped<L>, Refusal>
-    ensures once { IfOk result (λ s. (a : Arrival) → arrival_of posted.from posted.message ≡ Some a → IsOneArrival posted.job a s.reply (posts_left s.mail) (record { job = s.receipt.job; entry = s.receipt.entry }) (seen kept.old.node kept.old.count kept.old.logs) (seen kept.new.node kept.new.count kept.new.logs)) }
+    ensures once { IfOk result (λ s. (a : Arrival) → arrival_of posted.from posted.message ≡ Some a → IsOneArrival posted.job a s.reply (posts_left s.mail) (witness_of s.receipt) (seen kept.old.node kept.old.count kept.old.logs) (seen kept.new.node kept.new.count kept.new.logs)) }
     ensures node { IfOk result (λ s. s.receipt.node ≡ kept.old.number) }
     ensures of_job { IfOk result (λ s. s.receipt.job ≡ posted.job) }
     ensures stale { IsErrOf result Stale ↔ IsAstray kept.old.number posted }

@@ -1,4 +1,9 @@
 //! What a node's steps leave to be done, beside the node itself.
+ghost use Rattle.std.specs.Prelude.{◌≡◌, ◌⊎◌, List};
+ghost use Rattle.obj_id.specs.declared.works.DeviceKey.{DeviceKey};
+ghost use Rattle.session_threads.specs.declared.working.WorkDone.TheVariants.{Nothing, NoMemory};
+ghost use Rattle.session_threads.specs.DeviceCalls.{AreErased, IsErasedIf};
+
 use crate::device_calls::{Finishing, erase_all};
 use crate::open_sessions::OpenSessions;
 use crate::tally::{Tallies, Tally};
@@ -63,14 +68,18 @@ impl Upkeep {
     }
 
     /// Erases the keys that wait.
-    pub(crate) fn erase_keys<R: Wait, D: SpillDevice>(&self, rt: &R, device: &mut D) {
+    pub(crate) fn erase_keys<R: Wait, D: SpillDevice>(&self, rt: &R, device: &mut D)
+        ensures { (keys : List DeviceKey) × AreErased D.erase_gives device.old keys device.new }
+    {
         let keys = self.keys.take(rt);
         let failed = erase_all(device, &keys);
         self.tallies.unerased(rt, failed);
     }
 
     /// Ends a round whose Take was answered so, and took no work.
-    pub(crate) fn end_take<R: Wait>(&self, rt: &R, told: &Reply<Bytes>) -> WorkDone {
+    pub(crate) fn end_take<R: Wait>(&self, rt: &R, told: &Reply<Bytes>) -> WorkDone
+        ensures { (result ≡ Nothing) ⊎ (result ≡ NoMemory) }
+    {
         self.place.leave(rt, Place::Free);
         match told {
             Reply::Refused(Refusal::NoMemory) => WorkDone::NoMemory,
@@ -86,7 +95,9 @@ impl Upkeep {
         device: &mut D,
         finishing: Finishing,
         done: WorkDone,
-    ) {
+    )
+        ensures { IsErasedIf D.erase_gives done device.old finishing.written device.new }
+    {
         if done == WorkDone::NoMemory {
             self.place.leave(rt, Place::Holds(finishing));
             return;

@@ -5,12 +5,13 @@ use bytes::Bytes;
 use node_journal::Receipt;
 use obj_id::{Command, JobNo, Refusal, Reply};
 use private_store::{ChunkVerdict, Judged};
+use std::array;
 use std::sync::atomic::{AtomicBool, Ordering};
 use std::sync::ledger::Ledger;
 use std::sync::{Condvar, CondvarTimeouts, Mutex, Wait};
 use std::time::{Clock, Duration};
 
-/// How long a call waits for the chunks that it has asked for until it asks again, in milliseconds: some may be lost.
+/// How long a call waits for the next of the chunks that it has asked for until it asks again, in milliseconds: some may be lost.
 const PATIENCE: u64 = 2_000;
 
 /// What a step may have moved for the job's calls that wait.
@@ -18,6 +19,8 @@ const PATIENCE: u64 = 2_000;
 pub(crate) enum Stir {
     /// Nothing that a call waits for.
     Nothing,
+    /// A chunk came, and its fetch isn't over.
+    Chunk,
     /// Room, or a copy that is here.
     Copies,
     /// A fetch, or what another node has of what is fetched.
@@ -26,30 +29,42 @@ pub(crate) enum Stir {
     AllJobs,
 }
 
-/// How often the copies of a job moved, and how often its fetches did.
+/// How often the copies of a job moved, how often its fetches did, and how many chunks came beside.
 #[derive(Clone, Copy, PartialEq, Eq)]
 pub(crate) struct Moved {
     pub copies: u64,
     pub fetches: u64,
+    pub chunks: u64,
 }
 
 /// What moved for the jobs of all nodes, and who waits for it.
 #[derive(Drop)]
 pub(crate) struct Waiting {
-    moves: Mutex<Moves>,
+    bells: [Bell; 64],
+    shut: AtomicBool,
+}
+
+/// The counts of a job, and who waits for them: one step wakes the calls of its own job. Jobs that share a bell are woken for one
+/// another, and find nothing new.
+#[derive(Drop)]
+struct Bell {
+    moved: Mutex<Moved>,
     // something has moved, or the nodes are shut
     changed: Condvar,
-    shut: AtomicBool,
 }
 
 impl Waiting {
     /// Nobody waits, and nothing has moved.
     pub(crate) fn new() -> Waiting {
         Waiting {
-            moves: Mutex::new(Moves::new()),
-            changed: Condvar::new(),
+            bells: array::from_fn(|_| Bell::new()),
             shut: AtomicBool::new(false),
         }
+    }
+
+    /// The bell of the job.
+    fn bell(&self, job: JobNo) -> &Bell {
+        &self.bells[place_of(job)]
     }
 
     /// Whether the nodes are shut.
@@ -59,23 +74,27 @@ impl Waiting {
 
     /// Shuts the nodes: nobody waits any longer.
     pub(crate) fn shut<R: Wait>(&self, rt: &R) {
-        let moves = self.moves.lock(rt);
-        // under the lock, so that nobody is between a look and a wait
         self.shut.store(true, Ordering::SeqCst);
-        drop(moves);
-        self.changed.notify_all();
+        for bell in &self.bells {
+            bell.ring(rt);
+        }
     }
 
     /// The counts of the job.
     pub(crate) fn seen<R: Wait>(&self, rt: &R, job: JobNo) -> Moved {
-        self.moves.lock(rt).of(job)
+        *self.bell(job).moved.lock(rt)
     }
 
     /// Counts what a step of the job may have moved, and wakes who waits for it.
     pub(crate) fn note<R: Wait>(&self, rt: &R, job: JobNo, stir: Stir) {
-        if stir != Stir::Nothing {
-            self.moves.lock(rt).count(job, stir);
-            self.changed.notify_all();
+        match stir {
+            Stir::Nothing => {}
+            Stir::AllJobs => {
+                for bell in &self.bells {
+                    bell.count(rt, stir);
+                }
+            }
+            _ => self.bell(job).count(rt, stir),
         }
     }
 
@@ -96,73 +115,82 @@ impl Waiting {
 
     /// Waits until something may have moved for the job since these were its counts, or the nodes are shut.
     fn await_move<R: Wait>(&self, rt: &R, job: JobNo, seen: Moved) {
-        let moves = self.moves.lock(rt);
-        let moves = self.changed.wait_while(rt, moves, |moves| {
-            !self.is_shut() && moves.of(job) == seen
+        let bell = self.bell(job);
+        let moved = bell.moved.lock(rt);
+        let moved = bell.changed.wait_while(rt, moved, |moved| {
+            !self.is_shut() && moved.copies == seen.copies
         });
-        drop(moves);
+        drop(moved);
     }
 
-    /// The same for a fetch that has asked for chunks, which waits no longer than its patience.
+    /// The same for a fetch that has asked for chunks, which waits no longer than its patience after the last of them that came.
     fn await_chunks<R: Wait + Clock>(&self, rt: &R, job: JobNo, seen: Moved) {
-        let moves = self.moves.lock(rt);
-        let patience = Duration::from_millis(PATIENCE);
-        let (moves, _) = self
-            .changed
-            .wait_timeout_while(rt, moves, patience, |moves| {
-                !self.is_shut() && moves.of(job).fetches == seen.fetches
-            });
-        drop(moves);
-    }
-}
-
-/// The counts of all jobs.
-#[derive(Drop)]
-struct Moves {
-    counts: [Moved; 64],
-}
-
-impl Moves {
-    /// Nothing has moved.
-    fn new() -> Moves {
-        let never = Moved {
-            copies: 0,
-            fetches: 0,
-        };
-        Moves {
-            counts: [never; 64],
-        }
-    }
-
-    /// The counts of the job.
-    fn of(&self, job: JobNo) -> Moved {
-        self.counts[place_of(job)]
-    }
-
-    /// Counts what a step of the job moved.
-    fn count(&mut self, job: JobNo, stir: Stir) {
-        if stir == Stir::AllJobs {
-            for moved in &mut self.counts {
-                moved.count(stir);
+        let mut chunks = seen.chunks;
+        for _ in rt.forever() {
+            let moved = self.await_fetch(rt, job, seen.fetches);
+            if self.is_shut() || moved.fetches != seen.fetches || moved.chunks == chunks {
+                return;
             }
-        } else {
-            self.counts[place_of(job)].count(stir);
+            chunks = moved.chunks;
         }
+    }
+
+    /// The counts once the job's fetches have moved from this count, the nodes are shut, or the patience is over.
+    fn await_fetch<R: Wait + Clock>(&self, rt: &R, job: JobNo, fetches: u64) -> Moved {
+        let bell = self.bell(job);
+        let moved = bell.moved.lock(rt);
+        let patience = Duration::from_millis(PATIENCE);
+        let (moved, _) = bell
+            .changed
+            .wait_timeout_while(rt, moved, patience, |moved| {
+                !self.is_shut() && moved.fetches == fetches
+            });
+        *moved
+    }
+}
+
+impl Bell {
+    /// Nothing has moved.
+    fn new() -> Bell {
+        Bell {
+            moved: Mutex::new(Moved {
+                copies: 0,
+                fetches: 0,
+                chunks: 0,
+            }),
+            changed: Condvar::new(),
+        }
+    }
+
+    /// Counts what moved, and wakes who waits for it. Nobody is between a look and a wait then.
+    fn count<R: Wait>(&self, rt: &R, stir: Stir) {
+        self.moved.lock(rt).count(stir);
+        if stir != Stir::Chunk {
+            self.changed.notify_all();
+        }
+    }
+
+    /// Wakes all who wait. Nobody is between a look and a wait then.
+    fn ring<R: Wait>(&self, rt: &R) {
+        drop(self.moved.lock(rt));
+        self.changed.notify_all();
     }
 }
 
 impl Moved {
     fn count(&mut self, stir: Stir) {
-        if stir != Stir::Nothing {
-            self.copies = self.copies.wrapping_add(1);
+        if stir == Stir::Chunk {
+            self.chunks = self.chunks.wrapping_add(1);
+            return;
         }
+        self.copies = self.copies.wrapping_add(1);
         if matches!(stir, Stir::Fetches | Stir::AllJobs) {
             self.fetches = self.fetches.wrapping_add(1);
         }
     }
 }
 
-/// Where the job's counts are. Jobs that share them are woken for one another, and find nothing new.
+/// Which bell is the job's.
 fn place_of(job: JobNo) -> usize
     ensures { result < 64 }
 {
@@ -177,7 +205,8 @@ pub(crate) fn stirred_by<L: Ledger>(receipt: &Receipt<L>, reply: &Reply<Bytes>) 
     match receipt.input() {
         None => Stir::Nothing,
         Some(Judged::Call(_, command)) => stirred_by_call(command),
-        Some(Judged::Chunk(.., ChunkVerdict::Part | ChunkVerdict::Ignored)) => Stir::Nothing,
+        Some(Judged::Chunk(.., ChunkVerdict::Part)) => Stir::Chunk,
+        Some(Judged::Chunk(.., ChunkVerdict::Ignored)) => Stir::Nothing,
         Some(Judged::Pull(..)) => Stir::Nothing,
         Some(Judged::Chunk(..) | Judged::Located(..) | Judged::NotHere(..)) => Stir::Fetches,
         Some(Judged::Begin(_) | Judged::Answer(..)) => Stir::Fetches,

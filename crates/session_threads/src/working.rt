@@ -1,4 +1,9 @@
 //! Workers, which carry out the device works of a node.
+ghost use Rattle.std.specs.Prelude.{◌≡◌, List, None};
+ghost use Rattle.node_journal.specs.declared.entries.Receipt.{Receipt};
+ghost use Rattle.session_threads.specs.DeviceCalls.{EndsRound, HasTaken, IsRound};
+ghost use Rattle.session_threads.specs.Gathering.{in_order};
+
 use crate::SharedNode;
 use crate::device_calls::{Finishing, call_device};
 use crate::gathered::Gathered;
@@ -89,7 +94,9 @@ impl<L: Ledger> SharedNode<L> {
     /// One round of a worker: sessions that are marked are left, and keys that wait are erased; then a work is taken, the device
     /// called for it, and its answer handed in. An answer that found no memory when it was handed in is the work of the next round,
     /// without a second call.
-    pub fn work_once<R: Wait, D: SpillDevice>(&self, rt: &R, device: &mut D) -> WorkDone {
+    pub fn work_once<R: Wait, D: SpillDevice>(&self, rt: &R, device: &mut D) -> WorkDone
+        ensures { (gathered : List (Receipt L)) × IsRound D.write_gives D.read_gives D.erase_gives device.old result device.new None gathered }
+    {
         let mut gathered = Gathered::new(self.upkeep.alloc);
         let done = self.round(rt, device, &mut gathered);
         gathered.look_for_all(rt, self);
@@ -102,7 +109,9 @@ impl<L: Ledger> SharedNode<L> {
         rt: &R,
         device: &mut D,
         gathered: &mut Gathered<L>,
-    ) -> WorkDone {
+    ) -> WorkDone
+        ensures { IsRound D.write_gives D.read_gives D.erase_gives device.old result device.new gathered.old.last (in_order gathered.new.earlier.items gathered.new.last) }
+    {
         self.leave_marked(rt);
         self.upkeep.erase_keys(rt, device);
         match self.upkeep.place.take(rt) {
@@ -118,7 +127,9 @@ impl<L: Ledger> SharedNode<L> {
         rt: &R,
         device: &mut D,
         gathered: &mut Gathered<L>,
-    ) -> WorkDone {
+    ) -> WorkDone
+        ensures { HasTaken D.write_gives D.read_gives D.erase_gives device.old result device.new (in_order gathered.new.earlier.items gathered.new.last) }
+    {
         match self.take_gathering(rt, gathered) {
             Reply::Work(work) => {
                 let finishing = call_device(device, &work);
@@ -135,7 +146,9 @@ impl<L: Ledger> SharedNode<L> {
         device: &mut D,
         finishing: Finishing,
         gathered: &mut Gathered<L>,
-    ) -> WorkDone {
+    ) -> WorkDone
+        ensures { EndsRound D.erase_gives finishing.event finishing.written device.old result device.new gathered.old.last (in_order gathered.new.earlier.items gathered.new.last) }
+    {
         let reply = self.operate_gathering(rt, &finishing.event, gathered);
         let done = match reply {
             Reply::Refused(Refusal::NoMemory) => WorkDone::NoMemory,

@@ -7,7 +7,7 @@ use Rattle.node_core.specs.Foreseen.{AreTakers}
 use Rattle.node_core.specs.Outcomes.{inputs_noted}
 use Rattle.node_core.specs.Steps.{job_at}
 use Rattle.node_journal.specs.declared.entries.Line.TheVariants as line
-use Rattle.node_journal.specs.Journals.{Journal, entry_for, notes_for, folded_if, has_no_room, is_folded_by, most_lines, with_lines}
+use Rattle.node_journal.specs.Journals.{Journal, entry_for, event_name, notes_for, folded_if, has_no_room, is_folded_by, most_lines, with_lines}
 use Rattle.node_journal.specs.Logs.{journal_of, list_of, spare_of}
 use Rattle.node_journal.proofs.Recording.{room_left, added}
 use Rattle.node_journal.proofs.Rooms.{all_few}
@@ -37,18 +37,19 @@ returns-clause-logs c = λ job.
     let takers = c.as_slice-3.ensures ∙ c.in_ok-takers.ensures.takers in
     let kept = c.in_ok-reserve.ensures.journals job in
     let own : ℕ = job_at c.args.node.now.works.works (Own e) in
+    let made = c.entry_of-entry.ensures ∙ ap (λ named. entry_for c.args.number named outcome.judged outcome.reply) c.name_of.ensures in
     let full = c.in_ok-bases.ensures.full job ∙ (λ i. has_no_room (c.requires.job i) (takers i) job (length (kept i).list)) in
     let first : Journal = journal_of c.fold_all.new.self job in
     let first_is : first ≡ folded_if (is_folded_by c.args.node.now (Own e) job (list_of c.args.logs.now job)) (journal_of c.args.logs.now job) =
     c.fold_all.ensures.journal job ∙ (λ i. folded_if (full i) (kept i)) in
     added (own == job) first (journal_of c.add.new.self job) (journal_of c.add_notes.new.self job)
-    (line.Entry (entry_for c.args.number outcome.judged outcome.reply)) (notes_for c.args.number (inputs_noted outcome.notes) job)
+    (line.Entry (entry_for c.args.number (event_name (Own c.args.event.now)) outcome.judged outcome.reply)) (notes_for c.args.number (inputs_noted outcome.notes) job)
     (c.add.ensures.journal job
     ∙ (λ i. if c.requires.job i == job
-    then with_lines first (line.Entry (c.entry_of.ensures i) ∷ [])
+    then with_lines first (line.Entry (made i) ∷ [])
     else first))
     (c.add_notes.ensures job ∙ ap (λ ns. with_lines (journal_of c.add.new.self job) (notes_for c.args.number (inputs_noted ns) job)) c.as_slice-4.ensures)
-    ∙ ap (λ j. with_lines j ((if own == job then line.Entry (entry_for c.args.number outcome.judged outcome.reply) ∷ [] else []) ++ notes_for c.args.number (inputs_noted outcome.notes) job)) first_is
+    ∙ ap (λ j. with_lines j ((if own == job then line.Entry (entry_for c.args.number (event_name (Own c.args.event.now)) outcome.judged outcome.reply) ∷ [] else []) ++ notes_for c.args.number (inputs_noted outcome.notes) job)) first_is
 
 pub returns-clause-few : goal.returns-clause-few
 returns-clause-few c = λ job.
@@ -56,4 +57,4 @@ returns-clause-few c = λ job.
     let outcome = c.in_ok-outcome.outcome in
     let some = subst (λ (ts : List JobNo). length ts < most_lines) (c.as_slice.ensures ∙ c.in_ok-takers.ensures.takers) (omega arith) in
     all_few (job_at c.args.node.now.works.works (Own e)) c.args.node.now.hands e outcome.reply c.args.number job outcome.notes (journal_of c.args.logs.now job) (journal_of c.add_notes.new.self job)
-    (line.Entry (entry_for c.args.number outcome.judged outcome.reply)) c.in_ok-outcome.ensures.takers some (returns-clause-logs c job)
+    (line.Entry (entry_for c.args.number (event_name (Own c.args.event.now)) outcome.judged outcome.reply)) c.in_ok-outcome.ensures.takers some (returns-clause-logs c job)

@@ -3,7 +3,7 @@ use Rattle.std.specs.Prelude.{if◌then◌else◌}
 use Rattle.private_store.specs.declared.schedules.NodeEvent.TheVariants.{Arrive}
 use Rattle.node_core.specs.Outcomes.{inputs_noted}
 use Rattle.node_journal.specs.declared.entries.Line.TheVariants as line
-use Rattle.node_journal.specs.Journals.{Journal, entry_for, notes_for, folded_if, has_no_room, is_folded_by, most_lines, with_lines}
+use Rattle.node_journal.specs.Journals.{Journal, entry_for, event_name, notes_for, folded_if, has_no_room, is_folded_by, most_lines, with_lines}
 use Rattle.node_journal.specs.Logs.{journal_of, list_of}
 use Rattle.node_journal.proofs.Recording.{added}
 use Rattle.node_journal.proofs.Rooms.{arrival_few}
@@ -20,7 +20,8 @@ pub returns-clause-logs : goal.returns-clause-logs
 returns-clause-logs c = λ job.
     let own = c.args.job.0 == job in
     let outcome = c.in_ok-outcome.outcome in
-    let entry = line.Entry (entry_for c.args.number outcome.judged outcome.reply) in
+    let made = c.entry_of-entry.ensures ∙ ap (λ named. entry_for c.args.number named outcome.judged outcome.reply) c.name_of_arrival.ensures in
+    let entry = line.Entry (entry_for c.args.number (event_name (Arrive c.args.job c.args.arrival.now)) outcome.judged outcome.reply) in
     let notes = notes_for c.args.number (inputs_noted outcome.notes) job in
     let kept = c.in_ok-reserve.ensures.journals job in
     let full = c.in_ok-bases.ensures.full job ∙ ap (λ (j : Journal). has_no_room c.args.job.0 [] job (length j.list)) kept in
@@ -29,7 +30,7 @@ returns-clause-logs c = λ job.
     let first_is : first ≡ folded_if (is_folded_by c.args.node.now (Arrive c.args.job c.args.arrival.now) job (list_of c.args.logs.now job)) (journal_of c.args.logs.now job) =
     c.fold_all.ensures.journal job ∙ (λ i. folded_if (full i) (kept i)) in
     added own first second second entry notes
-    (c.add.ensures.journal job ∙ (λ i. if own then with_lines first (line.Entry (c.entry_of.ensures i) ∷ []) else first))
+    (c.add.ensures.journal job ∙ (λ i. if own then with_lines first (line.Entry (made i) ∷ []) else first))
     (sym (ap (λ ls. record second { list = ls }) (append-nil second.list)) ∙ ap (λ ns. with_lines second (notes_for c.args.number (inputs_noted ns) job)) (sym c.in_ok-outcome.ensures.silent))
     ∙ ap (λ j. with_lines j ((if own then entry ∷ [] else []) ++ notes)) first_is
 
@@ -37,4 +38,4 @@ pub returns-clause-few : goal.returns-clause-few
 returns-clause-few c = λ job.
     let outcome = c.in_ok-outcome.outcome in
     arrival_few c.args.job.0 c.args.number job outcome.notes (journal_of c.args.logs.now job) (journal_of c.add.new.self job)
-    (line.Entry (entry_for c.args.number outcome.judged outcome.reply)) c.in_ok-outcome.ensures.silent (returns-clause-logs c job)
+    (line.Entry (entry_for c.args.number (event_name (Arrive c.args.job c.args.arrival.now)) outcome.judged outcome.reply)) c.in_ok-outcome.ensures.silent (returns-clause-logs c job)

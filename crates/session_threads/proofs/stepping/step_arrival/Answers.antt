@@ -10,7 +10,7 @@ returns-in-Ok-clause-once g c a is =
     let made = c.in-Ok.made in
     let done = rw c.in-Ok.is at c.arrive.ensures in
     let told = c.settled.ensures in
-    let kept = ap (λ r. r.entry) told.receipt ∙ done.receipt.2 in
+    let kept = ap (λ r. r.entry) told.receipt ∙ done.receipt.2 a is in
     record {
       step = record {
         given = given_of made.outcome;
@@ -21,7 +21,7 @@ returns-in-Ok-clause-once g c a is =
         count = done.count;
         journals = done.journal a is;
         of_job = ap (λ r. r.job.0) told.receipt ∙ done.receipt.1;
-        entry = kept ∙ ap (entry_for _ made.outcome.judged) (sym told.reply);
+        entry = kept ∙ ap (entry_for _ _ made.outcome.judged) (sym told.reply);
       };
       entered = (λ i. is_entered a (told.reply i) (kept i).input) ∙ done.entered a is;
     }
