@@ -9,6 +9,8 @@ ROOT = Path(__file__).resolve().parent.parent
 # seconds that an answer or an end may take, on a machine that does much else
 PATIENCE = 100
 PROGRAM = ROOT / "crates/store_server/out/store_server"
+# on its standard error once all sockets listen
+READY = "store: ready\n"
 
 
 def key(job):
@@ -56,8 +58,8 @@ def tell(program, line, expected):
     assert got == expected, f"{line}: got {got!r}, should be {expected!r}"
 
 
-def ended(program, rest, status, said=""):
-    """What the program still prints once its input has ended, and its end."""
+def ended(program, rest, status, said=READY):
+    """What the program still prints once its input has ended, all that it said on its standard error, and its end."""
     out, err = program.communicate(timeout=PATIENCE)
     assert (out, err, program.returncode) == (rest, said, status), f"got {out!r}, {err!r}, {program.returncode}"
 
@@ -65,7 +67,7 @@ def ended(program, rest, status, said=""):
 def close(program):
     """Each entry has a receipt, and each receipt that was looked for its entry. The number of entries, and of lost messages."""
     out, err = program.communicate("close\n", timeout=PATIENCE)
-    assert (out[:7], err, program.returncode) == ("report ", "", 0), f"got {out!r}, {err!r}, {program.returncode}"
+    assert (out[:7], err, program.returncode) == ("report ", READY, 0), f"got {out!r}, {err!r}, {program.returncode}"
     entries, receipts, disagreeing, lost, failures = out.split()[1:]
     assert (entries, disagreeing, failures) == (receipts, "0", "0"), f"got {out!r}"
     return int(entries), int(lost)

@@ -9,13 +9,13 @@ use std::rt::{Env, Files};
 use std::test::Fail;
 use std::{env, fs};
 
-const KEY: DeviceKey = DeviceKey {
+pub(crate) const KEY: DeviceKey = DeviceKey {
     job: JobNo(7),
     number: u64::MAX,
 };
 
 /// The name that a key's file has.
-const FILE: &str = "7.18446744073709551615";
+pub(crate) const FILE: &str = "7.18446744073709551615";
 
 const OTHER: DeviceKey = DeviceKey {
     job: JobNo(7),
@@ -31,7 +31,7 @@ const NEIGHBOUR: DeviceKey = DeviceKey {
 /// The longest object, of many chunks.
 const LONG: usize = 16_777_216;
 
-fn joined(alloc: Global, folder: &str, name: &str) -> Result<String, AllocError> {
+pub(crate) fn joined(alloc: Global, folder: &str, name: &str) -> Result<String, AllocError> {
     match format!(in alloc; "{folder}/{name}") {
         Ok(path) => Ok(path),
         Err(_) => format!(in alloc; "{folder}/{name}"),
@@ -39,7 +39,7 @@ fn joined(alloc: Global, folder: &str, name: &str) -> Result<String, AllocError>
 }
 
 /// A folder of this test's own that isn't there.
-fn own_folder<R: Files + Env + AllocGlobal>(
+pub(crate) fn own_folder<R: Files + Env + AllocGlobal>(
     rt: &R,
     process: u32,
     name: &str,
@@ -59,7 +59,7 @@ fn own_folder<R: Files + Env + AllocGlobal>(
 }
 
 /// A device in the folder; once more if memory ran out.
-fn over_files<R: Files + AllocGlobal + Clone + Drop>(
+pub(crate) fn over_files<R: Files + AllocGlobal + Clone + Drop>(
     rt: &R,
     folder: &str,
 ) -> Result<FileDevice<R>, FolderFault> {
@@ -303,7 +303,7 @@ fn a_write_that_fails_leaves_what_was_there(rt: HostRuntime) -> Result<(), Fail>
 }
 
 /// What is printed of the fault, asked for once more if memory ran out.
-fn printed(alloc: Global, fault: &FolderFault) -> Result<String, AllocError> {
+pub(crate) fn printed(alloc: Global, fault: &FolderFault) -> Result<String, AllocError> {
     match format!(in alloc; "{fault}") {
         Ok(text) => Ok(text),
         Err(_) => format!(in alloc; "{fault}"),

@@ -4,6 +4,8 @@
 #[cfg(test)]
 mod devices;
 #[cfg(test)]
+mod folders;
+#[cfg(test)]
 mod hands;
 #[cfg(test)]
 mod links;

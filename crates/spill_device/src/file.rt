@@ -4,31 +4,26 @@ ghost use Rattle.std.specs.String.{string_bytes};
 ghost use Rattle.spill_device.specs.Faults.{count_after};
 ghost use Rattle.spill_device.specs.Folders.{file_path};
 
+use crate::folder::{FolderFault, is_foreign, make_folder};
 use crate::{DeviceFault, SpillDevice};
 use bytes::Bytes;
 use obj_id::DeviceKey;
 use std::alloc::{AllocError, Global};
-use std::fs::{self, OpenFile};
+use std::fs::{self, OpenFile, OpenOptions};
 use std::io::{self, ErrorKind, Read, Write};
 use std::marker::Model;
+use std::os::unix::fs::OpenOptionsExt;
 use std::rt::Files;
-use thiserror::Error;
 
-/// Why a folder can't be used for a device.
-#[derive(Debug, Drop, Error)]
-pub enum FolderFault {
-    /// It isn't there, and it can't be made.
-    #[error("the folder `{folder}` can't be made: {error}")]
-    NotMade { folder: String, error: io::Error },
-    /// The process has no memory for the device.
-    #[error("no memory")]
-    NoMemory(#[from(alloc)] AllocError),
-}
+/// A spilled object is its owner's alone to read.
+const FILE_MODE: u32 = 0o600;
 
 /// A device that keeps one file for each key, in a folder of its own. A write is whole or `Failed`: the
 /// bytes go to another name first, which then becomes the key's. No contract promises what the files
 /// hold, or that a write or an erase reached them: a file that isn't as long as it should be is
 /// `Failed` at the read, and other damage shows at the digest.
+///
+/// No call follows a link or waits for a pipe: what isn't a regular file stays in a key's place, and its write is `Failed`.
 ///
 /// A contract sees the folder's name and the count of failures.
 #[derive(Drop)]
@@ -48,13 +43,13 @@ impl<R: Files + AllocGlobal + Drop> Model for FileDevice<R> {
 }
 
 impl<R: Files + AllocGlobal + Drop> FileDevice<R> {
-    /// A device in the folder, which is made if it isn't there, and its parents with it. Files of
-    /// an earlier device that are left in it are read as if they were this one's.
+    /// A device in the folder, which is made if it isn't there, and its parents with it: only its owner may use what is made. Files
+    /// of an earlier device that are left in it are read as if they were this one's.
     pub fn new(rt: R, folder: &str) -> Result<FileDevice<R>, FolderFault>
         ensures { IfOk result (λ device. device ≡ record { name = folder.now; failures = 0 }) }
     {
         let folder = String::from_str(rt.alloc(), folder)?;
-        if let Err(error) = fs::create_dir_all(&rt, folder.as_str()) {
+        if let Err(error) = make_folder(&rt, folder.as_str()) {
             return Err(FolderFault::NotMade { folder, error });
         }
         Ok(FileDevice {
@@ -86,6 +81,9 @@ impl<R: Files + AllocGlobal + Drop> FileDevice<R> {
         ensures { IfOk result (λ bytes. length bytes ≡ len) }
     {
         let path = self.path_for(key)?;
+        if is_foreign(&self.rt, path.as_str()) {
+            return Err(io::Error::from(ErrorKind::InvalidData));
+        }
         let mut file = fs::open(&self.rt, path.as_str())?;
         if file.metadata()?.len() != u64::from(len) {
             return Err(io::Error::from(ErrorKind::InvalidData));
@@ -97,10 +95,7 @@ impl<R: Files + AllocGlobal + Drop> FileDevice<R> {
 
     fn remove(&self, key: DeviceKey) -> io::Result<()> {
         let path = self.path_for(key)?;
-        match fs::remove_file(&self.rt, path.as_str()) {
-            Err(error) if error.kind() == ErrorKind::NotFound => Ok(()),
-            removed => removed,
-        }
+        remove_if_there(&self.rt, path.as_str())
     }
 
     /// The answer to a call that went so; a failure is counted.
@@ -128,10 +123,25 @@ fn path_of(alloc: Global, folder: &str, key: DeviceKey) -> Result<String, AllocE
     format!(in alloc; "{folder}/{job}.{number}")
 }
 
-/// Writes the bytes to the file `part`, whose name then becomes `path`.
+/// Writes the bytes to a new file `part`, whose name then becomes `path`. A write that was cut off may have left a `part`.
 fn write_beside<R: Files>(rt: &R, part: &str, path: &str, bytes: &[u8]) -> io::Result<()> {
-    fs::write(rt, part, bytes)?;
+    if is_foreign(rt, path) {
+        return Err(io::Error::from(ErrorKind::AlreadyExists));
+    }
+    remove_if_there(rt, part)?;
+    let mut options = OpenOptions::new();
+    let _ = options.write(true).create_new(true).mode(FILE_MODE);
+    let mut file = options.open(rt, part)?;
+    file.write_all(bytes)?;
     fs::rename(rt, part, path)
+}
+
+/// Removes the file of this path, if there is one. A link is removed, and not what it names.
+fn remove_if_there<R: Files>(rt: &R, path: &str) -> io::Result<()> {
+    match fs::remove_file(rt, path) {
+        Err(error) if error.kind() == ErrorKind::NotFound => Ok(()),
+        removed => removed,
+    }
 }
 
 impl<R: Files + AllocGlobal + Drop> SpillDevice for FileDevice<R> {

@@ -8,11 +8,13 @@ ghost use Rattle.spill_device.specs.Faults.{count_after, last_count, next_count}
 
 mod faulty;
 mod file;
+mod folder;
 mod memory;
 
 use bytes::Bytes;
 pub use faulty::FaultyDevice;
-pub use file::{FileDevice, FolderFault};
+pub use file::FileDevice;
+pub use folder::{FolderFault, SpillFolder};
 pub use memory::MemoryDevice;
 use obj_id::DeviceKey;
 use std::alloc::{AllocError, AllocFailed};

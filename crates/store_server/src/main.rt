@@ -4,6 +4,7 @@
 ghost use Rattle.std.specs.Prelude.{◌≡◌, true};
 ghost use Rattle.world_core.specs.Worlds.{is_shape};
 
+mod serve_fault;
 mod serving;
 
 use journal_replay::{ReplayFault, Verdict, replay_text, status_of as status_of_replay};
@@ -26,11 +27,21 @@ fn main(rt: HostRuntime) -> io::Result<ExitCode> {
             return Ok(ExitCode::from(status_of_error(&error)));
         }
     };
-    let outcome = match task {
-        Task::Run(running) => run(&rt, running),
-        Task::Serve(serving) => serve(rt, rt, serving, rt.reader(), io::writer(&rt)),
-        Task::Replay(path) => return replay(&rt, path),
-    };
+    match task {
+        Task::Run(running) => end(&rt, run(&rt, running)),
+        Task::Serve(serving) => match serve(rt, rt, serving, rt.reader(), io::writer(&rt)) {
+            Ok(()) => Ok(ExitCode::SUCCESS),
+            Err(fault) => {
+                rt.eprintln(fault)?;
+                Ok(ExitCode::FAILURE)
+            }
+        },
+        Task::Replay(path) => replay(&rt, path),
+    }
+}
+
+/// Says what ended a run before its input did, if something did, and gives the status.
+fn end(rt: &HostRuntime, outcome: Result<(), Fault>) -> io::Result<ExitCode> {
     if let Err(fault) = outcome {
         rt.eprintln(fault)?;
     }

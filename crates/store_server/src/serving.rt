@@ -2,14 +2,15 @@
 ghost use Rattle.std.specs.Prelude.{◌≡◌, true};
 ghost use Rattle.world_core.specs.Worlds.{is_shape};
 
+use crate::serve_fault::ServeFault;
 use session_threads::{Cluster, Listening, SharedNode, Working, listen, work};
-use spill_device::{FileDevice, FolderFault};
+use spill_device::{FileDevice, SpillFolder};
 use std::alloc::Global;
 use std::fs::Files;
-use std::io::{BufRead, BufReader, Read, Write};
+use std::io::{BufRead, BufReader, ErrorKind, Read, Write};
 use std::marker::Brand;
 use std::net::Net;
-use std::os::unix::fs::FileTypeExt;
+use std::os::unix::fs::{FileTypeExt, MetadataExt};
 use std::os::unix::net::{UnixListener, UnixStream};
 use std::sync::ledger::{Blank, Ledger};
 use std::sync::{Arc, Wait};
@@ -18,16 +19,25 @@ use std::time::Clock;
 use std::{fs, io};
 use store_program::{Fault, Serving, serve_text, write_report};
 
-/// The socket of a node.
+/// The socket of a node, and which file it is.
 #[derive(Drop)]
 struct Door {
     path: String,
+    inode: Option<Inode>,
     listening: Listening,
+}
+
+/// Which file a path names, whatever its name.
+#[derive(Clone, Copy, PartialEq, Eq)]
+struct Inode {
+    device: u64,
+    number: u64,
 }
 
 /// What serves the nodes.
 #[derive(Drop)]
 struct Served<L: Ledger> {
+    folders: Vec<SpillFolder>,
     workers: Vec<Working<L>>,
     doors: Vec<Door>,
 }
@@ -35,17 +45,18 @@ struct Served<L: Ledger> {
 /// Serves the sockets of all nodes, which fetch from one another, carries out the operator's lines that the reader gives, and
 /// writes their answers, and a report at the end.
 ///
-/// After a fault nothing is reported. Sessions that are open are waited for, whatever ended the operator's lines.
+/// `store: ready` is written to standard error once all sockets listen. After a fault nothing is reported. Sessions that are open are
+/// waited for, whatever ended the operator's lines. Then no spilled object is left in the folders.
 pub fn serve<
     R: Threads + Wait + Clock + Files + Net + Copy + Send + 'static,
     I: Read + Drop,
     O: Write + Drop,
->(rt: R, host: HostRuntime, serving: Serving<'_>, reader: I, writer: O) -> Result<(), Fault>
+>(rt: R, host: HostRuntime, serving: Serving<'_>, reader: I, writer: O) -> Result<(), ServeFault>
     requires { is_shape serving.shape ≡ true }
 {
     let alloc = host.alloc();
     let Ok(mut reader) = BufReader::new(alloc, reader) else {
-        return Err(Fault::NoMemory)
+        return Err(ServeFault::Fault(Fault::NoMemory))
     };
     let mut writer = writer;
     let blank = Blank::new(u64::from(serving.shape.nodes));
@@ -65,7 +76,7 @@ fn serve_named<
     blank: Blank,
     reader: &mut I,
     writer: &mut O,
-) -> Result<(), Fault>
+) -> Result<(), ServeFault>
     requires shape { is_shape serving.shape ≡ true }
     requires name { blank.name ≡ L.name }
     requires parts { blank.parts ≡ L.parts }
@@ -75,25 +86,51 @@ fn serve_named<
     let nodes = serving.shape.nodes;
     let (_book, seats) = blank.open::<L>();
     let Ok(mut cluster) = Cluster::start(alloc, nodes, serving.shape.memory, seats) else {
-        return Err(Fault::NoMemory)
+        return Err(ServeFault::Fault(Fault::NoMemory))
     };
     let mut served = Served {
+        folders: Vec::new(alloc),
         workers: Vec::new(alloc),
         doors: Vec::new(alloc),
     };
     let outcome = match cluster.connect(rt) {
-        Err(_) => Err(Fault::NoMemory),
+        Err(_) => Err(ServeFault::Fault(Fault::NoMemory)),
         Ok(()) => match open_nodes(rt, host, &cluster, serving, &mut served) {
-            Ok(()) => serve_text(&rt, alloc, &cluster, nodes, reader, writer),
+            Ok(()) => take_orders(&rt, host, &cluster, nodes, reader, writer),
             Err(fault) => Err(fault),
         },
     };
     cluster.shut(&rt);
-    let Served { workers, doors } = served;
+    let Served {
+        folders,
+        workers,
+        doors,
+    } = served;
     close_doors(&rt, doors);
     let report = cluster.close(&rt, workers);
+    clear_folders(&folders);
     outcome?;
-    write_report(alloc, &report, writer)
+    match write_report(alloc, &report, writer) {
+        Ok(()) => Ok(()),
+        Err(fault) => Err(ServeFault::Fault(fault)),
+    }
+}
+
+/// Says that all sockets listen, and carries out the operator's lines.
+fn take_orders<L: Ledger, R: Wait, I: BufRead, O: Write>(
+    rt: &R,
+    host: HostRuntime,
+    cluster: &Cluster<L>,
+    nodes: u32,
+    reader: &mut I,
+    writer: &mut O,
+) -> Result<(), ServeFault> {
+    // who reads no standard error is served all the same
+    let _ = host.eprintln("store: ready");
+    match serve_text(rt, host.alloc(), cluster, nodes, reader, writer) {
+        Ok(()) => Ok(()),
+        Err(fault) => Err(ServeFault::Fault(fault)),
+    }
 }
 
 /// Starts the workers and opens the sockets of all nodes.
@@ -106,27 +143,29 @@ fn open_nodes<
     cluster: &Cluster<L>,
     serving: Serving<'_>,
     served: &mut Served<L>,
-) -> Result<(), Fault> {
+) -> Result<(), ServeFault> {
+    served.folders.reserve(serving.shape.nodes as usize)?;
+    served.workers.reserve(serving.shape.nodes as usize)?;
+    served.doors.reserve(serving.shape.nodes as usize)?;
     for number in 0..serving.shape.nodes {
         let Some(node) = cluster.node(number) else {
-            return Err(Fault::Socket)
+            return Err(ServeFault::Fault(Fault::Socket))
         };
-        let Ok(()) = served.workers.reserve(1) else {
-            return Err(Fault::NoMemory)
-        };
-        let worker = start_worker(rt, host, node, serving.spill, number)?;
-        let _ = served.workers.push(worker);
-        let Ok(()) = served.doors.reserve(1) else {
-            return Err(Fault::NoMemory)
-        };
+        let folder = format!(in host.alloc(); "{}/{number}", serving.spill)?;
+        let _ = served
+            .folders
+            .push(SpillFolder::take(host, folder.as_str())?);
+        let _ = served
+            .workers
+            .push(start_worker(rt, host, node, folder.as_str())?);
         let door = open_door(rt, host.alloc(), node, serving.socket, number)?;
         let _ = served.doors.push(door);
     }
     Ok(())
 }
 
-/// Starts the node's worker, which spills into the folder of the node's number. Its device goes into the worker's thread: so it
-/// is over the host's own files, which every thread has.
+/// Starts the node's worker, which spills into the folder. Its device goes into the worker's thread: so it is over the host's own
+/// files, which every thread has.
 fn start_worker<
     L: Ledger + Send + Sync + 'static,
     R: Threads + Wait + Clock + Copy + Send + 'static,
@@ -134,23 +173,13 @@ fn start_worker<
     rt: R,
     host: HostRuntime,
     node: &Arc<SharedNode<L>>,
-    spill: &str,
-    number: u32,
-) -> Result<Working<L>, Fault> {
-    let Ok(node) = Arc::try_clone(node) else {
-        return Err(Fault::NoMemory)
-    };
-    let Ok(folder) = format!(in host.alloc(); "{spill}/{number}") else {
-        return Err(Fault::NoMemory)
-    };
-    let device = match FileDevice::new(host, folder.as_str()) {
-        Ok(device) => device,
-        Err(FolderFault::NotMade { .. }) => return Err(Fault::Output),
-        Err(FolderFault::NoMemory(_)) => return Err(Fault::NoMemory),
-    };
+    folder: &str,
+) -> Result<Working<L>, ServeFault> {
+    let node = Arc::try_clone(node)?;
+    let device = FileDevice::new(host, folder)?;
     match work(rt, node, device) {
         Ok(working) => Ok(working),
-        Err(_) => Err(Fault::NoMemory),
+        Err(error) => Err(ServeFault::Worker { error }),
     }
 }
 
@@ -164,21 +193,23 @@ fn open_door<
     node: &Arc<SharedNode<L>>,
     socket: &str,
     number: u32,
-) -> Result<Door, Fault> {
-    let Ok(node) = Arc::try_clone(node) else {
-        return Err(Fault::NoMemory)
+) -> Result<Door, ServeFault> {
+    let node = Arc::try_clone(node)?;
+    let path = format!(in alloc; "{socket}.{number}")?;
+    let listener = match bind(&rt, path.as_str()) {
+        Ok(listener) => listener,
+        Err(error) => return Err(ServeFault::Socket { path, error }),
     };
-    let Ok(path) = format!(in alloc; "{socket}.{number}") else {
-        return Err(Fault::NoMemory)
-    };
-    let Ok(listener) = bind(&rt, path.as_str()) else {
-        return Err(Fault::Socket)
-    };
+    let inode = inode_of(&rt, path.as_str());
     match listen(rt, alloc, node, listener) {
-        Ok(listening) => Ok(Door { path, listening }),
-        Err(_) => {
+        Ok(listening) => Ok(Door {
+            path,
+            inode,
+            listening,
+        }),
+        Err(error) => {
             let _ = fs::remove_file(&rt, path.as_str());
-            Err(Fault::Socket)
+            Err(ServeFault::Socket { path, error })
         }
     }
 }
@@ -195,19 +226,46 @@ fn bind<R: Files + Net>(rt: &R, path: &str) -> io::Result<UnixListener> {
     UnixListener::bind(rt, path)
 }
 
-/// Whether there is a socket of this path that nobody listens on.
+/// Whether there is a socket of this path of which the system says that nobody listens on it.
 fn is_left<R: Files + Net>(rt: &R, path: &str) -> bool {
     match fs::symlink_metadata(rt, path) {
-        Ok(there) => there.file_type().is_socket() && UnixStream::connect(rt, path).is_err(),
+        Ok(there) => there.file_type().is_socket() && is_refused(UnixStream::connect(rt, path)),
         Err(_) => false,
     }
 }
 
-/// Accepts no stream any more, and removes the sockets' files.
+/// Whether nobody accepts such a connection.
+fn is_refused(connected: io::Result<UnixStream>) -> bool {
+    matches!(connected, Err(error) if error.kind() == ErrorKind::ConnectionRefused)
+}
+
+/// Which file the path names, if there is one.
+fn inode_of<R: Files>(rt: &R, path: &str) -> Option<Inode> {
+    let there = fs::symlink_metadata(rt, path).ok()?;
+    Some(Inode {
+        device: there.dev(),
+        number: there.ino(),
+    })
+}
+
+/// Accepts no stream any more, and removes the sockets' files, unless somebody has put others in their places.
 fn close_doors<R: Threads + Files>(rt: &R, doors: Vec<Door>) {
     for door in doors {
-        let Door { path, listening } = door;
+        let Door {
+            path,
+            inode,
+            listening,
+        } = door;
         let _ = listening.end(rt);
-        let _ = fs::remove_file(rt, path.as_str());
+        if inode_of(rt, path.as_str()) == inode {
+            let _ = fs::remove_file(rt, path.as_str());
+        }
+    }
+}
+
+/// Removes the objects that are left of the nodes. What can't be removed is removed by the next server of the folder.
+fn clear_folders(folders: &[SpillFolder]) {
+    for folder in folders {
+        let _ = folder.clear();
     }
 }

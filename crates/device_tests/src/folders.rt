@@ -1,0 +1,150 @@
+//! The folders of spilled objects: whose they are, and what is in the way in them.
+use crate::devices::{FILE, KEY, joined, over_files, own_folder, printed};
+use assertions::{holds, same};
+use spill_device::{DeviceFault, FolderFault, SpillDevice, SpillFolder};
+use std::os::unix::fs::{MetadataExt, PermissionsExt, symlink};
+use std::test::Fail;
+use std::{fs, process};
+
+/// The permissions of a mode.
+const PERMISSIONS: u32 = 0o777;
+
+/// What there is of this path, and who may use it.
+fn mode_of(rt: &HostRuntime, path: &str) -> Result<u32, Fail> {
+    Ok(fs::symlink_metadata(rt, path)?.mode() & PERMISSIONS)
+}
+
+/// The folder; once more if memory ran out.
+fn taken(rt: HostRuntime, path: &str) -> Result<SpillFolder, FolderFault> {
+    match SpillFolder::take(rt, path) {
+        Err(FolderFault::NoMemory(_)) => SpillFolder::take(rt, path),
+        taken => taken,
+    }
+}
+
+/// What is printed of a folder that isn't given; nothing if it is.
+fn refusal_of(rt: HostRuntime, path: &str) -> Result<String, Fail> {
+    match taken(rt, path) {
+        Ok(_) => Ok(String::new(rt.alloc())),
+        Err(fault) => Ok(printed(rt.alloc(), &fault)?),
+    }
+}
+
+#[test]
+fn what_is_made_is_its_owners_alone(rt: HostRuntime) -> Result<(), Fail> {
+    let folder = own_folder(&rt, process::id(rt.process()), "private")?;
+    let file = joined(rt.alloc(), folder.as_str(), FILE)?;
+    let mut device = over_files(&rt, folder.as_str())?;
+    same!(rt; device.write(KEY, b"some"), Ok(()));
+    same!(rt; mode_of(&rt, folder.as_str())?, 0o700);
+    same!(rt; mode_of(&rt, file.as_str())?, 0o600);
+    fs::remove_dir_all(&rt, folder.as_str())?;
+    Ok(())
+}
+
+#[test]
+fn a_link_is_never_followed(rt: HostRuntime) -> Result<(), Fail> {
+    let folder = own_folder(&rt, process::id(rt.process()), "linked")?;
+    let mut device = over_files(&rt, folder.as_str())?;
+    let foreign = joined(rt.alloc(), folder.as_str(), "foreign")?;
+    let file = joined(rt.alloc(), folder.as_str(), FILE)?;
+    fs::write(&rt, foreign.as_str(), "of others")?;
+    symlink(&rt, foreign.as_str(), file.as_str())?;
+    same!(rt; device.write(KEY, b"some"), Err(DeviceFault::Failed));
+    holds!(rt; matches!(device.read(KEY, 9), Err(DeviceFault::Failed)));
+    holds!(rt; fs::symlink_metadata(&rt, file.as_str())?.is_symlink());
+    same!(rt; device.erase(KEY), Ok(()));
+    same!(rt; fs::read_to_string(&rt, foreign.as_str())?.as_str(), "of others");
+    fs::remove_dir_all(&rt, folder.as_str())?;
+    Ok(())
+}
+
+#[test]
+fn what_a_write_left_is_replaced_and_a_link_in_its_place_is_not_followed(
+    rt: HostRuntime,
+) -> Result<(), Fail> {
+    let folder = own_folder(&rt, process::id(rt.process()), "part")?;
+    let mut device = over_files(&rt, folder.as_str())?;
+    let foreign = joined(rt.alloc(), folder.as_str(), "foreign")?;
+    let file = joined(rt.alloc(), folder.as_str(), FILE)?;
+    let part = format!(in rt.alloc(); "{file}.part")?;
+    fs::write(&rt, foreign.as_str(), "of others")?;
+    symlink(&rt, foreign.as_str(), part.as_str())?;
+    same!(rt; device.write(KEY, b"some"), Ok(()));
+    same!(rt; fs::read_to_string(&rt, foreign.as_str())?.as_str(), "of others");
+    same!(rt; fs::read_to_string(&rt, file.as_str())?.as_str(), "some");
+    holds!(rt; fs::symlink_metadata(&rt, part.as_str()).is_err());
+    fs::remove_dir_all(&rt, folder.as_str())?;
+    Ok(())
+}
+
+#[test]
+fn a_folder_is_one_servers_at_a_time(rt: HostRuntime) -> Result<(), Fail> {
+    let folder = own_folder(&rt, process::id(rt.process()), "one")?;
+    let first = taken(rt, folder.as_str())?;
+    let told = refusal_of(rt, folder.as_str())?;
+    holds!(rt; told.as_str().ends_with("is used by another server"));
+    holds!(rt; told.as_str().contains(folder.as_str()));
+    drop(first);
+    same!(rt; refusal_of(rt, folder.as_str())?.as_str(), "");
+    fs::remove_dir_all(&rt, folder.as_str())?;
+    Ok(())
+}
+
+#[test]
+fn a_folder_that_others_may_use_is_refused(rt: HostRuntime) -> Result<(), Fail> {
+    let folder = own_folder(&rt, process::id(rt.process()), "shared")?;
+    drop(taken(rt, folder.as_str())?);
+    fs::set_permissions(&rt, folder.as_str(), fs::Permissions::from_mode(0o750))?;
+    let told = refusal_of(rt, folder.as_str())?;
+    holds!(rt; told.as_str().ends_with("is not its owner's alone (chmod 700)"));
+    fs::remove_dir_all(&rt, folder.as_str())?;
+    Ok(())
+}
+
+/// The names that are there of these.
+fn are_there(rt: &HostRuntime, folder: &str, names: &[&str]) -> Result<u32, Fail> {
+    let mut count = 0u32;
+    for name in names {
+        let path = joined(rt.alloc(), folder, name)?;
+        if fs::symlink_metadata(rt, path.as_str()).is_ok() {
+            count = count.saturating_add(1);
+        }
+    }
+    Ok(count)
+}
+
+/// Names of spilled objects, whole or being written.
+const SPILLED: [&str; 4] = ["1.2", "0.1", FILE, "3.4.part"];
+
+/// Other names.
+const OTHERS: [&str; 7] = ["1", "1.", ".2", "1.2.3", "a.2", "01.2", "1.2.parts"];
+
+#[test]
+fn spilled_objects_are_removed_and_nothing_else(rt: HostRuntime) -> Result<(), Fail> {
+    let folder = own_folder(&rt, process::id(rt.process()), "swept")?;
+    drop(over_files(&rt, folder.as_str())?);
+    for name in SPILLED {
+        fs::write(
+            &rt,
+            joined(rt.alloc(), folder.as_str(), name)?.as_str(),
+            "left",
+        )?;
+    }
+    for name in OTHERS {
+        fs::write(
+            &rt,
+            joined(rt.alloc(), folder.as_str(), name)?.as_str(),
+            "of others",
+        )?;
+    }
+    let taken = taken(rt, folder.as_str())?;
+    same!(rt; are_there(&rt, folder.as_str(), &SPILLED)?, 0);
+    same!(rt; are_there(&rt, folder.as_str(), &OTHERS)?, 7);
+    let mut device = over_files(&rt, folder.as_str())?;
+    same!(rt; device.write(KEY, b"some"), Ok(()));
+    taken.clear()?;
+    same!(rt; are_there(&rt, folder.as_str(), &SPILLED)?, 0);
+    fs::remove_dir_all(&rt, folder.as_str())?;
+    Ok(())
+}

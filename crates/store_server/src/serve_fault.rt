@@ -1,0 +1,44 @@
+//! Why nodes aren't served, or no longer.
+use spill_device::FolderFault;
+use std::alloc::{AllocError, AllocFailed};
+use std::io;
+use store_program::Fault;
+use thiserror::Error;
+
+/// Why nodes aren't served, or no longer: the line that the process writes to standard error, without its line feed.
+#[derive(Debug, Drop, Error)]
+pub enum ServeFault {
+    /// The operator's lines, the output or memory.
+    #[error("{0}")]
+    Fault(Fault),
+    /// A folder of spilled objects can't be used.
+    #[error("store: output failed: {0}")]
+    Folder(FolderFault),
+    /// A socket can't be served.
+    #[error("store: socket failed: {path}: {error}")]
+    Socket { path: String, error: io::Error },
+    /// A worker can't be started.
+    #[error("store: no memory: {error}")]
+    Worker { error: io::Error },
+}
+
+impl From<FolderFault> for ServeFault {
+    fn from(fault: FolderFault) -> ServeFault {
+        match fault {
+            FolderFault::NoMemory(_) => ServeFault::Fault(Fault::NoMemory),
+            fault => ServeFault::Folder(fault),
+        }
+    }
+}
+
+impl From<AllocError> for ServeFault {
+    fn from(_error: AllocError) -> ServeFault {
+        ServeFault::Fault(Fault::NoMemory)
+    }
+}
+
+impl<T: Drop> From<AllocFailed<T>> for ServeFault {
+    fn from(_error: AllocFailed<T>) -> ServeFault {
+        ServeFault::Fault(Fault::NoMemory)
+    }
+}
