@@ -62,7 +62,7 @@ client-test: build
 client-check:
 	clients/check
 
-# tests/sessions, the client's tests and the daemon's at the program that is there already, as the gate leaves it, with no new proof;
+# tests/sessions, tests/journals, the client's tests and the daemon's at the program that is there already, as the gate leaves it, with no new proof;
 # and the tests of pictures, which need none. This is what the gate's script runs after the gate.
 try-built:
 	tests/built
