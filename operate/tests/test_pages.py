@@ -5,6 +5,7 @@ from __future__ import annotations
 import re
 import shutil
 import subprocess
+import sys
 import unittest
 from pathlib import Path
 from typing import List
@@ -62,7 +63,7 @@ class SettingsToBeginWith(unittest.TestCase):
 class Manual(unittest.TestCase):
     @unittest.skipUnless(shutil.which("mandoc"), "there is no mandoc")
     def test_mandoc_finds_nothing_wrong(self) -> None:
-        self.assertEqual([page.name for page in PAGES], ["store-daemon.1", "store.1", "storectl.1"])
+        self.assertEqual([page.name for page in PAGES], ["store-client.1", "store-daemon.1", "store.1", "storectl.1"])
         for page in PAGES:
             # it looks for the pages that a page names in its folder
             words = ["mandoc", "-T", "lint", "-W", "style", page.name]
@@ -75,6 +76,14 @@ class Manual(unittest.TestCase):
         named = [name for item in items for name in item.split(" , ")]
         for name in (*STORE_OPTIONS, *JOB_OPTIONS, *SUMMARY.split(", ")):
             self.assertTrue(name in named or name in items or f"{name} , close now" in items, f"{name}: {named}")
+
+    def test_each_command_of_the_client_has_its_place(self) -> None:
+        text = (OPERATE / "man/store-client.1").read_text()
+        items = " ".join(line for line in text.splitlines() if line.startswith(".It Cm "))
+        told = subprocess.run([sys.executable, OPERATE / "store-client", "--help"], capture_output=True, text=True, check=True).stdout
+        commands = re.findall(r"^    ([a-z][a-z-]*) ", told, re.MULTILINE)
+        self.assertIn("put", commands)
+        self.assertEqual([name for name in commands if not re.search(rf"\b{name}\b", items)], [])
 
 
 def counts(daemon: Daemon) -> List[Mark]:
