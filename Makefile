@@ -71,13 +71,26 @@ try-built:
 daemon-test:
 	operate/tests/all
 
+# Serves from a folder of this checkout until it is interrupted, with the built program, or with the one of the release in dist/ if it
+# is of these sources; RELEASE=yes takes the release in any case, and FOLDER=PATH is another folder than out/serve.
+serve:
+	@operate/serve $(if $(RELEASE),--release) $(if $(FOLDER),--folder '$(FOLDER)')
+
 # A release of the program that is there: dist/store-VERSION-x86_64-linux.tar.gz. GATE=FILE has what the gate printed.
 dist:
 	operate/dist $(if $(GATE),--gate $(GATE))
 
-# That a release is the same each time, and serves from an empty folder.
+# The same, and a Debian package of it.
+deb:
+	operate/dist --deb $(if $(GATE),--gate $(GATE))
+
+# That a release and its package are the same each time, and serve from an empty folder.
 dist-check:
 	operate/dist-check
+
+# How much jobs can be felt by others: trials of ten minutes in all, which aren't part of the gate (see tests/hostile/run --help).
+hostile:
+	tests/hostile/run
 
 # Shows the guarantee on a schedule: without its second job's lines the program answers the first job alike.
 show-guarantee:
@@ -104,5 +117,5 @@ picture:
 	bench/picture docs/pictures/spilling.log -o docs/pictures/spilling.svg
 	rm docs/pictures/spilling.log
 
-.PHONY: test check build run edits sessions attack soak client-test client-check try-built daemon-test dist dist-check show-guarantee pipeline \
-	model faults bench picture
+.PHONY: test check build run edits sessions attack soak client-test client-check try-built daemon-test serve dist deb dist-check \
+	hostile show-guarantee pipeline model faults bench picture

@@ -5,12 +5,12 @@ from __future__ import annotations
 import os
 import secrets
 from pathlib import Path
+from typing import Optional
 
 _SETTINGS = """\
 # What each option means is in docs/OPERATING.md and store-daemon(1). Paths are taken from this folder on.
 [store]
-program = {program}
-nodes = 1
+{program}nodes = 1
 memory = 256M
 socket = store
 control = control
@@ -23,11 +23,14 @@ key_file = job1.key
 """
 
 
-def make_first(folder: Path, program: Path) -> Path:
-    """Makes the folder, for its owner alone, and what is in it. The path of the settings. What is there already stays as it is."""
+def make_first(folder: Path, program: Optional[Path]) -> Path:
+    """Makes the folder, for its owner alone, and what is in it. The path of the settings, which name the program if one is given.
+
+    What is there already stays as it is.
+    """
     folder.mkdir(mode=0o700)
     _write(folder / "job1.key", secrets.token_hex(32) + "\n")
-    _write(folder / "store.ini", _SETTINGS.format(program=program))
+    _write(folder / "store.ini", _SETTINGS.format(program=f"program = {program}\n" if program else ""))
     return folder / "store.ini"
 
 
