@@ -3,9 +3,20 @@
 from __future__ import annotations
 
 from dataclasses import replace
-from typing import Dict, Iterable, List, Optional, Tuple
+from typing import Dict, FrozenSet, Iterable, List, NamedTuple, Optional, Tuple
 
 from .orders import Admit, End, ServerOrder
+
+
+class Over(NamedTuple):
+    """Which jobs will never live at a node again in this run of the server: numbers rise, so all up to the last that was admitted
+    there, but for those that live."""
+
+    last: int
+    live: FrozenSet[int]
+
+    def has(self, job: int) -> bool:
+        return job <= self.last and job not in self.live
 
 
 class LiveJobs:
@@ -13,12 +24,19 @@ class LiveJobs:
 
     def __init__(self, jobs: Iterable[Admit]) -> None:
         self._jobs: Dict[Tuple[int, int], Admit] = {(job.node, job.job): job for job in jobs}
+        # by node, as this run of the server answered
+        self._last: Dict[int, int] = {}
+
+    def begin(self) -> None:
+        """A server is started, to which no number was given yet."""
+        self._last.clear()
 
     def carried_out(self, order: ServerOrder) -> None:
         """The server answered ok."""
         place = (order.node, order.job)
         if isinstance(order, Admit):
             self._jobs[place] = order
+            self._last[order.node] = order.job
         elif isinstance(order, End):
             self._jobs.pop(place, None)
         elif place in self._jobs:
@@ -34,6 +52,9 @@ class LiveJobs:
     def at(self, node: int) -> List[Admit]:
         """By number."""
         return [job for job in self.in_order() if job.node == node]
+
+    def over(self, node: int) -> Over:
+        return Over(self._last.get(node, 0), frozenset(job for at, job in self._jobs if at == node))
 
     def in_order(self) -> List[Admit]:
         """As they have to be admitted: a number is greater than all that its node had before."""

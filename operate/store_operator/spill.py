@@ -14,6 +14,8 @@ import stat
 from pathlib import Path
 from typing import Iterator, NamedTuple, Optional, Sequence, Tuple
 
+from .jobs import Over
+
 LOCK = "lock"
 _SPILLED = re.compile(r"(0|[1-9][0-9]{0,9})\.(0|[1-9][0-9]{0,19})(\.part)?", re.ASCII)
 _FOLDER = os.O_RDONLY | os.O_DIRECTORY | os.O_NOFOLLOW | os.O_CLOEXEC
@@ -76,6 +78,13 @@ class SpillFolders:
         """
         return sum(_sweep(folder) for folder in self.nodes)
 
+    def sweep_jobs(self, over: Sequence[Over]) -> int:
+        """Removes what lies there of jobs that are over, by node: a server reads none of it any more. How many files there were.
+
+        The server goes on meanwhile, and may remove the same files: neither minds that one has gone.
+        """
+        return sum(_sweep_jobs(folder, jobs) for folder, jobs in zip(self.nodes, over))
+
     def spilled(self) -> Spilled:
         """What lies there now."""
         sizes = [size for folder in self.nodes for size in _sizes(folder)]
@@ -118,6 +127,20 @@ def _sweep(folder: Path) -> int:
         for name, _ in found:
             os.unlink(name, dir_fd=there)
         return len(found)
+    finally:
+        os.close(there)
+
+
+def _sweep_jobs(folder: Path, over: Over) -> int:
+    there = _open(folder)
+    try:
+        count = 0
+        for name, about in _spilled(there):
+            if over.has(int(name.partition(".")[0])) and stat.S_ISREG(about.st_mode):
+                with contextlib.suppress(FileNotFoundError):
+                    os.unlink(name, dir_fd=there)
+                    count += 1
+        return count
     finally:
         os.close(there)
 

@@ -8,19 +8,20 @@ import enum
 import logging
 import signal
 import time
-from typing import Any, Optional
+from typing import Any, List, Optional
 
 from . import sockets
 from .inspection import count_sessions
-from .jobs import LiveJobs
+from .jobs import LiveJobs, Over
 from .limits import raise_limit
 from .notify import tell_manager
-from .orders import ServerOrder, server_line, told
+from .orders import End, ServerOrder, server_line, told
 from .refusals import explained
 from .server import Server, ServerEnded
 from .settings import Settings
 from .sockets import SocketFault
 from .spill import SpillFault, SpillFolders
+from .tidying import Tidying
 
 # seconds that the server may take for an answer, and until it listens
 _PATIENCE = 60.0
@@ -61,6 +62,7 @@ class Supervisor:
         self.ended = asyncio.Event()
         self.end = "no server was running"
         self._log = log
+        self._tidying = Tidying(self.spill, self._over, log)
         self._complaint = ""
         self._lock = -1
         self._pause = _FIRST_PAUSE
@@ -106,6 +108,8 @@ class Supervisor:
         """One run of the server, of which nothing stays. Once it has served, a failed start is a crash like others."""
         self.state = State.STARTING
         self.started = time.monotonic()
+        self.jobs.begin()
+        tidying = asyncio.ensure_future(self._tidying.run())
         try:
             self._sweep()
             self.server = await Server.start(self.settings, self._lock, self._heard)
@@ -117,6 +121,7 @@ class Supervisor:
                 raise StartFault(str(fault)) from fault
             self._log.error("the server can't be started: %s", fault)
         finally:
+            tidying.cancel()
             await self._end_server()
             self._clean_up()
 
@@ -179,6 +184,11 @@ class Supervisor:
         self._log.info("%s: %s", told(order), done.result())
         if done.result().endswith(_OK):
             self.jobs.carried_out(order)
+            if isinstance(order, End):
+                self._tidying.job_ended()
+
+    def _over(self) -> List[Over]:
+        return [self.jobs.over(node) for node in range(self.settings.nodes)]
 
     def _heard(self, line: str) -> None:
         self._complaint = line

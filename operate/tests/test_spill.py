@@ -3,11 +3,13 @@
 from __future__ import annotations
 
 import os
+import shutil
 import signal
+import subprocess
 import unittest
 from pathlib import Path
 
-from driving import Place, fill, is_running, until
+from driving import KEY, Place, fill, is_running, until
 
 # what a store's own files are called, and what only looks like it
 OWN = ("1.1", "4294967295.18446744073709551615", "0.0", "7.12.part")
@@ -70,6 +72,59 @@ class Sweeps(unittest.TestCase):
             self.assertEqual(place.end(daemon), 0)
             self.assertEqual(victim.read_text(), "kept")
             self.assertIn("9.9 is no file", place.log())
+
+
+class EndedJobs(unittest.TestCase):
+    def test_what_an_ended_job_left_is_removed_and_nothing_else(self) -> None:
+        with Place(jobs=(1, 3)) as place:
+            place.start_ready()
+            spill, victim = place.path / "spill/0", place.path / "victim"
+            victim.write_text("kept")
+            with place.session(3) as session:
+                ids = fill(session)
+                names = until(place.spilled, "a spilled object")
+                # of the job that ends, of the one that lives, of a number that never was and a later one, and what is no file
+                for name in ("1.7", "1.8.part", "2.1", "3.99", "4.1"):
+                    (spill / name).write_text(name)
+                (spill / "1.9").symlink_to(victim)
+                self.assertEqual(place.ask("end 0 1"), "n0 op ok")
+                until(lambda: not (spill / "1.7").exists(), "the sweep")
+                until(lambda: not (spill / "1.8.part").exists(), "the sweep")
+                self.assertEqual(set(place.spilled()), {*names, "1.9", "3.99", "4.1"})
+                for number, one in enumerate(ids):
+                    with session.get(one) as view:
+                        self.assertEqual(bytes(view), bytes([number]) * 20_000)
+            self.assertEqual(victim.read_text(), "kept")
+            self.assertEqual(place.ask(f"admit 0 5 64 0 {KEY}"), "n0 op ok")
+            (spill / "4.1").write_text("4.1")
+            self.assertEqual(place.ask("end 0 5"), "n0 op ok")
+            until(lambda: not (spill / "4.1").exists(), "the sweep after another end")
+
+    @unittest.skipUnless(os.geteuid() == 0 and shutil.which("mount"), "only root may mount a folder")
+    def test_an_erase_that_failed_is_tried_again(self) -> None:
+        with Place() as place:
+            spill = folder(place)
+            if subprocess.run(["mount", "--bind", spill, spill], capture_output=True, check=False).returncode:
+                self.skipTest("no folder may be mounted")
+            try:
+                self.erase_again(place, spill)
+            finally:
+                subprocess.run(["umount", spill], check=True)
+
+    def erase_again(self, place: Place, spill: Path) -> None:
+        daemon = place.start_ready()
+        try:
+            with place.session() as session:
+                fill(session)
+                until(place.spilled, "a spilled object")
+            subprocess.run(["mount", "-o", "remount,bind,ro", spill], check=True)
+            self.assertEqual(place.ask("end 0 1"), "n0 op ok")
+            until(lambda: "looked for again later" in place.log(), "a sweep that fails")
+            self.assertNotEqual(place.spilled(), [])
+            subprocess.run(["mount", "-o", "remount,bind,rw", spill], check=True)
+            until(lambda: not place.spilled(), "the sweep")
+        finally:
+            self.assertEqual(place.end(daemon), 0)
 
 
 class Refusals(unittest.TestCase):
