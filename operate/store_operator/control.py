@@ -58,8 +58,8 @@ class Control:
         self._connections.add(task)
         try:
             await self._serve(reader, writer)
-        except ConnectionError:
-            # the end of a connection is only its end
+        except (ConnectionError, asyncio.CancelledError):
+            # the end of a connection is only its end, also of one that is cut off at the daemon's
             pass
         finally:
             self._connections.discard(task)
