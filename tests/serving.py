@@ -1,9 +1,12 @@
 """What scripts that talk to a running program share: frames, ids, the operator's lines, and its start and end."""
 
+from __future__ import annotations
+
 import socket
 import struct
 import subprocess
 from pathlib import Path
+from typing import List, Tuple
 
 ROOT = Path(__file__).resolve().parent.parent
 # seconds that an answer or an end may take, on a machine that does much else
@@ -13,19 +16,19 @@ PROGRAM = ROOT / "crates/store_server/out/store_server"
 READY = "store: ready\n"
 
 
-def key(job):
+def key(job: int) -> bytes:
     return struct.pack(">I", job) * 8
 
 
-def frame(kind, body=b""):
+def frame(kind: int, body: bytes = b"") -> bytes:
     return struct.pack(">IB", 1 + len(body), kind) + body
 
 
-def ident(job, index):
+def ident(job: int, index: int) -> bytes:
     return bytes(12) + struct.pack(">QII", 1, job, index)
 
 
-def receive(stream, length):
+def receive(stream: socket.socket, length: int) -> bytes:
     data = b""
     while len(data) < length:
         piece = stream.recv(length - len(data))
@@ -35,44 +38,51 @@ def receive(stream, length):
     return data
 
 
-def ask(stream, sent, expected):
+def ask(stream: socket.socket, sent: bytes, expected: bytes) -> None:
     stream.sendall(sent)
     got = receive(stream, len(expected))
     assert got == expected, f"sent {sent.hex()}: got {got.hex()}, should be {expected.hex()}"
 
 
-def start(words, folder, nodes=2, memory=65536):
+def start(words: List[str], folder: str, nodes: int = 2, memory: int = 65536) -> subprocess.Popen[str]:
     words = words + ["serve", "--socket", f"{folder}/store", "--nodes", str(nodes), "--memory", str(memory), "--spill", f"{folder}/spill"]
     return subprocess.Popen(words, stdin=subprocess.PIPE, stdout=subprocess.PIPE, stderr=subprocess.PIPE, text=True)
 
 
-def say(program, line):
+def say(program: subprocess.Popen[str], line: str) -> str:
     """The answer to a line of the operator's."""
+    assert program.stdin and program.stdout
     program.stdin.write(line + "\n")
     program.stdin.flush()
     return program.stdout.readline().rstrip("\n")
 
 
-def tell(program, line, expected):
+def tell(program: subprocess.Popen[str], line: str, expected: str) -> None:
     got = say(program, line)
     assert got == expected, f"{line}: got {got!r}, should be {expected!r}"
 
 
-def ended(program, rest, status, said=READY):
+def ended(program: subprocess.Popen[str], rest: str, status: int, said: str = READY) -> None:
     """What the program still prints once its input has ended, all that it said on its standard error, and its end."""
     out, err = program.communicate(timeout=PATIENCE)
     assert (out, err, program.returncode) == (rest, said, status), f"got {out!r}, {err!r}, {program.returncode}"
 
 
-def close(program):
+def close(program: subprocess.Popen[str]) -> Tuple[int, int]:
     """Each entry has a receipt, and each receipt that was looked for its entry. The number of entries, and of lost messages."""
     out, err = program.communicate("close\n", timeout=PATIENCE)
-    assert (out[:7], err, program.returncode) == ("report ", READY, 0), f"got {out!r}, {err!r}, {program.returncode}"
-    entries, receipts, disagreeing, lost, failures = out.split()[1:]
-    assert (entries, disagreeing, failures) == (receipts, "0", "0"), f"got {out!r}"
+    assert (err, program.returncode) == (READY, 0), f"got {out!r}, {err!r}, {program.returncode}"
+    return report_of(out)
+
+
+def report_of(line: str) -> Tuple[int, int]:
+    """The number of entries and of lost messages that a right report says."""
+    assert line.startswith("report "), f"got {line!r}"
+    entries, receipts, disagreeing, lost, failures = line.split()[1:]
+    assert (entries, disagreeing, failures) == (receipts, "0", "0"), f"got {line!r}"
     return int(entries), int(lost)
 
 
-def enter(stream, path, job):
+def enter(stream: socket.socket, path: str, job: int) -> None:
     stream.connect(path)
     ask(stream, frame(0x01, struct.pack(">I", job) + key(job)), frame(0x80))
