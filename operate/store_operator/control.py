@@ -17,9 +17,13 @@ from .limits import needed_descriptors
 from .orders import LONGEST_LINE, Admit, Close, End, Jobs, NotAnOrder, Order, Quota, Usage, read_order
 from .spill import SpillFault, Spilled
 from .supervisor import NotDone, State, Supervisor
+from .tidying import aside
 
 # seconds that a session which only asks for its job's usage may take, and how many there are at once
 _PATIENCE, _LOOKERS = 10.0, 4
+_MOST_CONNECTIONS = 200
+# seconds that a look at the disk may take
+_LOOK_AT_DISK = 5.0
 # seconds in which the last answers are still sent
 _LAST_ANSWERS = 1.0
 
@@ -32,12 +36,15 @@ class Control:
         self._log = log
         self._path = supervisor.settings.control
         self._server: Optional[asyncio.AbstractServer] = None
+        self._own: Optional[sockets.Identity] = None
         self._connections: Set["asyncio.Task[None]"] = set()
+        self._look: Optional["asyncio.Task[Spilled]"] = None
         self._lookers = ThreadPoolExecutor(_LOOKERS, thread_name_prefix="usage")
 
     async def open(self) -> None:
         """Listens, for the owner alone. `SocketFault` if another daemon does."""
         listening = sockets.listen(self._path)
+        self._own = sockets.identity(self._path)
         self._server = await asyncio.start_unix_server(self._connect, sock=listening, limit=LONGEST_LINE)
 
     async def close(self) -> None:
@@ -45,7 +52,7 @@ class Control:
         if self._server is None:
             return
         self._server.close()
-        self._path.unlink(missing_ok=True)
+        sockets.remove_own(self._path, self._own)
         if self._connections:
             await asyncio.wait(self._connections, timeout=_LAST_ANSWERS)
         for connection in self._connections:
@@ -57,6 +64,9 @@ class Control:
         assert task is not None
         self._connections.add(task)
         try:
+            if len(self._connections) > _MOST_CONNECTIONS:
+                writer.write(f"not done: {_MOST_CONNECTIONS} connections are open\n".encode())
+                return
             await self._serve(reader, writer)
         except (ConnectionError, asyncio.CancelledError):
             # the end of a connection is only its end, also of one that is cut off at the daemon's
@@ -100,7 +110,7 @@ class Control:
             return f"n{order.node} op jobs{''.join(jobs)}"
         if isinstance(order, Usage):
             return await self._usage(order)
-        return self._status()
+        return await self._status()
 
     async def _usage(self, order: Usage) -> str:
         """What a session of the job is told: the daemon has its key."""
@@ -124,15 +134,22 @@ class Control:
             f"n{order.node} op usage {used.window} {used.window_used} {used.device} {used.device_used} {used.copies} {used.works}"
         )
 
-    def _status(self) -> str:
+    async def _spilled(self) -> Spilled:
+        """What can't be looked at is nothing; no look begins before the last one has ended."""
+        if self._look is None or self._look.done():
+            self._look = asyncio.ensure_future(aside(self._supervisor.spill.spilled))
+            self._look.add_done_callback(lambda done: done.cancelled() or done.exception())
+        try:
+            return await asyncio.wait_for(asyncio.shield(self._look), _LOOK_AT_DISK)
+        except (asyncio.TimeoutError, SpillFault, OSError):
+            return Spilled(0, 0, 0)
+
+    async def _status(self) -> str:
         supervisor = self._supervisor
         settings, server = supervisor.settings, supervisor.server
         process = look_at(server.process_id) if server else Process(0, 0, 0)
         with_jobs = (str(len(supervisor.jobs.at(node))) for node in range(settings.nodes))
-        try:
-            spilled = supervisor.spill.spilled()
-        except (SpillFault, OSError):
-            spilled = Spilled(0, 0, 0)
+        spilled = await self._spilled()
         marks = {
             "state": supervisor.state.value,
             "process": server.process_id if server else 0,
@@ -140,7 +157,7 @@ class Control:
             "restarts": supervisor.restarts,
             "nodes": settings.nodes,
             "jobs": ",".join(with_jobs),
-            "sessions": ",".join(map(str, count_sessions(settings.sockets()))),
+            "sessions": ",".join(map(str, count_sessions(settings.starting_sockets()))),
             "threads": process.threads,
             "descriptors": process.descriptors,
             "descriptors_needed": needed_descriptors(settings.nodes),
@@ -153,7 +170,7 @@ class Control:
 
 
 def _ask_usage(path: str, job: Admit) -> store_client.Usage:
-    with store_client.connect(path, job.job, bytes.fromhex(job.key)) as session:
+    with store_client.connect(path, job.job, bytes.fromhex(job.key), _PATIENCE) as session:
         return session.usage()
 
 
@@ -165,7 +182,7 @@ async def _read_line(reader: asyncio.StreamReader) -> Optional[str]:
             line = (await reader.readuntil(b"\n")).decode("latin-1")
             return line.rstrip("\n") if is_cut else line
         except asyncio.IncompleteReadError as end:
-            return end.partial.decode("latin-1") or None
+            return end.partial.decode("latin-1") or ("" if is_cut else None)
         except asyncio.LimitOverrunError as longer:
             is_cut = True
             with contextlib.suppress(asyncio.IncompleteReadError):

@@ -53,8 +53,12 @@ async def serve(settings: Settings, log: logging.Logger) -> None:
     control = Control(supervisor, log)
     loop = asyncio.get_running_loop()
     for number in (signal.SIGTERM, signal.SIGINT, signal.SIGHUP):
-        loop.add_signal_handler(number, supervisor.stop, False)
+        # nohup means that no end of a terminal ends it
+        if signal.getsignal(number) is not signal.SIG_IGN:
+            loop.add_signal_handler(number, supervisor.stop, False)
     try:
+        # of two daemons with the same settings only one goes on from here
+        supervisor.take()
         await control.open()
         await supervisor.run()
     finally:

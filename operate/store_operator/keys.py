@@ -19,11 +19,13 @@ class KeyFault(Exception):
 def read_key(path: Path) -> str:
     """The key's digits. A file that every user may read or write is refused, since it keeps no secret."""
     try:
-        with open(path, "rb") as file:
-            mode = stat.S_IMODE(os.fstat(file.fileno()).st_mode)
-            text = file.read(_LONGEST).decode("latin-1")
+        # a pipe that nobody writes to isn't waited for
+        with open(os.open(path, os.O_RDONLY | os.O_NONBLOCK | os.O_CLOEXEC), "rb") as file:
+            found = os.fstat(file.fileno()).st_mode
+            text = file.read(_LONGEST).decode("latin-1") if stat.S_ISREG(found) else ""
     except OSError as error:
         raise KeyFault(f"key file {path}: {error.strerror}") from error
+    mode = stat.S_IMODE(found)
     if mode & 0o007:
         raise KeyFault(f"key file {path}: every user may use it (mode {mode:04o}): chmod o= {path}")
     if not _KEY.fullmatch(text):

@@ -24,7 +24,7 @@ class ServerEnded(Exception):
 def command(settings: Settings) -> List[str]:
     """The words of the program's command line."""
     return [
-        str(settings.program), "serve", "--socket", str(settings.socket), "--nodes", str(settings.nodes),
+        str(settings.program), "serve", "--socket", str(settings.starting()), "--nodes", str(settings.nodes),
         "--memory", str(settings.memory), "--spill", str(settings.spill),
     ]
 

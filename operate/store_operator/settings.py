@@ -63,6 +63,14 @@ class Settings:
         """The nodes' sockets, in order."""
         return tuple(Path(f"{self.socket}.{node}") for node in range(self.nodes))
 
+    def starting(self) -> Path:
+        """What the server is told to listen on: sessions find its sockets only once its jobs are admitted."""
+        return Path(f"{self.socket}.new")
+
+    def starting_sockets(self) -> Tuple[Path, ...]:
+        """Where the server makes the nodes' sockets, in order."""
+        return tuple(Path(f"{self.starting()}.{node}") for node in range(self.nodes))
+
     def folders(self) -> Tuple[Path, ...]:
         """The folders that the nodes spill into, in order."""
         return tuple(self.spill / str(node) for node in range(self.nodes))
@@ -144,7 +152,7 @@ class _Reader:
             grace=store.get("grace", _seconds, _USUAL_GRACE),
             jobs=self.jobs(nodes),
         )
-        for socket in (*settings.sockets(), settings.control):
+        for socket in (*settings.starting_sockets(), settings.control):
             if len(os.fsencode(socket)) > LONGEST_SOCKET:
                 raise SettingsFault(f"{self.path}: socket {socket}: longer than {LONGEST_SOCKET} bytes")
         return settings

@@ -3,12 +3,13 @@
 from __future__ import annotations
 
 import asyncio
+import contextlib
 import errno
 import os
 import socket
 import stat
 from pathlib import Path
-from typing import Sequence
+from typing import NamedTuple, Optional, Sequence
 
 # between two looks whether a server listens yet, in seconds
 _REST = 0.02
@@ -19,6 +20,13 @@ _BACKLOG = 64
 
 class SocketFault(Exception):
     """A socket that can't be used; the text says which and why."""
+
+
+class Identity(NamedTuple):
+    """Of what is at a path, which another one may be later."""
+
+    device: int
+    number: int
 
 
 def clear(path: Path) -> None:
@@ -67,13 +75,14 @@ async def await_all(paths: Sequence[Path]) -> None:
             await asyncio.sleep(_REST)
 
 
-def open_to(paths: Sequence[Path], mode: int, group: "int | None") -> None:
-    """Who may connect: the owner, and by the mode the group or everyone."""
-    for path in paths:
+def move(old: Sequence[Path], new: Sequence[Path], mode: int, group: Optional[int]) -> None:
+    """From here on sessions find the sockets: who may connect is the owner, and by the mode the group or everyone."""
+    for path, place in zip(old, new):
         try:
             if group is not None:
-                os.chown(path, -1, group)
+                os.chown(path, -1, group, follow_symlinks=False)
             path.chmod(mode)
+            path.rename(place)
         except OSError as error:
             raise SocketFault(f"socket {path}: {error.strerror}") from error
 
@@ -86,6 +95,22 @@ def remove(paths: Sequence[Path]) -> None:
                 path.unlink(missing_ok=True)
         except (SocketFault, OSError):
             continue
+
+
+def identity(path: Path) -> Optional[Identity]:
+    """Of what is there, if anything is."""
+    try:
+        found = path.lstat()
+    except OSError:
+        return None
+    return Identity(found.st_dev, found.st_ino)
+
+
+def remove_own(path: Path, own: Optional[Identity]) -> None:
+    """Removes what is there if it is this one still: somebody else may have made another one."""
+    if own is not None and identity(path) == own:
+        with contextlib.suppress(OSError):
+            path.unlink()
 
 
 def listen(path: Path) -> socket.socket:

@@ -8,7 +8,8 @@ import enum
 import logging
 import signal
 import time
-from typing import Any, List, Optional
+from pathlib import Path
+from typing import Any, Dict, List, Optional
 
 from . import sockets
 from .inspection import count_sessions
@@ -16,6 +17,7 @@ from .jobs import LiveJobs, Over
 from .limits import raise_limit
 from .notify import tell_manager
 from .orders import End, ServerOrder, server_line, told
+from .ready import write_new
 from .refusals import explained
 from .server import Server, ServerEnded
 from .settings import Settings
@@ -63,6 +65,7 @@ class Supervisor:
         self.end = "no server was running"
         self._log = log
         self._tidying = Tidying(self.spill, self._over, log)
+        self._own: Dict[Path, Optional[sockets.Identity]] = {}
         self._complaint = ""
         self._lock = -1
         self._pause = _FIRST_PAUSE
@@ -86,11 +89,14 @@ class Supervisor:
 
     # ---- its run
 
+    def take(self) -> None:
+        """Takes the spill folder, or `SpillFault`. It comes before `run`."""
+        self._lock = self.spill.take()
+
     async def run(self) -> None:
         """From the first start to the end. A fault of `StartFault`, `SpillFault` or `SocketFault` if the first start fails."""
         try:
-            self._lock = self.spill.take()
-            for path in self.settings.sockets():
+            for path in self._all_sockets():
                 sockets.clear(path)
             too_few = raise_limit(self.settings.nodes)
             if too_few:
@@ -127,7 +133,7 @@ class Supervisor:
 
     async def _bring_up(self, server: Server) -> None:
         """Waits until the sockets listen, admits the jobs, and says that it is ready. A stop cuts it short."""
-        listening = asyncio.ensure_future(sockets.await_all(self.settings.sockets()))
+        listening = asyncio.ensure_future(sockets.await_all(self.settings.starting_sockets()))
         try:
             await self._until(listening, server.ended, timeout=_PATIENCE)
             if self._stop.is_set():
@@ -138,9 +144,8 @@ class Supervisor:
         finally:
             listening.cancel()
         await self._admit_jobs(server)
-        sockets.open_to(self.settings.sockets(), self.settings.socket_mode, self.settings.socket_group)
         if not self._stop.is_set():
-            self._say_ready(server)
+            self._open(server)
 
     async def _admit_jobs(self, server: Server) -> None:
         """The jobs of the settings, or after a crash those that lived."""
@@ -156,12 +161,16 @@ class Supervisor:
             self._log.error("not admitted again: %s: %s", told(job), explained(answer))
             self.jobs.forget(job)
 
-    def _say_ready(self, server: Server) -> None:
+    def _open(self, server: Server) -> None:
+        """Sessions may come: no job is refused that a restart didn't admit yet."""
+        settings = self.settings
+        sockets.move(settings.starting_sockets(), settings.sockets(), settings.socket_mode, settings.socket_group)
+        self._own = {path: sockets.identity(path) for path in settings.sockets()}
+        if settings.ready:
+            write_new(settings.ready, f"{server.process_id}\n")
         self.state = State.RUNNING
         self._has_served = True
         self._log.info("ready: %d nodes, %d admissions", self.settings.nodes, len(self.jobs.in_order()))
-        if self.settings.ready:
-            self.settings.ready.write_text(f"{server.process_id}\n", encoding="ascii")
         tell_manager("READY=1", f"STATUS=serves {self.settings.nodes} nodes")
         # that nobody reads it any more doesn't end the service
         with contextlib.suppress(OSError):
@@ -186,6 +195,9 @@ class Supervisor:
             self.jobs.carried_out(order)
             if isinstance(order, End):
                 self._tidying.job_ended()
+
+    def _all_sockets(self) -> List[Path]:
+        return [*self.settings.sockets(), *self.settings.starting_sockets()]
 
     def _over(self) -> List[Over]:
         return [self.jobs.over(node) for node in range(self.settings.nodes)]
@@ -217,9 +229,10 @@ class Supervisor:
         self.state = State.CLOSING
         tell_manager("STOPPING=1")
         report = server.close()
+        self._remove_own()
         await self._grace(server)
         if not server.ended.done():
-            self._log.warning("%d sessions are still open, and are cut off", sum(count_sessions(self.settings.sockets())))
+            self._log.warning("%d sessions are still open, and are cut off", sum(count_sessions(self.settings.starting_sockets())))
             await server.terminate()
         await asyncio.wait({report})
         self.end = "terminated" if report.exception() else report.result()
@@ -250,12 +263,19 @@ class Supervisor:
         if count:
             self._log.info("removed %d spilled files", count)
 
+    def _remove_own(self) -> None:
+        """No session finds the server any more. What another one has made there stays."""
+        for path, own in self._own.items():
+            sockets.remove_own(path, own)
+        self._own = {}
+
     def _clean_up(self) -> None:
         """The server has ended: its sockets and its spilled objects go."""
-        if self.settings.ready:
-            self.settings.ready.unlink(missing_ok=True)
-        sockets.remove(self.settings.sockets())
+        self._remove_own()
+        sockets.remove(self.settings.starting_sockets())
         try:
+            if self.settings.ready:
+                self.settings.ready.unlink(missing_ok=True)
             self._sweep()
         except (SpillFault, OSError) as fault:
             self._log.warning("%s", fault)

@@ -9,9 +9,39 @@ import threading
 import unittest
 from typing import List
 
-from driving import KEY, PROGRAM, Place, fill, is_running, listens, until
+from driving import KEY, PATIENCE, PROGRAM, Place, fill, is_running, listens, until
 
 import store_client
+
+
+def work(place: Place, number: int, over: threading.Event, lost: List[int], faults: List[str]) -> None:
+    """A session after another, each until the server has gone: two of three put and get, the third waits without end."""
+    try:
+        while not over.is_set():
+            try:
+                with place.session(1, number % 2) as session:
+                    wait(session) if number % 3 == 0 else put_and_get(session)
+            except store_client.ConnectionLost:
+                lost.append(number)
+                over.wait(0.05)
+    except (store_client.StoreError, OSError, AssertionError) as fault:
+        faults.append(f"session {number}: {fault!r}")
+
+
+def wait(session: store_client.Connection) -> None:
+    """For an object that is never put, longer than the test takes."""
+    try:
+        session.get(session.new_id(), 10 * PATIENCE)
+    except store_client.Pending:
+        pass
+
+
+def put_and_get(session: store_client.Connection) -> None:
+    kept = fill(session, 6)
+    while True:
+        for index, one in enumerate(kept):
+            with session.get(one, PATIENCE) as view:
+                assert bytes(view) == bytes([index]) * 20_000, f"{one}: other bytes"
 
 
 class Crashes(unittest.TestCase):
@@ -62,6 +92,40 @@ class Crashes(unittest.TestCase):
                 self.assertRaises(store_client.ConnectionLost, session.get, ids[0])
             self.assertEqual(place.spilled(), [])
             self.assertTrue(listens(place.socket()))
+
+    def test_kills_under_load_leave_nothing_and_nobody_waits(self) -> None:
+        """Some sessions work, and some wait for what doesn't come, while the server is killed again and again."""
+        with Place(2) as place:
+            daemon = place.start_ready()
+            over = threading.Event()
+            lost: List[int] = []
+            faults: List[str] = []
+            threads = [threading.Thread(target=work, args=(place, number, over, lost, faults), daemon=True) for number in range(6)]
+            try:
+                for thread in threads:
+                    thread.start()
+                servers = [self.crash_under_load(place, lost, faults) for _ in range(3)]
+                servers.append(place.server())
+            finally:
+                over.set()
+            self.assertEqual(place.end(daemon), 0)
+            for thread in threads:
+                thread.join(PATIENCE)
+                self.assertFalse(thread.is_alive(), "a session waits")
+            self.assertEqual(faults, [])
+            self.assertEqual([server for server in servers if is_running(server)], [])
+            self.assertEqual([place.spilled(node) for node in (0, 1)], [[], []])
+            self.assertEqual({path.name for path in place.path.iterdir()}, {"key", "store.ini", "spill", "out", "log"})
+
+    def crash_under_load(self, place: Place, lost: List[int], faults: List[str]) -> int:
+        """The process that was killed, once all its sessions were told so."""
+        until(lambda: faults or (place.spilled() and place.spilled(1)), "spilled objects")
+        self.assertEqual(faults, [])
+        server, before = place.server(), set(lost)
+        lost.clear()
+        self.crash(place)
+        until(lambda: faults or len(set(lost)) == 6, f"all sessions are lost; before {before}, now {lost}")
+        return server
 
     def test_pauses_rise(self) -> None:
         with Place() as place:
@@ -195,6 +259,29 @@ class Starts(unittest.TestCase):
                 self.assertEqual(other.refused(), f"store-daemon: socket {other.path}/missing/store.0: there is no such folder")
             self.assertIsNone(daemon.poll())
             self.assertTrue(listens(place.socket()))
+
+    def test_of_several_at_once_one_serves(self) -> None:
+        with Place() as place:
+            # what a daemon that was killed left
+            daemon = place.start_ready()
+            server = place.server()
+            place.end(daemon, signal.SIGKILL)
+            until(lambda: not is_running(server), "the server's end")
+            self.assertTrue((place.path / "control").exists())
+            daemons = [place.start() for _ in range(4)]
+            until(lambda: sum(each.poll() is None for each in daemons) == 1, "one of them is left")
+            self.assertEqual(sorted(each.returncode for each in daemons if each.poll() is not None), [1, 1, 1])
+            until(lambda: (place.path / "control").exists() and "state=running" in place.ask("status"), "a run")
+
+    def test_another_daemons_control_socket_stays(self) -> None:
+        with Place() as place, Place() as other:
+            daemon = place.start_ready()
+            control = place.path / "control"
+            control.unlink()
+            other.write(1, (1,), control=str(control))
+            other.start_ready()
+            self.assertEqual(place.end(daemon), 0)
+            self.assertIn("state=running", place.ask("status"))
 
 
 if __name__ == "__main__":

@@ -6,8 +6,10 @@ import grp
 import os
 import resource
 import socket
+import signal
 import stat
 import threading
+import time
 import unittest
 from pathlib import Path
 from typing import List
@@ -15,6 +17,7 @@ from typing import List
 from driving import KEY, PATIENCE, Place, fill, is_running, listens, until
 
 import store_client
+from store_operator.inspection import look_at
 
 WRONG = ("admitt 0 2", "end 0 01", "", "close  now", "quit", "ADMIT", "admit 0 1 64 0", "end 7 1", "\x00\xff", "#end", 5000 * "x")
 ROUNDS = 20
@@ -83,6 +86,49 @@ class WrongLines(unittest.TestCase):
                 self.assertIn(b"line 1: not an order: no line feed", stream.recv(4096))
             self.assertEqual(place.ask("jobs 0"), "n0 op jobs 1:65536:1048576")
 
+    def test_a_line_that_comes_in_pieces_is_one(self) -> None:
+        with Place() as place:
+            place.start_ready()
+            with socket.socket(socket.AF_UNIX) as stream, stream.makefile("r", newline="\n") as answers:
+                stream.settimeout(PATIENCE)
+                stream.connect(str(place.path / "control"))
+                for letter in "jobs 0\njobs 0":
+                    stream.sendall(letter.encode())
+                    time.sleep(0.002)
+                self.assertEqual(answers.readline(), "n0 op jobs 1:65536:1048576\n")
+                stream.sendall(b"\n")
+                self.assertEqual(answers.readline(), "n0 op jobs 1:65536:1048576\n")
+
+    def test_a_line_without_end_takes_no_memory(self) -> None:
+        with Place() as place:
+            daemon = place.start_ready()
+            before = look_at(daemon.pid).resident
+            with socket.socket(socket.AF_UNIX) as stream:
+                stream.settimeout(PATIENCE)
+                stream.connect(str(place.path / "control"))
+                for _ in range(64):
+                    stream.sendall(bytes(1 << 20))
+                self.assertLess(look_at(daemon.pid).resident - before, 16 << 20)
+                stream.shutdown(socket.SHUT_WR)
+                self.assertIn(b"line 1: not an order: ", stream.recv(4096))
+            self.assertEqual(place.ask("jobs 0"), "n0 op jobs 1:65536:1048576")
+
+    def test_more_connections_than_are_taken(self) -> None:
+        with Place() as place:
+            place.start_ready()
+            idle = []
+            try:
+                for _ in range(200):
+                    stream = socket.socket(socket.AF_UNIX)
+                    idle.append(stream)
+                    stream.connect(str(place.path / "control"))
+                until(lambda: place.ask("status").startswith("not done: 200 connections are open"), "as many as are taken")
+                self.assertTrue(listens(place.socket()))
+            finally:
+                for stream in idle:
+                    stream.close()
+            until(lambda: place.ask("status").startswith("status "), "an answer")
+
 
 class Orders(unittest.TestCase):
     def test_orders_of_two_connections_at_once(self) -> None:
@@ -127,6 +173,29 @@ class Ready(unittest.TestCase):
             self.assertEqual(place.end(daemon), 0)
             self.assertEqual(manager.recv(4096), b"STOPPING=1")
             self.assertFalse((place.path / "ready").exists())
+
+    def test_a_link_in_the_place_of_the_ready_file_is_replaced(self) -> None:
+        with Place() as place:
+            place.write(1, (1,), ready="ready")
+            victim = place.path / "victim"
+            victim.write_text("kept")
+            (place.path / "ready").symlink_to(victim)
+            place.start_ready()
+            self.assertEqual((place.path / "ready").read_text(), f"{place.server()}\n")
+            self.assertEqual(victim.read_text(), "kept")
+
+    def test_a_ready_file_that_cannot_be_made_ends_the_start(self) -> None:
+        with Place() as place:
+            place.write(1, (1,), ready="missing/ready")
+            self.assertIn("missing/ready", place.refused())
+            self.assertFalse(place.socket().exists() or (place.path / "control").exists())
+
+    def test_nohup_keeps_it_when_a_terminal_ends(self) -> None:
+        with Place() as place:
+            daemon = place.start_ready(["nohup"])
+            daemon.send_signal(signal.SIGHUP)
+            self.assertEqual(place.ask("jobs 0"), "n0 op jobs 1:65536:1048576")
+            self.assertEqual(place.end(daemon), 0)
 
 
 class Modes(unittest.TestCase):

@@ -2,6 +2,7 @@
 
 from __future__ import annotations
 
+import os
 import subprocess
 import sys
 import unittest
@@ -113,6 +114,13 @@ class SettingsFiles(unittest.TestCase):
             for text in (KEY.upper(), KEY[:-1], f"{KEY}0", f"{KEY}\n", f" {KEY}"):
                 place.write_key(0o600, text)
                 self.assertRaisesRegex(KeyFault, "not 64 lower-case hexadecimal digits", read_key, place.key_file)
+
+    def test_a_key_file_that_is_none_is_refused_at_once(self) -> None:
+        with Place() as place:
+            pipe = place.path / "pipe"
+            os.mkfifo(pipe, 0o600)
+            self.assertRaisesRegex(KeyFault, "not 64 lower-case hexadecimal digits", read_key, pipe)
+            self.assertRaisesRegex(KeyFault, "Is a directory|not 64", read_key, place.path)
 
     def test_a_folder_to_begin_with(self) -> None:
         with Place() as place:
