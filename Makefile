@@ -53,6 +53,12 @@ attack: build
 soak: build
 	tests/soak
 
+# The same at the program that is there, under store-daemon and with a disk that is full now and then; an hour by MINUTES=60. Only root
+# may have such a disk.
+MINUTES = 5
+soak-service:
+	tests/soak --daemon --disk 12 --minutes $(MINUTES)
+
 # The Python client at a built program.
 client-test: build
 	python3 clients/python/tests/test_client.py
@@ -117,5 +123,5 @@ picture:
 	bench/picture docs/pictures/spilling.log -o docs/pictures/spilling.svg
 	rm docs/pictures/spilling.log
 
-.PHONY: test check build run edits sessions attack soak client-test client-check try-built daemon-test serve dist deb dist-check \
+.PHONY: test check build run edits sessions attack soak soak-service client-test client-check try-built daemon-test serve dist deb dist-check \
 	hostile show-guarantee pipeline model faults bench picture
