@@ -2,6 +2,7 @@
 
 from __future__ import annotations
 
+import email.utils
 import gzip
 import io
 import os
@@ -68,6 +69,7 @@ def pack_deb(archive: bytes, version: str, moment: int) -> bytes:
     """The package of a release's archive; no file in it is dated later than this moment."""
     files = {_place(name): _adapted(name, file) for name, file in unpacked(archive).items() if name not in _LEFT_OUT}
     files = {name if not _is_page(name) else f"{name}.gz": file for name, file in files.items()}
+    files[f"usr/share/doc/{NAME}/changelog.gz"] = Content(gzip.compress(_changes(version, moment), 9, mtime=0), False)
     with tempfile.TemporaryDirectory(prefix="deb-") as folder:
         top = Path(folder) / "package"
         for name, file in {**files, **_control(files, version)}.items():
@@ -122,6 +124,12 @@ def newest_libc(program: bytes) -> Optional[str]:
     """The newest version of the C library of which the program names a symbol."""
     found = {(int(first), int(second)) for first, second in re.findall(rb"\0GLIBC_(\d+)\.(\d+)(?=[.\d]*\0)", program)}
     return "{}.{}".format(*max(found)) if found else None
+
+
+def _changes(version: str, moment: int) -> bytes:
+    """What Debian wants of each package; what has changed says the repository."""
+    day = email.utils.formatdate(moment)
+    return f"{NAME} ({version}) stable; urgency=medium\n\n  * See PROVED for the commit.\n\n -- {_MAINTAINER}  {day}\n".encode()
 
 
 def _write(path: Path, file: Content, moment: int) -> None:
