@@ -155,6 +155,16 @@ class Serves(unittest.TestCase):
             archive.with_name(f"{archive.name}.sha256").unlink()
             self.assertIn(".sha256: No such file or directory", checkout.refused())
 
+    def test_a_script_in_the_programs_place_is_told(self) -> None:
+        with Checkout() as checkout:
+            script = checkout.top / "out/script"
+            script.parent.mkdir()
+            script.write_text("#!/bin/sh\necho store 0.1.0\n")
+            script.chmod(0o700)
+            words = [sys.executable, str(checkout.top / "operate/dist"), "--program", str(script)]
+            done = subprocess.run(words, check=True, capture_output=True, text=True, env=checkout.names(), timeout=PATIENCE)
+            self.assertEqual(done.stderr, f"dist: warning: {script} is no ELF file: it may run on this machine alone\n")
+
     def test_no_release_is_made_of_other_sources_than_the_commits(self) -> None:
         with Checkout() as checkout:
             (checkout.source.parent / "more").write_text("")
