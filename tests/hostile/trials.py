@@ -16,7 +16,8 @@ from served import Supervised
 from serving import frame, key, receive
 from store_client import ObjectId, Task
 
-ATTACKER, VICTIM = 1, 2
+# the numbers of jobs; the third one's window is as large as one of its objects
+ATTACKER, VICTIM, CROWDED = 1, 2, 3
 KIB, MIB = 1 << 10, 1 << 20
 SMALL = bytes(KIB)
 LARGEST = 16 * MIB
@@ -197,7 +198,12 @@ def waiters_400(scale: Scale) -> List[Check]:
     return _waiters(scale, 400)
 
 
-def _waiters(scale: Scale, count: int) -> List[Check]:
+def waiters_at_another_node(scale: Scale) -> List[Check]:
+    """Do 400 sessions of a job that wait slow another job's calls at a node where nobody waits?"""
+    return _waiters(scale, 400, 1)
+
+
+def _waiters(scale: Scale, count: int, victims_node: int = 0) -> List[Check]:
     with hosts(scale, 2, 2) as (host, other):
         found = {place.folder: _never_comes(place) for place in (host, other)}
 
@@ -207,7 +213,7 @@ def _waiters(scale: Scale, count: int) -> List[Check]:
                 time.sleep(0.05)
             close_all(streams)
 
-        with host.session(VICTIM) as session:
+        with host.session(VICTIM, victims_node) as session:
             return compared(gets_of(session), host, other, wait, 1, scale.rounds, scale.seconds)
 
 
@@ -248,6 +254,38 @@ def _seals(scale: Scale, sessions: int) -> List[Check]:
             before = host.figures()
             checks = compared(call, host, other, seal, sessions, scale.rounds, scale.seconds)
             return [Check("KiB that are sealed", length / KIB), *checks, *given_back(host, before)]
+
+
+def restores_of_1_session(scale: Scale) -> List[Check]:
+    """Does a session whose large objects come back from the device in turns slow another job's calls?"""
+    with hosts(scale, 2, memory=5 * LARGEST) as (host, other):
+        for place in (host, other):
+            place.admit(ATTACKER, 2 * LARGEST)
+            place.admit(VICTIM, 64 * KIB)
+        length = large(host, ATTACKER)
+        for place in (host, other):
+            place.admit(CROWDED, length, 4 * length)
+
+        def restore(place: Host, _: int, is_over: Callable[[], bool]) -> None:
+            with place.session(CROWDED) as session:
+                ids = [session.new_id() for _ in range(2)]
+                for one in ids:
+                    session.create(one, length, wait=True)
+                    session.seal(one)
+                while not is_over():
+                    for one in ids:
+                        session.hold(one, True)
+                        session.release(one)
+                for one in ids:
+                    session.delete(one)
+
+        with host.session(VICTIM) as session:
+            call = gets_of(session)
+            with attacked(host, restore, 1):
+                time.sleep(scale.seconds)
+            before = host.figures()
+            checks = compared(call, host, other, restore, 1, scale.rounds, scale.seconds)
+            return [Check("KiB that are restored", length / KIB), *checks, *given_back(host, before)]
 
 
 def fetches_of_1_session(scale: Scale) -> List[Check]:
@@ -372,7 +410,7 @@ def a_close_by_the_daemon(scale: Scale) -> List[Check]:
 
 _TRIALS: Sequence[Trial] = (
     grants_to_nobody, never_read_without_key, never_read_with_key, waiters_that_went_away, waiters_100, waiters_400,
-    seals_of_1_session, seals_of_4_sessions, fetches_of_1_session, fetches_of_4_sessions, connections_without_key,
-    a_close_by_hand, a_close_by_the_daemon,
+    waiters_at_another_node, seals_of_1_session, seals_of_4_sessions, restores_of_1_session, fetches_of_1_session,
+    fetches_of_4_sessions, connections_without_key, a_close_by_hand, a_close_by_the_daemon,
 )
 ALL: Dict[str, Trial] = {getattr(trial, "__name__"): trial for trial in _TRIALS}
