@@ -9,6 +9,7 @@ import configparser
 import grp
 import os
 import shutil
+import stat
 from dataclasses import dataclass
 from pathlib import Path
 from typing import Callable, Optional, Tuple, TypeVar
@@ -81,6 +82,10 @@ def read_settings(path: Path, usual_program: Path) -> Settings:
     parser = configparser.ConfigParser(interpolation=None, default_section="every section")
     try:
         with open(path, encoding="utf-8") as file:
+            mode = stat.S_IMODE(os.fstat(file.fileno()).st_mode)
+            if mode & 0o002:
+                # who writes it says which program is run
+                raise SettingsFault(f"{path}: every user may write it (mode {mode:04o}): chmod o-w {path}")
             parser.read_file(file)
     except OSError as error:
         raise SettingsFault(f"{path}: {error.strerror}") from error

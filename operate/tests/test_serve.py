@@ -155,6 +155,16 @@ class Serves(unittest.TestCase):
             archive.with_name(f"{archive.name}.sha256").unlink()
             self.assertIn(".sha256: No such file or directory", checkout.refused())
 
+    @unittest.skipUnless(os.geteuid() == 0, "only root can give a folder away")
+    def test_a_folder_of_another_user_is_refused(self) -> None:
+        with Checkout() as checkout:
+            checkout.built()
+            folder = checkout.top / "out/theirs"
+            folder.mkdir(parents=True)
+            (folder / "store.ini").write_text("")
+            os.chown(folder, 65534, -1)
+            self.assertIn(f"serve: {folder} belongs to another user\n", checkout.refused(f"FOLDER={folder}"))
+
     def test_a_script_in_the_programs_place_is_told(self) -> None:
         with Checkout() as checkout:
             script = checkout.top / "out/script"

@@ -115,6 +115,13 @@ class SettingsFiles(unittest.TestCase):
                 place.write_key(0o600, text)
                 self.assertRaisesRegex(KeyFault, "not 64 lower-case hexadecimal digits", read_key, place.key_file)
 
+    def test_settings_that_every_user_may_write_are_refused(self) -> None:
+        with Place() as place:
+            place.settings.chmod(0o664)
+            self.read(place)
+            place.settings.chmod(0o602)
+            self.assertRaisesRegex(SettingsFault, "every user may write it .mode 0602.", self.read, place)
+
     def test_a_key_file_that_is_none_is_refused_at_once(self) -> None:
         with Place() as place:
             pipe = place.path / "pipe"
