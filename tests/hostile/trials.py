@@ -8,7 +8,7 @@ import tempfile
 import time
 from typing import Callable, Dict, Iterator, List, NamedTuple, Sequence
 
-from findings import Check, compared, given_back
+from findings import MOST_LONGEST, Check, compared, given_back
 from host import PATIENCE, Host, attacked, close_all, raw_streams
 
 import store_client
@@ -21,6 +21,8 @@ ATTACKER, VICTIM, CROWDED = 1, 2, 3
 KIB, MIB = 1 << 10, 1 << 20
 SMALL = bytes(KIB)
 LARGEST = 16 * MIB
+# of a job at a node, at most; and what they have in a trial of larger ones
+COPIES, LARGER = 1024, 64 * KIB
 # milliseconds that a large object's seal takes at least, if there is one so large
 LARGE_ENOUGH = 60.0
 OK = frame(0x80)
@@ -340,6 +342,27 @@ def _fetch_on(place: Host, number: int, is_over: Callable[[], bool]) -> None:
             call()
 
 
+def ends_of_large_jobs(scale: Scale) -> List[Check]:
+    """Does the end of a job, for which its node is locked, take longer the more memory its copies have?"""
+    with hosts(scale, 1, memory=2 * COPIES * LARGER) as (host,):
+        small = min(_milliseconds_to_end(host, 10 + number, 16) for number in range(3))
+        larger = min(_milliseconds_to_end(host, 20 + number, LARGER) for number in range(3))
+    return [
+        Check(f"ms until a job of {COPIES} copies of 16 bytes has ended", small),
+        Check(f"ms until one of {COPIES} copies of {LARGER // KIB} KiB has", larger), Check("the ratio", larger / small, MOST_LONGEST),
+    ]
+
+
+def _milliseconds_to_end(host: Host, job: int, length: int) -> float:
+    host.admit(job, COPIES * length)
+    with host.session(job) as session:
+        for index in range(COPIES):
+            session.create(session.task(1).object(index + 1), length)
+    began = time.perf_counter()
+    host.end_job(job)
+    return 1000 * (time.perf_counter() - began)
+
+
 # ---- descriptors
 
 
@@ -411,6 +434,6 @@ def a_close_by_the_daemon(scale: Scale) -> List[Check]:
 _TRIALS: Sequence[Trial] = (
     grants_to_nobody, never_read_without_key, never_read_with_key, waiters_that_went_away, waiters_100, waiters_400,
     waiters_at_another_node, seals_of_1_session, seals_of_4_sessions, restores_of_1_session, fetches_of_1_session,
-    fetches_of_4_sessions, connections_without_key, a_close_by_hand, a_close_by_the_daemon,
+    fetches_of_4_sessions, ends_of_large_jobs, connections_without_key, a_close_by_hand, a_close_by_the_daemon,
 )
 ALL: Dict[str, Trial] = {getattr(trial, "__name__"): trial for trial in _TRIALS}
