@@ -19,8 +19,8 @@ NAME = "store-server"
 _MAINTAINER = "The maintainers of store <maintainers@users.noreply.gechumpa.example>"
 # what goes where; the first that fits, and all else beside the documentation
 _PLACES = (
-    ("etc/store.ini", "etc/store/store.ini"), ("LICENSE", f"usr/share/doc/{NAME}/copyright"), ("share/doc/store/", f"usr/share/doc/{NAME}/"),
-    ("PROVED", f"usr/share/doc/{NAME}/PROVED"), ("bin/", "usr/bin/"), ("lib/", "usr/lib/"), ("share/", "usr/share/"),
+    ("etc/store.ini", "etc/store/store.ini"), ("LICENSE", f"usr/share/doc/{NAME}/copyright"),
+    ("share/doc/store/", f"usr/share/doc/{NAME}/"), ("PROVED", f"usr/share/doc/{NAME}/PROVED"), ("bin/", "usr/bin/"), ("lib/", "usr/lib/"), ("share/", "usr/share/"),
 )
 # dpkg has checksums of its own
 _LEFT_OUT = ("SHA256SUMS",)

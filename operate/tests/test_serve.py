@@ -130,7 +130,8 @@ class Serves(unittest.TestCase):
         with Checkout() as checkout:
             checkout.release()
             checkout.source.write_text("of another kind\n")
-            self.assertIn("crates/ isn't as it is in the last commit: M crates/store_server/main. make serve RELEASE=yes", checkout.refused())
+            said = "crates/ isn't as it is in the last commit: M crates/store_server/main. make serve RELEASE=yes"
+            self.assertIn(said, checkout.refused())
             checkout.commit()
             self.assertIn("isn't of these sources: it is of the tree ", checkout.refused())
             self.assertIn("tar.gz, NOT of these sources: it is of the tree ", self.serves(checkout, "RELEASE=yes"))

@@ -130,13 +130,16 @@ def never_read_with_key(scale: Scale) -> List[Check]:
 def _never_read(scale: Scale, count: int, hello: bytes) -> List[Check]:
     with hosts(scale, 1) as (host,):
         host.admit(ATTACKER, 64 * KIB)
-        with host.session(ATTACKER) as session:
+        host.admit(VICTIM, 64 * KIB)
+        with host.session(VICTIM) as session:
             session.usage()
             before = host.figures()
             streams = raw_streams(host.path(), count)
             _send_until_full(streams, hello, 3 * scale.seconds)
             taken = host.figures().resident - before.resident
             close_all(streams)
+            # with its journal
+            host.end_job(ATTACKER)
             # what tests/attack bounds a connection at
             return [Check("KiB for each of them", taken / count / KIB, 512.0), *given_back(host, before)]
 
@@ -255,7 +258,7 @@ def _seals(scale: Scale, sessions: int) -> List[Check]:
                 time.sleep(scale.seconds)
             before = host.figures()
             checks = compared(call, host, other, seal, sessions, scale.rounds, scale.seconds)
-            return [Check("KiB that are sealed", length / KIB), *checks, *given_back(host, before)]
+            return [Check("KiB that are sealed", length / KIB), *checks, *given_back(host, before, journals=2)]
 
 
 def restores_of_1_session(scale: Scale) -> List[Check]:
@@ -287,7 +290,7 @@ def restores_of_1_session(scale: Scale) -> List[Check]:
                 time.sleep(scale.seconds)
             before = host.figures()
             checks = compared(call, host, other, restore, 1, scale.rounds, scale.seconds)
-            return [Check("KiB that are restored", length / KIB), *checks, *given_back(host, before)]
+            return [Check("KiB that are restored", length / KIB), *checks, *given_back(host, before, journals=2)]
 
 
 def fetches_of_1_session(scale: Scale) -> List[Check]:
@@ -320,7 +323,7 @@ def _fetches(scale: Scale, sessions: int) -> List[Check]:
                 time.sleep(scale.seconds)
             before = host.figures()
             checks = compared(call, host, other, _fetch_on, sessions, scale.rounds, scale.seconds)
-            checks += given_back(host, before)
+            checks += given_back(host, before, journals=4)
         return [Check("KiB that are fetched", length / KIB), *checks, Check("messages lost", host.lost())]
 
 
