@@ -7,8 +7,9 @@ from typing import Optional
 
 # sessions that a node takes, at most; one descriptor each
 SESSIONS = 1024
-# of each node beside its sessions: what it listens on, what its worker waits on, a spilled file, and a stream that is turned away
-_OF_NODE = 4
+# of each node beside its sessions: what it listens on, what its worker waits on, its spill folder, a spilled file, and a stream that is
+# turned away
+_OF_NODE = 5
 # standard streams, the spill folder's lock, and some that libraries open for a moment
 _OF_PROCESS = 16
 

@@ -97,7 +97,7 @@ class Formula(unittest.TestCase):
             with Place(nodes) as place:
                 place.start_ready()
                 sessions = [place.session(1, node) for node in range(nodes) for _ in range(2)]
-                due = [1 + nodes * (nodes + 1) + len(sessions), 4 + 2 * nodes + len(sessions)]
+                due = [1 + nodes * (nodes + 1) + len(sessions), 4 + 3 * nodes + len(sessions)]
                 with place.control() as daemon:
                     # those that only looked whether the server listens have gone, after a moment
                     until(lambda: counts(daemon) == due, f"{due} at {nodes} nodes")
