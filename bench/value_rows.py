@@ -1,8 +1,8 @@
 """Rows of bench/serve for Python values: an array of numpy by put_value and get_value, and by other ways between processes.
 
 A put by the store is a put_value and the delete that makes room again; a get is a get_value, whose array is a view of what was
-read. The other ways: a block of multiprocessing.shared_memory, made anew, that the array is copied into, and copied out of; a pickle over a pipe of
-multiprocessing to a process that answers when it has the array, and asks for it; SET and GET of a pickle by redis-py, if it and
+read. The other ways: a block of multiprocessing.shared_memory, made anew, that the array is copied into, and copied out of; a pickle
+over a pipe of multiprocessing to a process that keeps the array, and gives it back; SET and GET of a pickle by redis-py, if it and
 redis-server are there. What is missing is left out, and numpy has to be there. All ways take turns, and each keeps its best run.
 """
 

@@ -213,8 +213,12 @@ int store_connect(struct store *store, const char *path, uint32_t job, const uns
     }
     memcpy(address.sun_path, path, strlen(path) + 1);
     store->socket = socket(AF_UNIX, SOCK_STREAM | SOCK_CLOEXEC, 0);
-    if (store->socket < 0 || connect(store->socket, (struct sockaddr *)&address, sizeof address) < 0)
+    if (store->socket < 0)
         return STORE_LOST;
+    /* a signal while the server's queue is full leaves the socket as it was */
+    while (connect(store->socket, (struct sockaddr *)&address, sizeof address) < 0)
+        if (errno != EINTR)
+            return STORE_LOST;
     put_number(fields, job, 4);
     memcpy(fields + 4, key, STORE_KEY_BYTES);
     struct request hello = request_of(HELLO, fields, sizeof fields);

@@ -12,6 +12,9 @@ from . import Connection, ObjectId, State, StoreError, Task, Usage, __version__,
 from .checks import LAST_NUMBER, key_bytes, seconds, whole_number
 from .putting import Progress
 
+# adds a command: its word, what runs it, and what it does
+_Adding = Callable[[str, Callable[[Connection, argparse.Namespace], None], str], argparse.ArgumentParser]
+
 _ABOUT = """\
 Puts, gets and lists objects of a running store. The key is 64 hexadecimal digits. --key stands in the list of processes for
 all users to see: give it in a file, by --key-file, or in the environment, as STORE_KEY. STORE_SOCKET and STORE_JOB are read, too."""
@@ -137,7 +140,23 @@ def _key_file(path: str) -> bytes:
 
 
 def arguments() -> argparse.ArgumentParser:
-    """What the command line may say. What the environment says is its default, which is read likewise."""
+    """What the command line may say."""
+    parser = _connecting()
+    commands = parser.add_subparsers(required=True, metavar="COMMAND")
+
+    def command(word: str, run: Callable[[Connection, argparse.Namespace], None], help: str) -> argparse.ArgumentParser:
+        added = commands.add_parser(word, help=help, description=f"{help[0].upper()}{help[1:]}.")
+        added.set_defaults(run=run)
+        return added
+
+    _add_objects(command)
+    _add_grants(command)
+    _add_lists(command)
+    return parser
+
+
+def _connecting() -> argparse.ArgumentParser:
+    """Where the store is, and who speaks. What the environment says is the default, which is read likewise."""
     place = os.environ
     parser = argparse.ArgumentParser(prog="store_client", description=_ABOUT)
     parser.add_argument("--version", action="version", version=__version__)
@@ -146,13 +165,10 @@ def arguments() -> argparse.ArgumentParser:
     keys = parser.add_mutually_exclusive_group()
     keys.add_argument("--key", default=place.get("STORE_KEY"), type=_key, help="the job's key")
     keys.add_argument("--key-file", type=_key_file, metavar="FILE", help="a file with the job's key")
-    commands = parser.add_subparsers(required=True, metavar="COMMAND")
+    return parser
 
-    def command(word: str, run: Callable[[Connection, argparse.Namespace], None], help: str) -> argparse.ArgumentParser:
-        added = commands.add_parser(word, help=help, description=f"{help[0].upper()}{help[1:]}.")
-        added.set_defaults(run=run)
-        return added
 
+def _add_objects(command: _Adding) -> None:
     added = command("put", put, "stores a file's bytes, and prints the object's id")
     added.add_argument("file", help="- reads the standard input")
     added.add_argument("--id", help="tN.I or 56 hexadecimal digits; a new one otherwise")
@@ -162,26 +178,31 @@ def arguments() -> argparse.ArgumentParser:
     added.add_argument(
         "--timeout", type=_seconds, help="waits at most so many seconds until somebody has put the object; otherwise it has to be there"
     )
+    added = command("delete", delete, "removes an object once nobody holds it")
+    added.add_argument("id")
+    added = command("end-task", end_task, "removes all objects of a task once nobody holds them")
+    added.add_argument("task", help="tN or 40 hexadecimal digits")
+
+
+def _add_grants(command: _Adding) -> None:
     added = command("peek", peek, "writes some bytes of an object that another job granted")
     added.add_argument("id", help="J/tN.I")
     added.add_argument("offset", type=_number("an offset"))
     added.add_argument("count", type=_number("a number of bytes"), help="at most 65536")
-    added = command("delete", delete, "removes an object once nobody holds it")
-    added.add_argument("id")
     added = command("grant", grant, "lets another job peek at an object")
     added.add_argument("id")
     added.add_argument("taker", metavar="job", type=_number("a job"))
     added = command("withdraw", withdraw, "ends a grant")
     added.add_argument("id")
     added.add_argument("taker", metavar="job", type=_number("a job"))
-    added = command("end-task", end_task, "removes all objects of a task once nobody holds them")
-    added.add_argument("task", help="tN or 40 hexadecimal digits")
+
+
+def _add_lists(command: _Adding) -> None:
     added = command("list", list_all, "shows the job's copies at the node, and what others granted")
     added.add_argument("--created", action="store_true", help="only copies that are still being written, or were left so")
     command("usage", usage, "shows what the job uses of its quotas")
     added = command("watch", watch, "shows usage again whenever it has changed")
     added.add_argument("--every", type=_seconds, default=0.5, help="how often it looks, in seconds")
-    return parser
 
 
 def main(words: Optional[Sequence[str]] = None) -> int:

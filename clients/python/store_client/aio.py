@@ -15,21 +15,21 @@ from __future__ import annotations
 import asyncio
 import contextlib
 import time
-import warnings
 from typing import Any, List, Optional, Sequence, Tuple, TypeVar, Union
 
 from . import finding, parts, putting
 from .aio_session import Session
 from .calls import JobTask
 from .checks import LAST_NUMBER, Buffer, PathLike, flat, key_bytes, seconds, socket_path, whole_number
-from .connection import GRACE, NewIds
+from .connection import NewIds
 from .encoding import decode_array, decode_value, encode_array, encode_value
+from .held import ReadBytes
 from .ids import ObjectId, Task, expect_id
 from .items import GrantedItem, Kind, OwnItem, Placed, Usage
 from .putting import Progress
 from .refusals import ConnectionLost, ServerSilent, StoreError
 from .requests import Pieces, Request, Requests, hello, value_of
-from .steps import Ask, Deadline, Effect, Over, Rest, Steps, TakeBack, Together, ask, fail, go_on
+from .steps import Ask, Deadline, Effect, Over, Rest, Steps, TakeBack, Together, answers_due, ask, fail, go_on
 
 T = TypeVar("T")
 
@@ -38,19 +38,18 @@ _READ_LIMIT = 1 << 20
 _PARTS_AT_ONCE = 4
 
 
-class Held:
+class Held(ReadBytes):
     """An object's bytes, read, and a hold of the session on the object until the end of an `async with`, or `release`."""
 
-    def __init__(self, store: Optional[Connection], id: ObjectId, view: memoryview) -> None:
-        self._store = store
-        self.id = id
-        self.view = view
+    def __init__(self, holder: Optional[Connection], id: ObjectId, view: memoryview, job: int) -> None:
+        super().__init__(id, view, job)
+        self._holder: Optional[Connection] = holder
 
     async def release(self) -> None:
         """The session's hold is given up, once; the bytes that were read stay."""
-        store, self._store = self._store, None
-        if store:
-            await store.release(self.id)
+        holder, self._holder = self._holder, None
+        if holder:
+            await holder.release(self.id)
 
     async def __aenter__(self) -> memoryview:
         return self.view
@@ -62,24 +61,6 @@ class Held:
             # what the block raised says more
             if kind is None:
                 raise
-
-    def __del__(self) -> None:
-        store = getattr(self, "_store", None)
-        if store:
-            warnings.warn(f"{self!r} was dropped and not released", ResourceWarning, stacklevel=2, source=self)
-            store.release_later(self.id)
-
-    def __len__(self) -> int:
-        return len(self.view)
-
-    def __bytes__(self) -> bytes:
-        return bytes(self.view)
-
-    def __buffer__(self, flags: int) -> memoryview:
-        return self.view
-
-    def __repr__(self) -> str:
-        return f"<Held {self.id}, {len(self.view)} bytes, {'held' if self._store else 'not held'}>"
 
 
 class Connection:
@@ -134,7 +115,7 @@ class Connection:
         timeout = seconds(timeout)
         deadline = None if timeout is None else Deadline(timeout)
         view = await self._run(putting.get(self._requests, expect_id(id), deadline, True, progress), timeout)
-        return Held(self if id.job == self.job else None, id, view)
+        return Held(self if id.job == self.job else None, id, view, self.job)
 
     async def wait(
         self, ids: Sequence[ObjectId], count: int = 1, timeout: Optional[float] = None
@@ -295,7 +276,7 @@ class Connection:
 
     async def _do(self, effect: Effect, end: Optional[float]) -> Any:
         if isinstance(effect, Ask):
-            return await self._session.exchange(effect.requests, self._end_of(effect.requests, end))
+            return await self._session.exchange(effect.requests, answers_due(effect.requests, end, self._timeout))
         if isinstance(effect, Rest):
             return await asyncio.sleep(effect.seconds)
         if isinstance(effect, Together):
@@ -305,7 +286,7 @@ class Connection:
     async def _take_back(self, effect: TakeBack) -> None:
         with contextlib.suppress(StoreError):
             deletes = [self._requests.delete(id) for id in effect.ids]
-            await self._session.exchange(deletes, self._end_of(deletes, None))
+            await self._session.exchange(deletes, answers_due(deletes, None, self._timeout))
 
     async def _drive_all(self, all: Sequence[Steps[Any]], end: Optional[float]) -> List[Any]:
         """What each of the steps gives, several at a time. After a fault no more are begun, and it is raised once all have ended."""
@@ -326,14 +307,6 @@ class Connection:
             for task in running:
                 task.cancel()
             await asyncio.gather(*running, return_exceptions=True)
-
-    def _end_of(self, requests: Sequence[Request[Any]], end: Optional[float]) -> Optional[float]:
-        """Until when the server has to have answered."""
-        if end is not None:
-            return max(end, time.monotonic() + GRACE)
-        if self._timeout is None or any(request.waits for request in requests):
-            return None
-        return time.monotonic() + self._timeout
 
 
 async def connect(path: PathLike, job: int, key: bytes, timeout: Optional[float] = None) -> Connection:

@@ -55,9 +55,17 @@ class Session:
             return await asyncio.gather(*answers)
         except asyncio.CancelledError:
             for request, answer in zip(requests, answers):
-                if not answer.cancelled() and answer.done() and not answer.exception():
-                    self._undo(request, answer.result())
+                self._part_with(request, answer)
             raise
+
+    def _part_with(self, request: Request[Any], answer: asyncio.Future[Answer]) -> None:
+        """Who waited is cancelled. What comes from now on is undone as it comes, and what came here, unless the steps have heard of it."""
+        if answer.done() and not answer.cancelled() and not answer.exception():
+            if request.heard is None or isinstance(answer.result(), Refused):
+                self._undo(request, answer.result())
+        elif request.heard is not None and request.name == "release":
+            # it is on its way, so it isn't sent again
+            request.heard.append(None)
 
     def send(self, request: Request[Any]) -> asyncio.Future[Answer]:
         """Sends a whole frame. Who waits for its answer may be cancelled: the answer is read all the same."""

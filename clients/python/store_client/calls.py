@@ -66,7 +66,8 @@ class Calls(abc.ABC):
 
         If the object can't be written whole it is deleted again, also if the call is interrupted, by another connection if this one
         is lost by that. It stays unsealed if the process is killed, if the server doesn't answer any more, and, under an id that
-        was given, if the call is cut off before Create is answered; `list` shows it as `State.CREATED`.
+        was given, if the call is cut off before Create is answered; `list` shows it as `State.CREATED`. An interruption that comes when
+        the put has just been done leaves the object, sealed.
         """
         timeout = seconds(timeout)
         with flat(data) as view:
@@ -90,7 +91,10 @@ class Calls(abc.ABC):
         """
         timeout = seconds(timeout)
         deadline = None if timeout is None else Deadline(timeout)
-        view = self._run(putting.get(self._requests, expect_id(id), deadline, True, progress), timeout)
+        return self._run(self._get_held(expect_id(id), deadline, progress), timeout)
+
+    def _get_held(self, id: ObjectId, deadline: Optional[Deadline], progress: Optional[Progress]) -> Steps[Held]:
+        view = yield from putting.get(self._requests, id, deadline, True, progress)
         return Held(self._holder() if id.job == self.job else None, id, view, self.job)
 
     def wait(

@@ -15,16 +15,14 @@ from .held import Holder
 from .ids import ObjectId, Task
 from .refusals import ConnectionLost, ProtocolError, StoreError, TimedOut, of_another_process
 from .requests import Answer, Request, hello, value_of
-from .steps import Ask, Effect, Over, Rest, Steps, TakeBack, Together, fail, go_on
+from .steps import GRACE, Ask, Effect, Over, Rest, Steps, TakeBack, Together, answers_due, fail, go_on
 from .stream import Stream
 from .values import ValueCalls
 
 T = TypeVar("T")
 
-# a server that answers has so long for the exchange in which a timeout ends, in seconds: it isn't given up for a late look
-GRACE = 1.0
 # how long the server has to do what it was sent before, and to delete what was left, once a put was cut off, in seconds
-_LAST_RESPECTS = 0.5
+_LAST_RESPECTS = 1.0
 # by which an object comes to be
 _MAKING = (Command.CREATE, Command.CREATE_WAIT, Command.WRITE, Command.SEAL)
 
@@ -61,16 +59,18 @@ class Connection(ValueCalls):
         self._timeout = seconds(timeout)
         super().__init__(whole_number(job, "a job", 0, LAST_NUMBER))
         self._process = os.getpid()
-        self._lock = threading.Lock()
+        # of a thread's exchange; it can be given up by its owner alone, and so in any case
+        self._lock = threading.RLock()
+        self._is_exchanging = False
         self._lost: Optional[str] = None
         # whether the server has done all that it was sent, once the connection is lost
         self._is_settled = False
         # holds that were dropped while the connection was in use
         self._dropped: List[ObjectId] = []
         self._ids = NewIds(self.job)
-        self._stream = Stream(self._path, self._end_of([], None))
+        self._stream = Stream(self._path, answers_due([], None, self._timeout))
         try:
-            value_of(self._exchange([hello(self.job, self._key)], self._end_of([], None))[0])
+            value_of(self._exchange([hello(self.job, self._key)], answers_due([], None, self._timeout))[0])
         except BaseException:
             self._stream.close()
             raise
@@ -114,7 +114,8 @@ class Connection(ValueCalls):
         # whoever has the lock, perhaps this very thread, is in a call; the next one sends it
         if self._lock.acquire(blocking=False):
             try:
-                self._exchange_locked([], time.monotonic() + GRACE)
+                if not self._is_exchanging:
+                    self._exchange_locked([], time.monotonic() + GRACE)
             except StoreError:
                 pass
             finally:
@@ -129,7 +130,15 @@ class Connection(ValueCalls):
         return self._drive(steps, None if timeout is None else time.monotonic() + timeout)
 
     def _drive(self, steps: Steps[T], end: Optional[float]) -> T:
-        effect = go_on(steps)
+        try:
+            return self._go_through(steps, go_on(steps), end)
+        except BaseException as error:
+            # what comes between two of the steps they haven't heard of yet
+            if steps.gi_frame is not None:
+                self._go_through(steps, fail(steps, error), end)
+            raise
+
+    def _go_through(self, steps: Steps[T], effect: Union[Effect, Over], end: Optional[float]) -> T:
         while not isinstance(effect, Over):
             effect = self._advance(steps, effect, end)
         result: T = effect.result
@@ -145,7 +154,7 @@ class Connection(ValueCalls):
 
     def _do(self, effect: Effect, end: Optional[float]) -> Any:
         if isinstance(effect, Ask):
-            return self._exchange(effect.requests, self._end_of(effect.requests, end))
+            return self._exchange(effect.requests, answers_due(effect.requests, end, self._timeout))
         if isinstance(effect, Rest):
             return time.sleep(effect.seconds)
         if isinstance(effect, Together):
@@ -156,33 +165,34 @@ class Connection(ValueCalls):
         """What each of the steps gives: here one after the other."""
         return [self._drive(steps, end) for steps in all]
 
-    def _end_of(self, requests: Sequence[Request[Any]], end: Optional[float]) -> Optional[float]:
-        """Until when the server has to have answered."""
-        if end is not None:
-            return max(end, time.monotonic() + GRACE)
-        if self._timeout is None or any(request.waits for request in requests):
-            return None
-        return time.monotonic() + self._timeout
-
     def _exchange(self, requests: Sequence[Request[Any]], end: Optional[float]) -> List[Answer]:
         self._check_process()
-        if not self._lock.acquire(timeout=-1 if end is None else min(max(0.0, end - time.monotonic()), threading.TIMEOUT_MAX)):
-            raise TimedOut("the connection was in use by other threads all the time")
         try:
+            if not self._lock.acquire(timeout=-1 if end is None else min(max(0.0, end - time.monotonic()), threading.TIMEOUT_MAX)):
+                raise TimedOut("the connection was in use by other threads all the time")
+            if self._is_exchanging:
+                raise StoreError("a call was made in the middle of another one of the same thread, as by the handler of a signal")
             return self._exchange_locked(requests, end)
         finally:
-            self._lock.release()
+            # an interruption may come just when the lock was taken, or before
+            try:
+                self._lock.release()
+            except RuntimeError:
+                pass
 
     def _exchange_locked(self, requests: Sequence[Request[Any]], end: Optional[float]) -> List[Answer]:
         if self._lost is not None:
             raise ConnectionLost(self._lost)
-        dropped, self._dropped = self._dropped, []
-        releases = [self._requests.release(id) for id in dropped]
         try:
+            self._is_exchanging = True
+            dropped, self._dropped = self._dropped, []
+            releases = [self._requests.release(id) for id in dropped]
             return self._stream.exchange([*releases, *requests], end)[len(releases) :]
         except BaseException as error:
             self._give_up(error, requests)
             raise
+        finally:
+            self._is_exchanging = False
 
     def _give_up(self, error: BaseException, requests: Sequence[Request[Any]]) -> None:
         """Which replies are still to come isn't known any more, so no other call can follow."""
@@ -200,7 +210,7 @@ class Connection(ValueCalls):
         deletes = [self._requests.delete(id) for id in effect.ids]
         with contextlib.suppress(StoreError):
             if self._lost is None:
-                self._exchange(deletes, self._end_of(deletes, end))
+                self._exchange(deletes, answers_due(deletes, end, self._timeout))
             elif self._is_settled and os.getpid() == self._process:
                 with Connection(self._path, self.job, self._key, _LAST_RESPECTS) as other:
                     other._exchange(deletes, time.monotonic() + _LAST_RESPECTS)
@@ -211,7 +221,7 @@ class Connection(ValueCalls):
 
     def _forget(self) -> None:
         """In a process that was forked off: the session is the parent's. The lock may be held by a thread that isn't here."""
-        self._lock = threading.Lock()
+        self._lock = threading.RLock()
         self._stream.close()
 
 

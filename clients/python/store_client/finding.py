@@ -29,6 +29,7 @@ Absent, and found by a later look.
 
 from __future__ import annotations
 
+import contextlib
 import enum
 import time
 from typing import Any, List, Optional, Sequence, Tuple
@@ -36,9 +37,9 @@ from typing import Any, List, Optional, Sequence, Tuple
 from .checks import seconds, whole_number
 from .ids import ObjectId, expect_id
 from .items import State
-from .refusals import Absent, BadSize, Busy, Full, NotGranted, NotHeld, NotSealed, Pending, Refused
-from .requests import Answer, Request, Requests
-from .steps import Deadline, Pauses, Steps, ask, ask_all
+from .refusals import Absent, BadSize, Busy, Full, NotGranted, NotHeld, NotSealed, Pending, Refused, StoreError
+from .requests import Answer, Request, Requests, count_done
+from .steps import Deadline, Pauses, Steps, ask, ask_all, undoing
 
 # what is worth another look, if there is time
 NOT_YET = (Absent, NotSealed, Busy, NotGranted, Pending)
@@ -69,10 +70,11 @@ class Search:
         self._remind_at = 0.0
         #: the object's length, once it is here and is this job's
         self.length: Optional[int] = None
-        #: how many holds of the session the search has taken
-        self.holds = 0
         #: the last refusal
         self.refusal: Optional[Refused] = None
+        # the answers to its Gets and Releases, as they come
+        self._gets: List[Answer] = []
+        self._releases: List[Answer] = []
 
     @property
     def is_over(self) -> bool:
@@ -85,9 +87,13 @@ class Search:
         return self._phase is _Phase.ENTERED
 
     @property
-    def is_late(self) -> bool:
-        """Whether it isn't here, and may come."""
-        return isinstance(self.refusal, NOT_YET)
+    def holds(self) -> int:
+        """How many holds of the session the search has. This is so at any time, also of a call that is interrupted."""
+        return count_done(self._gets) - count_done(self._releases)
+
+    def release(self) -> Request[None]:
+        """One of its holds less."""
+        return self._requests.release(self.id, self._releases)
 
     def questions(self) -> List[Request[Any]]:
         """What is asked now."""
@@ -95,7 +101,7 @@ class Search:
             return [self._requests.peek(self.id, 0, 0)]
         if self._phase is _Phase.UNDER_WAY and time.monotonic() < self._remind_at:
             return [self._requests.read(self.id, 0, 0)]
-        return [self._requests.get(self.id)] * (2 if self._phase is _Phase.MISSING else 1)
+        return [self._requests.get(self.id, heard=self._gets)] * (2 if self._phase is _Phase.MISSING else 1)
 
     def hear(self, asked: Sequence[Request[Any]], answers: Sequence[Answer]) -> None:
         """Takes the answers to what was asked."""
@@ -107,8 +113,7 @@ class Search:
         found = [answer for answer in answers if not isinstance(answer, Refused)]
         if found:
             self._phase, self.refusal = _Phase.OVER, None
-            if not self.is_foreign:
-                self.length, self.holds = found[0], len(found)
+            self.length = None if self.is_foreign else found[0]
             return
         for answer in answers:
             self._phase = self._phase_after(answer)
@@ -176,11 +181,19 @@ def state_of(requests: Requests, id: ObjectId) -> Steps[Optional[State]]:
 def wait(requests: Requests, ids: Sequence[ObjectId], count: int, deadline: Deadline) -> Steps[List[bool]]:
     """Of each id whether it is here, or there and can't be had, once that is so of `count` of them or the time is over."""
     searches = [Search(requests, id) for id in ids]
-    yield from find(requests, searches, count, deadline)
-    holds = [requests.release(search.id) for search in searches for _ in range(search.holds)]
-    if holds:
-        yield from ask_all(holds)
+    yield from undoing(_find_and_let_go(requests, searches, count, deadline), lambda: let_go(searches))
     return [search.is_over for search in searches]
+
+
+def _find_and_let_go(requests: Requests, searches: Sequence[Search], count: int, deadline: Deadline) -> Steps[None]:
+    yield from find(requests, searches, count, deadline)
+    yield from let_go(searches)
+
+
+def let_go(searches: Sequence[Search]) -> Steps[None]:
+    """The searches' holds are given up, also by the end of the session if it is lost."""
+    with contextlib.suppress(StoreError):
+        yield from ask_all([search.release() for search in searches for _ in range(search.holds)])
 
 
 def checked_wait(ids: Sequence[ObjectId], count: int, timeout: Optional[float]) -> Tuple[List[ObjectId], int, Optional[float]]:

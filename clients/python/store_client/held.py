@@ -9,47 +9,30 @@ from .ids import ObjectId
 from .refusals import StoreError
 
 
-class Holder(Protocol):
-    """The connection whose session holds an object."""
-
-    job: int
-
-    def release(self, id: ObjectId) -> None:
-        """Gives one hold up."""
+class Dropping(Protocol):
+    """The connection whose session holds an object, as far as one that is dropped needs it."""
 
     def release_later(self, id: ObjectId) -> None:
         """Gives one hold up as soon as that can be, and raises nothing."""
 
 
-class Held:
-    """An object's bytes, read, and a hold of the session on the object until the end of a `with`, or `release`.
+class Holder(Dropping, Protocol):
+    """The connection whose session holds an object."""
 
-    `view` has the bytes, as a read-only memoryview, also after the hold has ended; from Python 3.12 on a `Held` can be used as
-    a buffer itself. An object that another job granted is never held.
-    """
+    def release(self, id: ObjectId) -> None:
+        """Gives one hold up."""
 
-    def __init__(self, holder: Optional[Holder], id: ObjectId, view: memoryview, job: int = 0) -> None:
-        self._holder = holder
-        self._job = holder.job if holder else job
+
+class ReadBytes:
+    """The bytes of an object that was got, and who holds it, if anybody does. One that is dropped is released."""
+
+    _holder: Optional[Dropping]
+
+    def __init__(self, id: ObjectId, view: memoryview, job: int) -> None:
+        """The job is the one that got it."""
         self.id = id
         self.view = view
-
-    def release(self) -> None:
-        """The session's hold is given up, once; the bytes that were read stay."""
-        holder, self._holder = self._holder, None
-        if holder:
-            holder.release(self.id)
-
-    def __enter__(self) -> memoryview:
-        return self.view
-
-    def __exit__(self, kind: Optional[Type[BaseException]], *_: Any) -> None:
-        try:
-            self.release()
-        except StoreError:
-            # what the block raised says more
-            if kind is None:
-                raise
+        self._job = job
 
     def __del__(self) -> None:
         holder = getattr(self, "_holder", None)
@@ -71,3 +54,32 @@ class Held:
 
     def __reduce__(self) -> Any:
         raise TypeError("a Held isn't pickled, since its hold is the session's: pass its id, or bytes(held.view)")
+
+
+class Held(ReadBytes):
+    """An object's bytes, read, and a hold of the session on the object until the end of a `with`, or `release`.
+
+    `view` has the bytes, as a read-only memoryview, also after the hold has ended; from Python 3.12 on a `Held` can be used as
+    a buffer itself. An object that another job granted is never held.
+    """
+
+    def __init__(self, holder: Optional[Holder], id: ObjectId, view: memoryview, job: int) -> None:
+        super().__init__(id, view, job)
+        self._holder: Optional[Holder] = holder
+
+    def release(self) -> None:
+        """The session's hold is given up, once; the bytes that were read stay."""
+        holder, self._holder = self._holder, None
+        if holder:
+            holder.release(self.id)
+
+    def __enter__(self) -> memoryview:
+        return self.view
+
+    def __exit__(self, kind: Optional[Type[BaseException]], *_: Any) -> None:
+        try:
+            self.release()
+        except StoreError:
+            # what the block raised says more
+            if kind is None:
+                raise

@@ -11,11 +11,12 @@ import random
 from typing import Callable, List, Optional
 
 from .encoding import MANIFEST_HEAD, Manifest, is_manifest
+from .finding import Search, let_go
 from .ids import ObjectId
-from .putting import get, get_into, hold, put_named, put_new, reserve, write_and_seal
+from .putting import NewCopy, fill, get, get_into, hold, put_named, put_new, reserve, take_back, write_and_seal
 from .refusals import BadSize, StoreError
-from .requests import LARGEST, Pieces, Requests
-from .steps import Deadline, Steps, TakeBack, Together, ask, ask_all
+from .requests import LARGEST, Pieces, Requests, value_of
+from .steps import Deadline, Steps, TakeBack, Together, ask, ask_all, undoing
 
 # of a job at a node
 _MOST_COPIES = 1024
@@ -45,7 +46,11 @@ def put_whole(
         most = f"a window of {window} takes {_MOST_COPIES - 1} parts of {length}"
         raise BadSize("create", name, requests.job, f"{pieces.length} bytes; {most}")
     ids = _beside(id, len(cut)) if id else [new_id() for _ in cut]
-    yield from _put_parts(requests, cut, name, Manifest(pieces.length, length, ids), deadline)
+    whole = NewCopy(requests, name, is_secret=not id)
+    # no other client gives the ids of parts
+    copies = [NewCopy(requests, part, is_secret=True) for part in ids]
+    steps = _put_parts(requests, cut, copies, whole, Manifest(pieces.length, length, ids), deadline)
+    yield from undoing(steps, lambda: take_back([whole, *copies]))
     return name
 
 
@@ -55,23 +60,13 @@ def _beside(id: ObjectId, count: int) -> List[ObjectId]:
     return [id.task.object(index, job=id.job) for index in range(first, first + count)]
 
 
-def _put_parts(requests: Requests, cut: List[Pieces], name: ObjectId, manifest: Manifest, deadline: Deadline) -> Steps[None]:
+def _put_parts(
+    requests: Requests, cut: List[Pieces], copies: List[NewCopy], whole: NewCopy, manifest: Manifest, deadline: Deadline
+) -> Steps[None]:
     pieces = Pieces([memoryview(manifest.encode())])
-    yield from reserve(requests, name, pieces.length, deadline)
-    there = [name]
-    try:
-        yield Together([_put_part(requests, part, id, there, deadline) for part, id in zip(cut, manifest.ids)])
-        yield from write_and_seal(requests, pieces, name)
-    except GeneratorExit:
-        raise
-    except BaseException:
-        yield TakeBack(there)
-        raise
-
-
-def _put_part(requests: Requests, part: Pieces, id: ObjectId, there: List[ObjectId], deadline: Deadline) -> Steps[None]:
-    yield from put_named(requests, part, id, deadline)
-    there.append(id)
+    yield from reserve(requests, whole, pieces.length, deadline)
+    yield Together([fill(requests, part, copy, deadline) for part, copy in zip(cut, copies)])
+    yield from write_and_seal(requests, pieces, whole.id)
 
 
 def get_whole(requests: Requests, id: ObjectId, deadline: Optional[Deadline]) -> Steps[memoryview]:
@@ -89,18 +84,18 @@ def get_whole(requests: Requests, id: ObjectId, deadline: Optional[Deadline]) ->
 
 def parts_of(requests: Requests, id: ObjectId) -> Steps[List[ObjectId]]:
     """The ids of the parts; none if the object is no manifest. Only the beginning of another object is read."""
-    if id.job != requests.job:
-        whole = yield from get(requests, id, None, keep=False)
-    else:
-        length = yield from hold(requests, id, None)
-        try:
-            whole = memoryview((yield from ask(requests.read(id, 0, min(length, MANIFEST_HEAD)))))
-        finally:
-            yield from ask_all([requests.release(id)])
-        if is_manifest(whole):
-            whole = yield from get(requests, id, None, keep=False)
-    manifest = Manifest.decode(whole, id)
+    if id.job == requests.job:
+        search = Search(requests, id)
+        if not is_manifest((yield from undoing(_beginning(requests, search), lambda: let_go([search])))):
+            return []
+    manifest = Manifest.decode((yield from get(requests, id, None, keep=False)), id)
     return manifest.ids if manifest else []
+
+
+def _beginning(requests: Requests, search: Search) -> Steps[memoryview]:
+    length = yield from hold(requests, search, None)
+    answers = yield from ask_all([requests.read(search.id, 0, min(length, MANIFEST_HEAD)), search.release()])
+    return memoryview(value_of(answers[0]))
 
 
 def delete_whole(requests: Requests, id: ObjectId) -> Steps[None]:

@@ -19,6 +19,8 @@ from .values import ValueCalls
 
 T = TypeVar("T")
 
+_pools: weakref.WeakSet[Pool] = weakref.WeakSet()
+
 
 class Pool(ValueCalls):
     """Connections to one node, one for each thread that calls, opened when it first does.
@@ -35,10 +37,10 @@ class Pool(ValueCalls):
         self._connections = whole_number(connections, "how many connections there are for parts", 1, MOST_AT_ONCE)
         self._is_closed = False
         self._begin()
+        _pools.add(self)
 
     def _begin(self) -> None:
-        """What belongs to this process."""
-        self._process = os.getpid()
+        """What belongs to this process, also to one that was forked off, while it has but one thread."""
         self._lock = threading.Lock()
         self._local = threading.local()
         self._members: weakref.WeakSet[_Member] = weakref.WeakSet()
@@ -48,8 +50,6 @@ class Pool(ValueCalls):
         """This thread's own. `NotAdmitted`, `ConnectionLost`."""
         if self._is_closed:
             raise ConnectionLost("the pool is closed")
-        if self._process != os.getpid():
-            self._begin()
         member: Optional[_Member] = getattr(self._local, "member", None)
         if member is None or not member.is_usable:
             member = self._local.member = _Member(self, *self._words)
@@ -60,8 +60,6 @@ class Pool(ValueCalls):
     def close(self) -> None:
         """All its sessions end."""
         self._is_closed = True
-        if self._process != os.getpid():
-            return
         with self._lock:
             workers, self._workers = self._workers, None
             members = list(self._members)
@@ -93,11 +91,13 @@ class Pool(ValueCalls):
 
     def drive_all(self, all: Sequence[Steps[Any]], end: Optional[float]) -> List[Any]:
         """What each of the steps gives, several at a time. After a fault no more are begun, and it is raised once all have ended."""
-        with self._lock:
-            if self._workers is None:
-                self._workers = concurrent.futures.ThreadPoolExecutor(self._connections, "store_client")
-            running = [self._workers.submit(self._drive_one, steps, end) for steps in all]
+        running: List[concurrent.futures.Future[Any]] = []
         try:
+            with self._lock:
+                if self._workers is None:
+                    self._workers = concurrent.futures.ThreadPoolExecutor(self._connections, "store_client")
+                for steps in all:
+                    running.append(self._workers.submit(self._drive_one, steps, end))
             concurrent.futures.wait(running, return_when=concurrent.futures.FIRST_EXCEPTION)
         finally:
             for future in running:
@@ -124,3 +124,11 @@ class _Member(Connection):
         stream = getattr(self, "_stream", None)
         if stream:
             stream.close()
+
+
+def _begin_all() -> None:
+    for pool in list(_pools):
+        pool._begin()
+
+
+os.register_at_fork(after_in_child=_begin_all)

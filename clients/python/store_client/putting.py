@@ -12,16 +12,15 @@ is refused with `3 Exists` as soon as the fetch has ended.
 
 from __future__ import annotations
 
-import contextlib
-from typing import Any, Callable, List, Optional
+from typing import Any, Callable, List, Optional, Sequence
 
-from .finding import Search, find, find_what_is_there, state_of
+from .finding import Search, find, find_what_is_there, let_go, state_of
 from .frames import MOST_BYTES
 from .ids import ObjectId
-from .items import State
-from .refusals import Absent, BadSize, Busy, Exists, NotGranted, Pending, Refused, StoreError
-from .requests import LARGEST, Pieces, Request, Requests, first_refusal
-from .steps import Deadline, Pauses, Steps, TakeBack, ask, ask_all
+from .items import Placed, State
+from .refusals import Absent, BadSize, Busy, Exists, NotGranted, Pending, Refused
+from .requests import LARGEST, Answer, Pieces, Request, Requests, count_done, first_refusal
+from .steps import Deadline, Pauses, Steps, TakeBack, ask, ask_all, undoing
 
 # called with the bytes moved so far and the bytes in all
 Progress = Callable[[int, int], None]
@@ -30,35 +29,64 @@ Progress = Callable[[int, int], None]
 _BURST = 1 << 20
 
 
+class NewCopy:
+    """A copy that is to be created. Whether there is one to be taken back is known at any time, also to a call that is interrupted."""
+
+    def __init__(self, requests: Requests, id: ObjectId, is_secret: bool) -> None:
+        """`is_secret` says that nobody else can know the id."""
+        self._requests = requests
+        self.id = id
+        self._is_secret = is_secret
+        self._tries = 0
+        # the answers to its Creates, as they come
+        self._answers: List[Answer] = []
+
+    def create(self, length: int) -> Request[Placed]:
+        """A try to create it."""
+        self._tries += 1
+        return self._requests.create(self.id, length, heard=self._answers)
+
+    @property
+    def is_ours(self) -> bool:
+        """Whether a Create was answered with a copy; or may have been, if nobody else can know the id."""
+        return (self._tries - len(self._answers) if self._is_secret else 0) + count_done(self._answers) > 0
+
+
+def take_back(copies: Sequence[NewCopy]) -> Steps[None]:
+    """Deletes those that are ours."""
+    ids = [copy.id for copy in copies if copy.is_ours]
+    if ids:
+        yield TakeBack(ids)
+
+
 def put_new(requests: Requests, pieces: Pieces, id: ObjectId, deadline: Deadline, progress: Optional[Progress] = None) -> Steps[None]:
     """A sealed object under an id that nobody else knows. If it can't be written whole it is deleted again."""
-    try:
-        if 1 <= pieces.length <= _BURST and progress is None:
-            answers = yield from ask_all([requests.create(id, pieces.length), *requests.writes(id, pieces), requests.seal(id)])
-            if not isinstance(answers[0], (Pending, Busy)):
-                _raise(first_refusal(answers))
-                return
-        yield from reserve(requests, id, pieces.length, deadline)
-        yield from _one_by_one_or_all(requests.writes(id, pieces), [requests.seal(id)], pieces.length, progress)
-    except GeneratorExit:
-        raise
-    except BaseException as error:
-        if not _is_of_create(error):
-            yield TakeBack([id])
-        raise
+    copy = NewCopy(requests, id, is_secret=True)
+    yield from undoing(_fill_new(requests, pieces, copy, deadline, progress), lambda: take_back([copy]))
+
+
+def _fill_new(requests: Requests, pieces: Pieces, copy: NewCopy, deadline: Deadline, progress: Optional[Progress]) -> Steps[None]:
+    writes, seal = requests.writes(copy.id, pieces), requests.seal(copy.id)
+    if 1 <= pieces.length <= _BURST and progress is None:
+        answers = yield from ask_all([copy.create(pieces.length), *writes, seal])
+        if not isinstance(answers[0], (Pending, Busy)):
+            _raise(first_refusal(answers))
+            return
+    yield from reserve(requests, copy, pieces.length, deadline)
+    yield from _one_by_one_or_all(writes, [seal], pieces.length, progress)
 
 
 def put_named(requests: Requests, pieces: Pieces, id: ObjectId, deadline: Deadline, progress: Optional[Progress] = None) -> Steps[None]:
     """A sealed object under an id that others may know. If it can't be written whole it is deleted again, unless the call is cut
     off before it is known whose copy it is."""
-    yield from reserve(requests, id, pieces.length, deadline)
-    try:
-        yield from write_and_seal(requests, pieces, id, progress)
-    except GeneratorExit:
-        raise
-    except BaseException:
-        yield TakeBack([id])
-        raise
+    copy = NewCopy(requests, id, is_secret=False)
+    yield from undoing(fill(requests, pieces, copy, deadline, progress), lambda: take_back([copy]))
+
+
+def fill(requests: Requests, pieces: Pieces, copy: NewCopy, deadline: Deadline, progress: Optional[Progress] = None) -> Steps[None]:
+    """Creates, writes and seals."""
+    yield from reserve(requests, copy, pieces.length, deadline)
+    yield from write_and_seal(requests, pieces, copy.id, progress)
 
 
 def write_and_seal(requests: Requests, pieces: Pieces, id: ObjectId, progress: Optional[Progress] = None) -> Steps[None]:
@@ -67,25 +95,21 @@ def write_and_seal(requests: Requests, pieces: Pieces, id: ObjectId, progress: O
     yield from ask(requests.seal(id))
 
 
-def _is_of_create(error: BaseException) -> bool:
-    return isinstance(error, Refused) and error.command == "create"
-
-
 def _raise(refusal: Optional[Refused]) -> None:
     if refusal is not None:
         raise refusal
 
 
-def reserve(requests: Requests, id: ObjectId, length: int, deadline: Deadline) -> Steps[None]:
-    """A new copy, as soon as there is room and no fetch in its place."""
+def reserve(requests: Requests, copy: NewCopy, length: int, deadline: Deadline) -> Steps[None]:
+    """Creates the copy, as soon as there is room and no fetch in its place."""
     if length >= 1 << 32:
         # no frame can say that
-        raise BadSize("create", id, requests.job, f"{length} bytes; an object has 1 to {LARGEST}")
+        raise BadSize("create", copy.id, requests.job, f"{length} bytes; an object has 1 to {LARGEST}")
     pauses = Pauses(deadline)
     while True:
-        refusal = first_refusal((yield from ask_all([requests.create(id, length)])))
+        refusal = first_refusal((yield from ask_all([copy.create(length)])))
         if isinstance(refusal, Exists):
-            refusal = yield from _take_fetch_away(requests, id, length, refusal)
+            refusal = yield from _take_fetch_away(requests, copy, length, refusal)
         if refusal is None:
             return
         if deadline.is_over or not isinstance(refusal, (Pending, Busy)):
@@ -93,31 +117,29 @@ def reserve(requests: Requests, id: ObjectId, length: int, deadline: Deadline) -
         yield pauses.next()
 
 
-def _take_fetch_away(requests: Requests, id: ObjectId, length: int, exists: Exists) -> Steps[Optional[Refused]]:
+def _take_fetch_away(requests: Requests, copy: NewCopy, length: int, exists: Exists) -> Steps[Optional[Refused]]:
     """The copy in the place of a fetch that has failed, or `Pending` as long as it hasn't. Another copy there is `Exists`."""
-    state = yield from state_of(requests, id)
+    state = yield from state_of(requests, copy.id)
     if state not in (None, State.FETCHING):
         raise exists
-    got, created = yield from ask_all([requests.get(id), requests.create(id, length)])
+    got, created = yield from ask_all([requests.get(copy.id), copy.create(length)])
     if not isinstance(created, Refused):
         return None
     if not isinstance(got, Refused):
-        yield from ask_all([requests.release(id)])
+        yield from ask_all([requests.release(copy.id)])
         raise exists
-    return Pending("create", id, requests.job, "a fetch is in its place") if isinstance(created, Exists) else created
+    return Pending("create", copy.id, requests.job, "a fetch is in its place") if isinstance(created, Exists) else created
 
 
-def hold(requests: Requests, id: ObjectId, deadline: Optional[Deadline]) -> Steps[int]:
-    """One hold more of an object of this job, and its length. With a deadline it is waited for."""
-    search = Search(requests, id)
+def hold(requests: Requests, search: Search, deadline: Optional[Deadline]) -> Steps[int]:
+    """One hold of an object of this job, and its length. With a deadline it is waited for."""
     if deadline is None:
         yield from find_what_is_there(requests, search)
     else:
         yield from find(requests, [search], 1, deadline)
     if search.length is None:
-        raise search.refusal or Absent("get", id, requests.job)
-    if search.holds > 1:
-        yield from ask_all([requests.release(id)] * (search.holds - 1))
+        raise search.refusal or Absent("get", search.id, requests.job)
+    yield from ask_all([search.release() for _ in range(search.holds - 1)])
     return search.length
 
 
@@ -142,45 +164,36 @@ def get(
         buffer = memoryview(bytearray((yield from granted_length(requests, id, deadline))))
         yield from _one_by_one_or_all(requests.peeks(id, buffer), [], len(buffer), progress)
         return buffer.toreadonly()
-    length = yield from hold(requests, id, deadline)
-    buffer = yield from _held_bytes(requests, id, length, keep, progress)
+    search = Search(requests, id)
+    buffer = yield from undoing(_get_own(requests, search, deadline, keep, progress), lambda: let_go([search]))
     return buffer.toreadonly()
 
 
+def _get_own(
+    requests: Requests, search: Search, deadline: Optional[Deadline], keep: bool, progress: Optional[Progress]
+) -> Steps[memoryview]:
+    buffer = memoryview(bytearray((yield from hold(requests, search, deadline))))
+    last = [] if keep else [search.release()]
+    yield from _one_by_one_or_all(requests.reads(search.id, buffer), last, len(buffer), progress)
+    return buffer
+
+
 def get_into(requests: Requests, id: ObjectId, into: memoryview, deadline: Optional[Deadline]) -> Steps[bool]:
-    """The same into a buffer of the object's length; `False` if it has another length."""
+    """The same into a buffer of the object's length; `False` if it has another length. No hold stays."""
     if id.job != requests.job:
         if (yield from granted_length(requests, id, deadline)) != len(into):
             return False
         yield from _one_by_one_or_all(requests.peeks(id, into), [], len(into), None)
         return True
-    length = yield from hold(requests, id, deadline)
-    if length == len(into):
-        yield from _held_bytes(requests, id, length, False, None, into)
-        return True
-    yield from ask_all([requests.release(id)])
-    return False
+    search = Search(requests, id)
+    return (yield from undoing(_get_own_into(requests, search, into, deadline), lambda: let_go([search])))
 
 
-def _held_bytes(
-    requests: Requests, id: ObjectId, length: int, keep: bool, progress: Optional[Progress], into: Optional[memoryview] = None
-) -> Steps[memoryview]:
-    """The bytes of an object that is held. The hold ends with them, unless it is kept."""
-    release = requests.release(id)
-    try:
-        buffer = memoryview(bytearray(length)) if into is None else into
-        if keep:
-            yield from _one_by_one_or_all(requests.reads(id, buffer), [], length, progress)
-    except GeneratorExit:
-        raise
-    except BaseException:
-        with contextlib.suppress(StoreError):
-            yield from ask_all([release])
-        raise
-    if not keep:
-        # they are sent together, so whatever comes of it, the hold isn't given up twice: the session may have others
-        yield from _one_by_one_or_all(requests.reads(id, buffer), [release], length, None)
-    return buffer
+def _get_own_into(requests: Requests, search: Search, into: memoryview, deadline: Optional[Deadline]) -> Steps[bool]:
+    fits = (yield from hold(requests, search, deadline)) == len(into)
+    reads = requests.reads(search.id, into) if fits else []
+    yield from _one_by_one_or_all(reads, [search.release()], len(into), None)
+    return fits
 
 
 def _one_by_one_or_all(moving: List[Request[Any]], last: List[Request[Any]], length: int, progress: Optional[Progress]) -> Steps[None]:

@@ -43,6 +43,8 @@ class Request(Generic[T]):
     limit: str = ""
     # where the bytes of the reply go, exactly so many
     into: Optional[memoryview] = None
+    # to which the answer is added as soon as it has come, for who has to know it also if the call is interrupted just then
+    heard: Optional[List[Any]] = None
 
     @property
     def name(self) -> str:
@@ -64,6 +66,12 @@ class Request(Generic[T]):
 
     def answer(self, kind: int, body: bytes) -> Any:
         """What the reply says, a `Refused` among the rest. `ProtocolError` if it is no reply to this command."""
+        answer = self._read_answer(kind, body)
+        if self.heard is not None:
+            self.heard.append(answer)
+        return answer
+
+    def _read_answer(self, kind: int, body: bytes) -> Any:
         if kind == Reply.REFUSED and len(body) == 1:
             if body[0] not in BY_NUMBER:
                 raise ProtocolError(f"there is no refusal {body[0]}")
@@ -88,6 +96,11 @@ def value_of(answer: Answer) -> Any:
     return answer
 
 
+def count_done(answers: Sequence[Answer]) -> int:
+    """How many of the answers are no refusals."""
+    return sum(not isinstance(answer, Refused) for answer in answers)
+
+
 def first_refusal(answers: Sequence[Answer]) -> Optional[Refused]:
     """The first of the answers that is a refusal."""
     return next((answer for answer in answers if isinstance(answer, Refused)), None)
@@ -103,7 +116,9 @@ class Requests:
     def __init__(self, job: int) -> None:
         self.job = job
 
-    def create(self, id: ObjectId, length: int, kind: Kind = Kind.PRIMARY, wait: bool = False) -> Request[Placed]:
+    def create(
+        self, id: ObjectId, length: int, kind: Kind = Kind.PRIMARY, wait: bool = False, heard: Optional[List[Any]] = None
+    ) -> Request[Placed]:
         length = whole_number(length, "a length", 0, LAST_NUMBER)
         try:
             kind = Kind(kind)
@@ -112,7 +127,7 @@ class Requests:
         command = Command.CREATE_WAIT if wait else Command.CREATE
         sent = _frame(command, expect_id(id).to_bytes() + bytes([kind]) + numbers(length))
         limit = f"an object has 1 to {LARGEST}, and at most the window"
-        return Request(command, sent, Reply.PLACED, _read_placed, id, self.job, f"{length} bytes", limit)
+        return Request(command, sent, Reply.PLACED, _read_placed, id, self.job, f"{length} bytes", limit, heard=heard)
 
     def write(self, id: ObjectId, offset: int, views: Sequence[memoryview]) -> Request[None]:
         count = sum(map(len, views))
@@ -130,9 +145,9 @@ class Requests:
     def seal(self, id: ObjectId) -> Request[None]:
         return self._told(Command.SEAL, id)
 
-    def get(self, id: ObjectId, wait: bool = False) -> Request[int]:
+    def get(self, id: ObjectId, wait: bool = False, heard: Optional[List[Any]] = None) -> Request[int]:
         command = Command.GET_WAIT if wait else Command.GET
-        return Request(command, _frame(command, expect_id(id).to_bytes()), Reply.GOT, _read_length, id, self.job)
+        return Request(command, _frame(command, expect_id(id).to_bytes()), Reply.GOT, _read_length, id, self.job, heard=heard)
 
     def read(self, id: ObjectId, offset: int, count: int, into: Optional[memoryview] = None) -> Request[bytes]:
         return self._bytes_of(Command.READ, id, offset, count, into)
@@ -148,8 +163,8 @@ class Requests:
         """The Peeks that fill the buffer."""
         return [self.peek(id, at, len(part), part) for at, part in _parts(into)]
 
-    def release(self, id: ObjectId) -> Request[None]:
-        return self._told(Command.RELEASE, id)
+    def release(self, id: ObjectId, heard: Optional[List[Any]] = None) -> Request[None]:
+        return self._told(Command.RELEASE, id, heard=heard)
 
     def unpin(self, id: ObjectId, task: Task) -> Request[None]:
         return self._told(Command.UNPIN, id, expect_task(task).value)
@@ -184,9 +199,12 @@ class Requests:
     def leave(self) -> Request[None]:
         return Request(Command.LEAVE, _frame(Command.LEAVE), Reply.OK, _read_nothing, job=self.job)
 
-    def _told(self, command: Command, id: ObjectId, more: bytes = b"", detail: str = "") -> Request[None]:
+    def _told(
+        self, command: Command, id: ObjectId, more: bytes = b"", detail: str = "", heard: Optional[List[Any]] = None
+    ) -> Request[None]:
         """A command whose body is an id and what follows it, and which is answered Ok."""
-        return Request(command, _frame(command, expect_id(id).to_bytes() + more), Reply.OK, _read_nothing, id, self.job, detail)
+        sent = _frame(command, expect_id(id).to_bytes() + more)
+        return Request(command, sent, Reply.OK, _read_nothing, id, self.job, detail, heard=heard)
 
     def _bytes_of(self, command: Command, id: ObjectId, offset: int, count: int, into: Optional[memoryview]) -> Request[bytes]:
         offset = whole_number(offset, "an offset", 0, LAST_NUMBER)

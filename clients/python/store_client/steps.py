@@ -7,12 +7,15 @@ from __future__ import annotations
 
 import time
 from dataclasses import dataclass
-from typing import Any, Generator, List, Optional, Sequence, TypeVar, Union
+from typing import Any, Callable, Generator, List, Optional, Sequence, TypeVar, Union
 
 from .ids import ObjectId
 from .requests import Answer, Request, value_of
 
 T = TypeVar("T")
+
+# a server that answers has so long for the exchange in which a timeout ends, in seconds: it isn't given up for a late look
+GRACE = 1.0
 
 
 @dataclass(frozen=True)
@@ -100,9 +103,18 @@ class Pauses:
         return Rest(self._deadline.within(pause))
 
 
+def answers_due(requests: Sequence[Request[Any]], end: Optional[float], patience: Optional[float]) -> Optional[float]:
+    """Until when the server has to have answered, in a call that ends then, at a connection that has so much patience."""
+    if end is not None:
+        return max(end, time.monotonic() + GRACE)
+    if patience is None or any(request.waits for request in requests):
+        return None
+    return time.monotonic() + patience
+
+
 def ask_all(requests: Sequence[Request[Any]]) -> Steps[List[Answer]]:
     """The answers, refusals among them."""
-    answers: List[Answer] = yield Ask(requests)
+    answers: List[Answer] = (yield Ask(requests)) if requests else []
     return answers
 
 
@@ -111,3 +123,16 @@ def ask(request: Request[T]) -> Steps[T]:
     answers = yield from ask_all([request])
     value: T = value_of(answers[0])
     return value
+
+
+def undoing(steps: Steps[T], undo: Callable[[], Steps[None]]) -> Steps[T]:
+    """Does the steps. If they fail or are interrupted, what undoes them is done, and then the fault is raised."""
+    try:
+        result: T = yield from steps
+    except GeneratorExit:
+        # nobody does these steps any more
+        raise
+    except BaseException:
+        yield from undo()
+        raise
+    return result

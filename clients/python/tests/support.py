@@ -145,8 +145,28 @@ def in_child(work: Any) -> str:
     return told
 
 
-class WithServer(unittest.TestCase):
-    """Tests that share a server; each has a connection, and a task that no other has."""
+@contextlib.contextmanager
+def in_use(store: store_client.Connection) -> Iterator[None]:
+    """Another thread has the connection meanwhile."""
+    taken, over = threading.Event(), threading.Event()
+
+    def use() -> None:
+        with store._lock:
+            taken.set()
+            over.wait(PATIENCE)
+
+    thread = threading.Thread(target=use)
+    thread.start()
+    try:
+        taken.wait(PATIENCE)
+        yield
+    finally:
+        over.set()
+        thread.join()
+
+
+class ServerOfAll(unittest.TestCase):
+    """Tests that share a server."""
 
     server: Server
 
@@ -154,6 +174,10 @@ class WithServer(unittest.TestCase):
     def setUpClass(cls) -> None:
         cls.server = Server()
         cls.addClassCleanup(cls.server.close)
+
+
+class WithServer(ServerOfAll):
+    """Tests that share a server; each has a connection, and a task that no other has."""
 
     def setUp(self) -> None:
         self.store = self.server.connect()

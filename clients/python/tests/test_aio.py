@@ -147,6 +147,18 @@ class Coroutines(unittest.IsolatedAsyncioTestCase):
         await self.store.delete(self.id(1))
         self.assertEqual((await self.store.usage()).copies, before.copies - 1)
 
+    async def test_a_cancelled_wait_holds_nothing(self) -> None:
+        await self.store.put(b"abcd", self.id(1))
+        before = await self.store.usage()
+        running = asyncio.ensure_future(self.store.wait([self.id(1), self.id(2)], 2, PATIENCE))
+        await asyncio.sleep(0.3)
+        running.cancel()
+        with self.assertRaises(asyncio.CancelledError):
+            await running
+        await self.comes_to(before)
+        await self.store.delete(self.id(1))
+        self.assertEqual((await self.store.usage()).copies, before.copies - 1)
+
     async def test_a_cancelled_create_is_undone(self) -> None:
         for turns in range(5):
             running = asyncio.ensure_future(self.store.create(self.id(), 4))

@@ -14,7 +14,7 @@ import warnings
 from pathlib import Path
 from typing import Any, List
 
-from support import PATIENCE, WithServer, key
+from support import PATIENCE, WithServer, in_use, key
 
 import store_client
 from store_client import Absent, ConnectionLost, Refused, ServerSilent, Task
@@ -161,11 +161,24 @@ class Holds(WithServer):
         self.assertEqual(self.copies(), before - 1)
 
     def test_a_hold_that_is_dropped_during_a_call_is_released_by_the_next(self) -> None:
-        before = self.copies()
-        held = self.store.get(self.id())
-        with warnings.catch_warnings(), self.store._lock:
-            warnings.simplefilter("ignore")
-            del held
+        before, held = self.copies(), [self.store.get(self.id())]
+        exchange = self.store._stream.exchange
+
+        def drop(requests: Any, end: Any) -> Any:
+            held.clear()
+            gc.collect()
+            return exchange(requests, end)
+
+        self.store._stream.exchange = drop  # type: ignore[method-assign]
+        with self.assertWarns(ResourceWarning):
+            self.store.usage()
+        self.store.delete(self.id())
+        self.assertEqual(self.copies(), before - 1)
+
+    def test_a_hold_that_is_dropped_while_another_thread_calls_is_released_by_the_next_call(self) -> None:
+        before, held = self.copies(), [self.store.get(self.id())]
+        with in_use(self.store), self.assertWarns(ResourceWarning):
+            held.clear()
             gc.collect()
         self.store.delete(self.id())
         self.assertEqual(self.copies(), before - 1)

@@ -12,7 +12,7 @@ import time
 import unittest
 from typing import Any, List
 
-from support import PATIENCE, Script, WithServer, in_child, key
+from support import PATIENCE, Script, WithServer, in_child, in_use, key
 
 import store_client
 from store_client import ConnectionLost, ServerSilent, Task
@@ -32,11 +32,8 @@ class Forks(WithServer):
 
     def test_a_connection_that_another_thread_uses_is_no_trap(self) -> None:
         """The child has no such thread, and its lock."""
-        waiting = self.server.connect()
-        self.store.create(self.id(), 4)
-        with self.store._lock:
+        with in_use(self.store):
             self.assertIn("was opened in process", in_child(self.store.usage))
-        waiting.close()
 
     def test_a_session_ends_with_its_own_process(self) -> None:
         """A child doesn't keep it, and its holds, open."""
@@ -138,6 +135,32 @@ class Interruptions(WithServer):
         self.assertTrue(self.store.contains(self.id()))
         self.store.delete(self.id())
 
+    def test_a_call_in_the_middle_of_another_one_is_told(self) -> None:
+        """As a signal's handler may make one: it can't be sent between a command and its answer, nor wait for itself."""
+        exchange, told = self.store._stream.exchange, []
+
+        def interrupted(requests: Any, end: Any) -> Any:
+            try:
+                self.store.usage()
+            except store_client.StoreError as error:
+                told.append(str(error))
+            return exchange(requests, end)
+
+        self.store._stream.exchange = interrupted  # type: ignore[method-assign]
+        self.store.put(b"abcd", self.id())
+        self.store._stream.exchange = exchange  # type: ignore[method-assign]
+        self.assertEqual(set(told), {"a call was made in the middle of another one of the same thread, as by the handler of a signal"})
+        self.assertTrue(self.store.contains(self.id()))
+
+    def test_a_wait_that_is_interrupted_holds_nothing(self) -> None:
+        self.store.put(b"abcd", self.id(1))
+        self.interrupt(0.3)
+        with self.assertRaises(KeyboardInterrupt):
+            self.store.wait([self.id(1), self.id(2)], 2, PATIENCE)
+        before = self.store.usage().copies
+        self.store.delete(self.id(1))
+        self.assertEqual(self.store.usage().copies, before - 1)
+
     def test_a_get_that_waits_can_be_interrupted(self) -> None:
         self.interrupt(0.2)
         with self.assertRaises(KeyboardInterrupt):
@@ -193,7 +216,7 @@ class Silence(unittest.TestCase):
     def test_other_threads_have_the_connection(self) -> None:
         """Then it isn't lost."""
         store = store_client.connect(self.script(OK, OK).path, 1, key(1))
-        with store._lock, self.assertRaisesRegex(store_client.TimedOut, "in use by other threads"):
+        with in_use(store), self.assertRaisesRegex(store_client.TimedOut, "in use by other threads"):
             store.get(Task.numbered(1).object(1, job=1), timeout=0)
         store.leave()
 

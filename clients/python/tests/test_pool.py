@@ -8,10 +8,9 @@ import os
 import pickle
 import random
 import time
-import unittest
 from typing import List
 
-from support import PATIENCE, Server, in_child, key
+from support import PATIENCE, ServerOfAll, in_child, key
 
 import store_client
 from store_client import ConnectionLost, ObjectId, Pool
@@ -49,14 +48,7 @@ def hammer_in_threads(pool: Pool, seed: int, seconds: float) -> List[int]:
         return list(threads.map(lambda number: hammer(pool, 1000 * seed + number, seconds), range(HANDS)))
 
 
-class Pools(unittest.TestCase):
-    server: Server
-
-    @classmethod
-    def setUpClass(cls) -> None:
-        cls.server = Server()
-        cls.addClassCleanup(cls.server.close)
-
+class Pools(ServerOfAll):
     def setUp(self) -> None:
         self.pool = Pool(self.server.path, 1, key(1))
         self.addCleanup(self.pool.close)

@@ -11,7 +11,7 @@ import sys
 import unittest
 from typing import Any, List
 
-from support import PATIENCE, ROOT, Server, key
+from support import PATIENCE, ROOT, Server, ServerOfAll, key
 
 import store_client
 from store_client import Full, ObjectId, Pool, Task
@@ -151,13 +151,10 @@ class Arrays(unittest.TestCase):
                 decode_array(memoryview(wrong), "it")
 
 
-class Stored(unittest.TestCase):
-    server: Server
-
+class Stored(ServerOfAll):
     @classmethod
     def setUpClass(cls) -> None:
-        cls.server = Server()
-        cls.addClassCleanup(cls.server.close)
+        super().setUpClass()
         cls.server.admit(0, 4, SMALL_WINDOW, 2**20)
         cls.server.admit(0, 5, SMALL_WINDOW)
 

@@ -1,0 +1,56 @@
+"""What docs/PROTOCOL.md tells who writes another client, at a running server: its session by hand, and a pipeline that is half-closed."""
+
+from __future__ import annotations
+
+import re
+import socket
+import subprocess
+import sys
+from typing import List, Tuple
+
+from support import PATIENCE, ROOT, ServerOfAll, key
+
+from store_client import ObjectId
+from store_client.frames import read_usage
+from store_client.requests import Requests, hello
+
+PAGE = ROOT / "docs/PROTOCOL.md"
+
+
+class Protocol(ServerOfAll):
+    def said(self) -> Tuple[str, List[str]]:
+        """The program of the session by hand, and what it prints."""
+        text = re.sub("^    ", "", PAGE.read_text(encoding="ascii"), flags=re.MULTILINE)
+        program, printed = re.search(r"<<'END'\n(.*?)END\n(.*?)\n\n", text, re.DOTALL).groups()
+        return program, printed.split()
+
+    def test_a_session_by_hand(self) -> None:
+        program, printed = self.said()
+        for written, here in (("/tmp/store.0", self.server.path), ('32 * "00"', f'"{key(1).hex()}"')):
+            self.assertEqual(program.count(written), 1)
+            program = program.replace(written, here)
+        done = subprocess.run([sys.executable, "-c", program], capture_output=True, text=True, check=True, timeout=PATIENCE)
+        self.assertEqual(done.stdout.split(), printed)
+
+    def test_the_layout_of_an_id(self) -> None:
+        digits = re.search(r"^    (0{24} [0-9a-f]{16} [0-9a-f]{8} [0-9a-f]{8})$", PAGE.read_text(encoding="ascii"), re.MULTILINE).group(1)
+        one = ObjectId.from_bytes(bytes.fromhex(digits))
+        self.assertEqual((one.text(4), one.text(1)), ("t20.7", "4/t20.7"))
+
+    def test_a_pipeline_whose_sending_half_is_closed(self) -> None:
+        """All is answered. The first Get of an unknown id enters a fetch, in whose place nothing is created, and the next one ends it."""
+        requests, one = Requests(3), ObjectId.parse("t20.7", 3)
+        asked = [requests.read(one, 0, 0), requests.get(one), requests.create(one, 20), requests.read(one, 0, 0), requests.get(one)]
+        asked += [requests.create(one, 20), requests.usage()]
+        with socket.socket(socket.AF_UNIX) as stream:
+            stream.settimeout(PATIENCE)
+            stream.connect(self.server.path)
+            stream.sendall(b"".join(part for request in [hello(3, key(3)), *asked] for part in request.parts))
+            stream.shutdown(socket.SHUT_WR)
+            with stream.makefile("rb") as file:
+                told = file.read()
+        refused = "00000002" "8f"
+        due = ["0000000180", *(f"{refused}{number}" for number in ("04", "0a", "03", "05", "04")), "0000000981" "0000000000000020", "0000003185"]
+        self.assertEqual(told[:-48].hex(), "".join(due))
+        usage = read_usage(told[-48:])
+        self.assertEqual((usage.window, usage.window_used, usage.device, usage.device_used, usage.copies, usage.works), (144, 32, 1024, 0, 1, 0))
