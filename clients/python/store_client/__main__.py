@@ -6,7 +6,7 @@ import argparse
 import os
 import sys
 import time
-from typing import Callable, Optional, Sequence
+from typing import Callable, Optional, Sequence, Union
 
 from . import Connection, ObjectId, State, StoreError, Task, Usage, __version__, connect
 from .checks import LAST_NUMBER, key_bytes, seconds, whole_number
@@ -43,6 +43,12 @@ def _id(store: Connection, words: argparse.Namespace) -> ObjectId:
     return ObjectId.parse(words.id, store.job)
 
 
+def _write(data: Union[bytes, memoryview]) -> None:
+    """Writes all of it to the standard output. What Python has there may be unbuffered, and then writes a part and says nothing."""
+    with open(sys.stdout.fileno(), "wb", closefd=False) as output:
+        output.write(data)
+
+
 def put(store: Connection, words: argparse.Namespace) -> None:
     if words.file == "-":
         data = sys.stdin.buffer.read()
@@ -55,13 +61,11 @@ def put(store: Connection, words: argparse.Namespace) -> None:
 
 def get(store: Connection, words: argparse.Namespace) -> None:
     with store.get(_id(store, words), words.timeout, _progress("get")) as view:
-        sys.stdout.buffer.write(view)
-        sys.stdout.buffer.flush()
+        _write(view)
 
 
 def peek(store: Connection, words: argparse.Namespace) -> None:
-    sys.stdout.buffer.write(store.peek(_id(store, words), words.offset, words.count))
-    sys.stdout.buffer.flush()
+    _write(store.peek(_id(store, words), words.offset, words.count))
 
 
 def delete(store: Connection, words: argparse.Namespace) -> None:

@@ -117,6 +117,25 @@ class CommandLine(unittest.TestCase):
             self.assertEqual((done.returncode, done.stderr.count(b"\n")), (1, 1), words)
             self.assertIn(told, done.stderr.decode())
 
+    def test_a_length_that_no_object_has_is_told_with_the_limit(self) -> None:
+        with tempfile.NamedTemporaryFile() as file:
+            file.truncate(2**24 + 1)
+            for path, length in (("/dev/null", 0), (file.name, 2**24 + 1)):
+                done = self.run_as(1, "put", path, "--id", "t1.1")
+                told = f"store_client: 7 BadSize: A length outside its range. (create t1.1, {length} bytes; an object has 1 to 16777216"
+                self.assertEqual((done.returncode, done.stderr.decode()[: len(told)]), (1, told))
+
+    def test_a_reader_that_goes_away_is_no_traceback(self) -> None:
+        words, place = self.command_line()
+        self.store.put(bytes(2**18), self.one)
+        for unbuffered in ("", "1"):
+            place["PYTHONUNBUFFERED"] = unbuffered
+            with subprocess.Popen([*words, "get", "t1.1"], stdout=subprocess.PIPE, stderr=subprocess.PIPE, env=place) as client:
+                os.read(client.stdout.fileno(), 1)
+                client.stdout.close()
+                told = client.stderr.read()
+                self.assertEqual((client.wait(PATIENCE), told), (1, b"store_client: [Errno 32] Broken pipe\n"))
+
     def test_what_is_missing_is_named(self) -> None:
         done = subprocess.run([sys.executable, "-m", "store_client", "usage"], capture_output=True, check=False, timeout=PATIENCE,
                               env={"PYTHONPATH": str(ROOT / "clients/python")})

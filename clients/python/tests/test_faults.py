@@ -130,6 +130,9 @@ class Arguments(WithServer):
         for each in (table, numpy.asfortranarray(table), table[:, ::2], numpy.zeros(2, dtype=[("One", "i4"), ("P", "f8")])):
             with self.store.get(self.store.put(each)) as got:
                 self.assertEqual(bytes(got), each.tobytes())
+        with self.store.get(self.store.put(table)) as got:
+            read = numpy.frombuffer(got, ">i4")
+            self.assertEqual((read.tolist(), read.flags.writeable), ([0, 1, 2, 3, 4, 5], False))
         self.refuses(TypeError, "has pointers", self.store.put, numpy.array([{}, None], dtype=object))
         self.refuses(TypeError, "put_array", self.store.put, numpy.array(["2020-01-01"], dtype="datetime64[D]"))
         self.refuses(store_client.BadSize, "0 bytes", self.store.put, numpy.zeros(0))
