@@ -128,7 +128,7 @@ class Consumers(Waiting):
         far.put(bytes(64), one)
         near.create(two, 64)
         for timeout in (None, 0.1):
-            with self.assertRaises(store_client.Full):
+            with self.assertRaisesRegex(store_client.Full, "No room to bring it back into the job's window"):
                 near.get(one, timeout)
             self.assertEqual([item.id for item in near.list()[0]], [two])
         near.delete(two)
