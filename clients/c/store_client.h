@@ -74,7 +74,8 @@ struct store_id store_id_of(uint64_t task, uint32_t job, uint32_t index);
 int store_connect(struct store *store, const char *path, uint32_t job, const unsigned char *key);
 void store_close(struct store *store);
 
-/* A sealed object of these bytes, 1 to 16,777,216. Waits for room. If it can't be written whole it is deleted again. */
+/* A sealed object of these bytes, 1 to 16,777,216. Waits for room. If it can't be written whole it is deleted again. STORE_EXISTS also
+ * if a fetch is in its place, which a store_hold that was STORE_PENDING has entered: ask it again first, until it is another result. */
 int store_put(struct store *store, struct store_id id, const void *bytes, size_t length);
 
 /* The bytes of an object of this job, in memory that the caller frees. Waits for a transfer from another node, and not until

@@ -61,6 +61,7 @@ static void step_by_step(struct store *store)
     static const unsigned char long_one[STORE_MOST_BYTES + 1];
     uint32_t length;
     EXPECT("Pending", store_hold(store, one, &length));
+    EXPECT("Exists", store_put(store, one, "Hello", 5));
     EXPECT("Absent", store_hold(store, one, &length));
     EXPECT("Absent", store_seal(store, one));
     EXPECT("Ok", store_create(store, one, 20));

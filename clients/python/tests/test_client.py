@@ -7,12 +7,13 @@ files without their ending: test_client.py test_frames test_values
 from __future__ import annotations
 
 import faulthandler
+import os
 import sys
 import unittest
 from pathlib import Path
 
 # seconds that all tests together may take
-PATIENCE_FOR_ALL = 580
+PATIENCE_FOR_ALL = int(os.environ.get("STORE_PATIENCE_FOR_ALL", "580"))
 
 
 def main() -> int:
