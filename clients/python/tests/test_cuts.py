@@ -6,6 +6,8 @@ import ast
 import functools
 import gc
 import os
+import random
+import signal
 import sys
 import threading
 import time
@@ -22,6 +24,7 @@ from store_client import Connection, ConnectionLost, ObjectId, State, Task, conn
 
 # of each so many lines one is tried: 1 tries all
 STEP = int(os.environ.get("STORE_CUTS", "31"))
+SIGNALS = 50
 PACKAGE = Path(store_client.__file__).resolve().parent
 SMALL_WINDOW = 2**12
 
@@ -197,3 +200,33 @@ class Cuts(ServerOfAll):
 
     def test_a_wait(self) -> None:
         self.cut_gets(lambda store, id: store.wait([id, id.task.object(2**31, job=1)], 2, timeout=0.005))
+
+    def test_signals_at_any_moment(self) -> None:
+        """Real ones, drawn by lot, whose handler raises. Every put that was not done is gone, and no session is stuck."""
+
+        def stop(*_: Any) -> None:
+            raise KeyboardInterrupt
+
+        handler = signal.signal(signal.SIGALRM, stop)
+        self.addCleanup(signal.signal, signal.SIGALRM, handler)
+        chance, data, cuts = random.Random(1), bytes(1000), 0
+        for _ in range(SIGNALS):
+            with self.server.connect() as store:
+                try:
+                    signal.setitimer(signal.ITIMER_REAL, 10 ** chance.uniform(-5, -2))
+                    try:
+                        id = store.put(data)
+                        with store.get(id) as view:
+                            self.assertEqual(view, data)
+                        store.wait([id])
+                    finally:
+                        signal.setitimer(signal.ITIMER_REAL, 0)
+                except KeyboardInterrupt:
+                    cuts += 1
+                self.go_on(store, "a signal")
+        with self.server.connect() as other:
+            self.comes_to(lambda: [item for item in other.list()[0] if item.state is State.CREATED], [], "a signal")
+            for item in other.list()[0]:
+                other.delete(item.id)
+            self.comes_to(lambda: other.usage().copies, 0, "a signal")
+        self.assertGreater(cuts, 0)
