@@ -13,6 +13,7 @@ from typing import Callable, List, Optional
 from .encoding import MANIFEST_HEAD, Manifest, is_manifest
 from .finding import Search, let_go
 from .ids import ObjectId
+from .memory import blank
 from .putting import NewCopy, fill, get, get_into, hold, put_named, put_new, reserve, take_back, write_and_seal
 from .refusals import BadSize, StoreError
 from .requests import LARGEST, Pieces, Requests, value_of
@@ -75,7 +76,7 @@ def get_whole(requests: Requests, id: ObjectId, deadline: Optional[Deadline]) ->
     manifest = Manifest.decode(whole, id)
     if manifest is None:
         return whole
-    buffer = memoryview(bytearray(manifest.length))
+    buffer = blank(manifest.length)
     parts = [get_into(requests, part, buffer[place], deadline) for part, place in manifest.places()]
     if not all((yield Together(parts))):
         raise ValueError(f"{id.text(requests.job)} is a manifest, and a part has another length than it says")

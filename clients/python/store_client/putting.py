@@ -18,6 +18,7 @@ from .finding import Search, find, find_what_is_there, let_go, state_of
 from .frames import MOST_BYTES
 from .ids import ObjectId
 from .items import Placed, State
+from .memory import blank
 from .refusals import Absent, BadSize, Busy, Exists, NotGranted, Pending, Refused
 from .requests import LARGEST, Answer, Pieces, Request, Requests, count_done, first_refusal
 from .steps import Deadline, Pauses, Steps, TakeBack, ask, ask_all, undoing
@@ -161,7 +162,7 @@ def get(
 ) -> Steps[memoryview]:
     """An object's bytes. The hold of an object of this job stays if `keep` says so; one that was granted is never held."""
     if id.job != requests.job:
-        buffer = memoryview(bytearray((yield from granted_length(requests, id, deadline))))
+        buffer = blank((yield from granted_length(requests, id, deadline)))
         yield from _one_by_one_or_all(requests.peeks(id, buffer), [], len(buffer), progress)
         return buffer.toreadonly()
     search = Search(requests, id)
@@ -172,7 +173,7 @@ def get(
 def _get_own(
     requests: Requests, search: Search, deadline: Optional[Deadline], keep: bool, progress: Optional[Progress]
 ) -> Steps[memoryview]:
-    buffer = memoryview(bytearray((yield from hold(requests, search, deadline))))
+    buffer = blank((yield from hold(requests, search, deadline)))
     last = [] if keep else [search.release()]
     yield from _one_by_one_or_all(requests.reads(search.id, buffer), last, len(buffer), progress)
     return buffer
