@@ -20,7 +20,7 @@ from typing import Any, List, Optional, Sequence, Tuple, TypeVar, Union
 from . import finding, parts, putting
 from .aio_session import Session
 from .calls import JobTask
-from .checks import LAST_NUMBER, Buffer, PathLike, flat, key_bytes, seconds, socket_path, whole_number
+from .checks import LAST_NUMBER, Buffer, PathLike, flat, key_bytes, seconds, socket_path, whole_number, writable
 from .connection import NewIds
 from .encoding import decode_array, decode_value, encode_array, encode_value
 from .held import ReadBytes
@@ -97,7 +97,12 @@ class Connection:
     # ---- objects and values, whole
 
     async def put(
-        self, data: Buffer, id: Optional[ObjectId] = None, progress: Optional[Progress] = None, timeout: Optional[float] = None
+        self,
+        data: Buffer,
+        id: Optional[ObjectId] = None,
+        progress: Optional[Progress] = None,
+        timeout: Optional[float] = None,
+        kind: Kind = Kind.PRIMARY,
     ) -> ObjectId:
         """As `store_client.Connection.put`."""
         timeout = seconds(timeout)
@@ -105,9 +110,9 @@ class Connection:
             pieces, deadline = Pieces([view]), Deadline(timeout)
             if id is None:
                 id = self.new_id()
-                await self._run(putting.put_new(self._requests, pieces, id, deadline, progress), timeout)
+                await self._run(putting.put_new(self._requests, pieces, id, deadline, progress, kind), timeout)
             else:
-                await self._run(putting.put_named(self._requests, pieces, expect_id(id), deadline, progress), timeout)
+                await self._run(putting.put_named(self._requests, pieces, expect_id(id), deadline, progress, kind), timeout)
         return id
 
     async def get(self, id: ObjectId, timeout: Optional[float] = None, progress: Optional[Progress] = None) -> Held:
@@ -116,6 +121,14 @@ class Connection:
         deadline = None if timeout is None else Deadline(timeout)
         view = await self._run(putting.get(self._requests, expect_id(id), deadline, True, progress), timeout)
         return Held(self if id.job == self.job else None, id, view, self.job)
+
+    async def get_into(self, id: ObjectId, buffer: Buffer, timeout: Optional[float] = None) -> None:
+        """As `store_client.Connection.get_into`."""
+        timeout = seconds(timeout)
+        deadline = None if timeout is None else Deadline(timeout)
+        with writable(buffer) as view:
+            if not await self._run(putting.get_into(self._requests, expect_id(id), view, deadline), timeout):
+                raise ValueError(f"{id.text(self.job)} has another length than the buffer, which takes {len(view)} bytes")
 
     async def wait(
         self, ids: Sequence[ObjectId], count: int = 1, timeout: Optional[float] = None

@@ -6,7 +6,7 @@ import abc
 from typing import List, Optional, Sequence, Tuple, TypeVar
 
 from . import finding, putting
-from .checks import Buffer, flat, seconds
+from .checks import Buffer, flat, seconds, writable
 from .held import Held, Holder
 from .ids import ObjectId, Task, expect_id
 from .items import GrantedItem, Kind, OwnItem, Placed, Usage
@@ -56,13 +56,20 @@ class Calls(abc.ABC):
         return JobTask(Task.numbered(number), self.job)
 
     def put(
-        self, data: Buffer, id: Optional[ObjectId] = None, progress: Optional[Progress] = None, timeout: Optional[float] = None
+        self,
+        data: Buffer,
+        id: Optional[ObjectId] = None,
+        progress: Optional[Progress] = None,
+        timeout: Optional[float] = None,
+        kind: Kind = Kind.PRIMARY,
     ) -> ObjectId:
         """A sealed object of these bytes, 1 to 16,777,216, under the id or a new one (`new_id`).
 
         Waits while room is to come, with a timeout at most so many seconds: then the last refusal is raised. A fetch in the object's
         place, which a waiting Get has left there, is taken away. Arrays that aren't contiguous are stored in the order of their
         indexes; arrays of objects, and what is no buffer, are a `TypeError`.
+
+        `Kind.SECONDARY` offers a copy of what lies elsewhere: it is removed if its room is needed, and never written to the device.
 
         If the object can't be written whole it is deleted again, also if the call is interrupted, by another connection if this one
         is lost by that. It stays unsealed if the process is killed, if the server doesn't answer any more, and, under an id that
@@ -74,9 +81,9 @@ class Calls(abc.ABC):
             pieces, deadline = Pieces([view]), Deadline(timeout)
             if id is None:
                 id = self.new_id()
-                self._run(putting.put_new(self._requests, pieces, id, deadline, progress), timeout)
+                self._run(putting.put_new(self._requests, pieces, id, deadline, progress, kind), timeout)
             else:
-                self._run(putting.put_named(self._requests, pieces, expect_id(id), deadline, progress), timeout)
+                self._run(putting.put_named(self._requests, pieces, expect_id(id), deadline, progress, kind), timeout)
         return id
 
     def get(self, id: ObjectId, timeout: Optional[float] = None, progress: Optional[Progress] = None) -> Held:
@@ -96,6 +103,15 @@ class Calls(abc.ABC):
     def _get_held(self, id: ObjectId, deadline: Optional[Deadline], progress: Optional[Progress]) -> Steps[Held]:
         view = yield from putting.get(self._requests, id, deadline, True, progress)
         return Held(self._holder() if id.job == self.job else None, id, view, self.job)
+
+    def get_into(self, id: ObjectId, buffer: Buffer, timeout: Optional[float] = None) -> None:
+        """Fills a writable buffer with the object's bytes, which are as many, with several Reads in flight; no hold stays. Waits and
+        is refused as `get`. `ValueError` if the object has another length: the buffer is as it was then."""
+        timeout = seconds(timeout)
+        deadline = None if timeout is None else Deadline(timeout)
+        with writable(buffer) as view:
+            if not self._run(putting.get_into(self._requests, expect_id(id), view, deadline), timeout):
+                raise ValueError(f"{id.text(self.job)} has another length than the buffer, which takes {len(view)} bytes")
 
     def wait(
         self, ids: Sequence[ObjectId], count: int = 1, timeout: Optional[float] = None

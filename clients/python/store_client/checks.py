@@ -93,6 +93,17 @@ def flat(data: Any) -> Iterator[memoryview]:
                 view.release()
 
 
+@contextlib.contextmanager
+def writable(buffer: Any) -> Iterator[memoryview]:
+    """The bytes of a buffer that can be written and has no gaps."""
+    with _viewed(buffer) as view:
+        if view.readonly or not view.c_contiguous or has_pointers(view.format):
+            raise TypeError(f"{_named(buffer)} can't be filled with bytes: it is read-only, or has gaps or pointers")
+        # a view can't be cast from each format, and this has none
+        with pickle.PickleBuffer(view).raw() as whole:
+            yield whole
+
+
 def _viewed(data: Any) -> memoryview:
     try:
         return memoryview(data)

@@ -17,7 +17,7 @@ from typing import Any, Callable, List, Optional, Sequence
 from .finding import Search, find, find_what_is_there, let_go, state_of
 from .frames import MOST_BYTES
 from .ids import ObjectId
-from .items import Placed, State
+from .items import Kind, Placed, State
 from .memory import blank
 from .refusals import Absent, BadSize, Busy, Exists, NotGranted, Pending, Refused
 from .requests import LARGEST, Answer, Pieces, Request, Requests, count_done, first_refusal
@@ -33,10 +33,11 @@ _BURST = 1 << 20
 class NewCopy:
     """A copy that is to be created. Whether there is one to be taken back is known at any time, also to a call that is interrupted."""
 
-    def __init__(self, requests: Requests, id: ObjectId, is_secret: bool) -> None:
+    def __init__(self, requests: Requests, id: ObjectId, is_secret: bool, kind: Kind = Kind.PRIMARY) -> None:
         """`is_secret` says that nobody else can know the id."""
         self._requests = requests
         self.id = id
+        self._kind = kind
         self._is_secret = is_secret
         self._tries = 0
         # the answers to its Creates, as they come
@@ -45,7 +46,7 @@ class NewCopy:
     def create(self, length: int) -> Request[Placed]:
         """A try to create it."""
         self._tries += 1
-        return self._requests.create(self.id, length, heard=self._answers)
+        return self._requests.create(self.id, length, self._kind, heard=self._answers)
 
     @property
     def is_ours(self) -> bool:
@@ -60,9 +61,16 @@ def take_back(copies: Sequence[NewCopy]) -> Steps[None]:
         yield TakeBack(ids)
 
 
-def put_new(requests: Requests, pieces: Pieces, id: ObjectId, deadline: Deadline, progress: Optional[Progress] = None) -> Steps[None]:
+def put_new(
+    requests: Requests,
+    pieces: Pieces,
+    id: ObjectId,
+    deadline: Deadline,
+    progress: Optional[Progress] = None,
+    kind: Kind = Kind.PRIMARY,
+) -> Steps[None]:
     """A sealed object under an id that nobody else knows. If it can't be written whole it is deleted again."""
-    copy = NewCopy(requests, id, is_secret=True)
+    copy = NewCopy(requests, id, is_secret=True, kind=kind)
     yield from undoing(_fill_new(requests, pieces, copy, deadline, progress), lambda: take_back([copy]))
 
 
@@ -77,10 +85,17 @@ def _fill_new(requests: Requests, pieces: Pieces, copy: NewCopy, deadline: Deadl
     yield from _one_by_one_or_all(writes, [seal], pieces.length, progress)
 
 
-def put_named(requests: Requests, pieces: Pieces, id: ObjectId, deadline: Deadline, progress: Optional[Progress] = None) -> Steps[None]:
+def put_named(
+    requests: Requests,
+    pieces: Pieces,
+    id: ObjectId,
+    deadline: Deadline,
+    progress: Optional[Progress] = None,
+    kind: Kind = Kind.PRIMARY,
+) -> Steps[None]:
     """A sealed object under an id that others may know. If it can't be written whole it is deleted again, unless the call is cut
     off before it is known whose copy it is."""
-    copy = NewCopy(requests, id, is_secret=False)
+    copy = NewCopy(requests, id, is_secret=False, kind=kind)
     yield from undoing(fill(requests, pieces, copy, deadline, progress), lambda: take_back([copy]))
 
 

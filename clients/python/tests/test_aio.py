@@ -53,6 +53,13 @@ class Coroutines(unittest.IsolatedAsyncioTestCase):
                 self.assertTrue(view.readonly)
             await self.store.delete(id)
 
+    async def test_bytes_come_into_a_buffer(self) -> None:
+        id, buffer = await self.store.put(b"abcd", kind=store_client.Kind.SECONDARY), bytearray(4)
+        await self.store.get_into(id, buffer)
+        self.assertEqual(buffer, b"abcd")
+        with self.assertRaisesRegex(ValueError, "another length"):
+            await self.store.get_into(id, bytearray(5))
+
     async def test_a_whole_session(self) -> None:
         store, one = self.store, self.id()
         self.assertEqual((await store.create(one, 4)).length, 16)

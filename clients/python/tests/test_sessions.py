@@ -88,6 +88,32 @@ class Sessions(unittest.TestCase):
             with self.store.get(self.store.put(data)) as view:
                 self.assertEqual(view, memoryview(data).cast("B"))
 
+    def test_bytes_come_into_a_buffer(self) -> None:
+        data = os.urandom(200_000)
+        id, buffer = self.store.put(data), array.array("I", bytes(200_000))
+        self.store.get_into(id, buffer)
+        self.assertEqual(buffer.tobytes(), data)
+        with self.assertRaisesRegex(ValueError, "another length than the buffer, which takes 4 bytes"):
+            self.store.get_into(id, bytearray(4))
+        for wrong in (data, memoryview(bytearray(400_000))[::2], "text"):
+            with self.assertRaises(TypeError):
+                self.store.get_into(id, wrong)
+        self.store.delete(id)
+        self.assertEqual(self.store.usage().copies, 0)
+
+    def test_a_copy_that_is_offered(self) -> None:
+        for data in (b"abcd", bytes(2**21)):
+            self.store.put(data, self.one, kind=Kind.SECONDARY)
+            (item,) = self.store.list()[0]
+            self.assertEqual((item.state, item.kind, item.length), (State.SEALED, Kind.SECONDARY, len(data)))
+            self.refused(store_client.NotOwner, self.store.unpin, self.one, self.one.task)
+            self.store.delete(self.one)
+        # it makes room for what comes
+        self.store.put(bytes(2**24), self.one, kind=Kind.SECONDARY)
+        self.store.put(bytes(2**24))
+        self.store.put(bytes(2**24))
+        self.assertFalse(self.store.contains(self.one))
+
     def test_a_hold_ends_with_its_block(self) -> None:
         self.store.put(b"abcd", self.one)
         with self.store.get(self.one):
