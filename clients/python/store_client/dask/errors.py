@@ -1,0 +1,42 @@
+"""What loading a value may raise beside the refusals of a store, which are raised as they are."""
+
+from __future__ import annotations
+
+from ..refusals import StoreError
+
+
+class ValueLost(StoreError):
+    """Nobody has the value any more: its host is gone, or its store, or the value was removed there.
+
+    The scheduler was told before this is raised: it computes the key again for the tasks that depend on it.
+    """
+
+    def __init__(self, host: str, about: str, why: str) -> None:
+        super().__init__(host, about, why)
+        #: the host on which the value was put
+        self.host = host
+        #: what the value was
+        self.about = about
+        #: what was met when it was asked for
+        self.why = why
+
+    def __str__(self) -> str:
+        return f"{self.about} of host {self.host} is lost: {self.why}"
+
+
+class HostUnknown(StoreError):
+    """The value is on a host of which this scheduler never had a worker with a store."""
+
+    def __init__(self, host: str, about: str) -> None:
+        super().__init__(host, about)
+        #: the host that the reference names
+        self.host = host
+        #: what the value is
+        self.about = about
+
+    def __str__(self) -> str:
+        return f"{self.about} is on host {self.host}, and no worker of this scheduler ever was there with a store"
+
+
+class KeyReleased(StoreError):
+    """Nobody waits for what the task puts: its key was released while it ran. Nothing was put."""

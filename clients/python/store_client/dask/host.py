@@ -1,0 +1,148 @@
+"""The store of a host, as the workers of one job use it.
+
+A server may have several nodes: then the parts of a value are spread over them, by epoch and number. Each node has a window and a lock
+of its own, so a host has the sum of the windows, and parts are sealed beside each other.
+"""
+
+from __future__ import annotations
+
+import concurrent.futures
+import contextlib
+import time
+from typing import Any, Callable, Dict, Iterable, List, Sequence, Tuple, Type, TypeVar
+
+from ..ids import ObjectId
+from ..items import Kind, State, Usage
+from ..pool import Pool
+from ..refusals import Absent, Busy, Full, Granted, NotHeld, Pending, Refused, StoreError, TooMany
+from ..requests import LARGEST
+from ..steps import Deadline, Pauses
+from .names import Name, is_primary, prefix_of
+
+T = TypeVar("T")
+
+# what a moment later may be different: another's hold has ended, another's spill is done
+PASSING: Tuple[Type[Refused], ...] = (Full, TooMany, Busy, Pending)
+# how long a server may be silent, in seconds
+_SILENCE = 60.0
+# so many parts have room in a window beside each other
+_PARTS_OF_A_WINDOW = 8
+
+
+class HostStore:
+    """A pool for each node of the host's server."""
+
+    def __init__(self, socket: str, nodes: int, job: int, key: bytes, part: int) -> None:
+        """The socket of node K is `SOCKET.K`. `ConnectionLost`, `NotAdmitted`."""
+        self.job = job
+        self._pools = [Pool(f"{socket}.{node}", job, key, _SILENCE, connections=1) for node in range(nodes)]
+        window = min(usage.window for usage in self.usage())
+        #: how long a part is, in bytes
+        self.part = max(16, min(part, LARGEST, window // _PARTS_OF_A_WINDOW // 16 * 16))
+
+    def close(self) -> None:
+        """All sessions end."""
+        for pool in self._pools:
+            pool.close()
+
+    def usage(self) -> List[Usage]:
+        """What the job uses, of each node."""
+        return [pool.usage() for pool in self._pools]
+
+    def put(self, id: ObjectId, data: Any, kind: Kind, timeout: float) -> None:
+        """A sealed object. What may pass is waited for that long, and then raised."""
+        deadline = Deadline(timeout)
+        patiently(lambda: self._pool(id).put(data, id, timeout=deadline.within(timeout), kind=kind), deadline)
+
+    def read_into(self, id: ObjectId, into: memoryview, deadline: Deadline) -> bool:
+        """Whether the object is here, sealed; its bytes are in the buffer then."""
+        try:
+            patiently(lambda: self._pool(id).get_into(id, into), deadline)
+        except Absent:
+            return False
+        return True
+
+    def create(self, id: ObjectId, length: int, kind: Kind) -> None:
+        """A copy that isn't sealed."""
+        self._pool(id).create(id, length, kind)
+
+    def delete(self, ids: Iterable[ObjectId]) -> None:
+        """These copies go, if they are there; nothing is raised."""
+        for id in ids:
+            with contextlib.suppress(StoreError):
+                self._pool(id).delete(id)
+
+    def copies_of(self, name: Name, part: int) -> Dict[ObjectId, State]:
+        """The claims and copies that the host has of a part, in the order of their ids."""
+        primary = name.primary(part, self.job)
+        items = [item for item in self._pool(primary).list()[0] if item.id.index == primary.index]
+        return {item.id: item.state for item in items if prefix_of(item.id) == name.prefix and not is_primary(item.id)}
+
+    def sealed_copies_of(self, name: Name, part: int) -> List[ObjectId]:
+        """Those from which the part can be read."""
+        return [id for id, state in self.copies_of(name, part).items() if state is State.SEALED]
+
+    def forget(self, prefixes: Sequence[bytes]) -> int:
+        """Removes all that the host has of these values. What is granted stays until its grants end. How many copies that were."""
+        gone, wanted = 0, frozenset(prefixes)
+        for pool in self._pools:
+            for item in pool.list()[0]:
+                if prefix_of(item.id) in wanted:
+                    gone += _let_go(pool, item.id)
+        return gone
+
+    def grant(self, id: ObjectId, job: int) -> None:
+        """Lets another job read the object, which is brought into memory for that and stays there."""
+        pool = self._pool(id)
+        patiently(lambda: pool.hold(id, wait=True), Deadline(_SILENCE))
+        try:
+            pool.grant(id, job)
+        finally:
+            pool.release(id)
+
+    def withdraw(self, id: ObjectId, job: int) -> None:
+        """The other job can read it no longer."""
+        self._pool(id).withdraw(id, job)
+
+    def _pool(self, id: ObjectId) -> Pool:
+        return self._pools[(Name(prefix_of(id)).epoch + id.index) % len(self._pools)]
+
+
+def _let_go(pool: Pool, id: ObjectId) -> bool:
+    try:
+        pool.delete(id)
+    except Granted:
+        # it goes with its last grant
+        with contextlib.suppress(NotHeld):
+            pool.unpin(id, id.task)
+    except Absent:
+        return False
+    return True
+
+
+def patiently(work: Callable[[], T], deadline: Deadline) -> T:
+    """What the work gives. As long as it is refused for what may pass, and there is time, it is done again."""
+    pauses = Pauses(deadline)
+    while True:
+        try:
+            return work()
+        except PASSING:
+            if deadline.is_over:
+                raise
+        time.sleep(pauses.next().seconds)
+
+
+def all_of(threads: concurrent.futures.Executor, work: Callable[[int], T], numbers: Sequence[int]) -> List[T]:
+    """What the work gives for each of the numbers, several at once. After a fault no more are begun, and it is raised once all have
+    ended."""
+    running = [threads.submit(work, number) for number in numbers]
+    try:
+        concurrent.futures.wait(running, return_when=concurrent.futures.FIRST_EXCEPTION)
+    finally:
+        for future in running:
+            future.cancel()
+        concurrent.futures.wait(running)
+    faults = [future.exception() for future in running if not future.cancelled() and future.exception()]
+    if faults and faults[0]:
+        raise faults[0]
+    return [future.result() for future in running]

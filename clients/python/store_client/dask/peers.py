@@ -1,0 +1,131 @@
+"""How a worker asks those of other hosts for a part: the handler of one, and what the other does with its answers."""
+
+from __future__ import annotations
+
+import asyncio
+import contextlib
+import hashlib
+from dataclasses import dataclass
+from typing import Any, AsyncIterator, Dict, List, Optional, Set
+
+from distributed.core import send_recv
+from distributed.protocol import to_serialize
+
+from ..ids import ObjectId
+from ..memory import blank
+from ..refusals import ConnectionLost, Damaged, DeviceFailed, StoreError
+from ..steps import Deadline
+from .errors import HostUnknown, ValueLost
+from .host import HostStore
+from .names import Name
+from .reference import DIGEST, StoreRef
+
+# a store that is lost or can't give these bytes back: another host may
+GONE = (ConnectionLost, Damaged, DeviceFailed)
+# how long a worker has to take a connection, and to answer before it is asked whether it lives, in seconds
+_CONNECT, _ANSWER = 3.0, 10.0
+# how long a part is looked for in the host's own store
+_PATIENCE = 30.0
+
+
+@dataclass
+class Route:
+    """Whom to ask for the parts of a value, found out once, and who didn't answer."""
+
+    own: List[str]
+    others: List[str]
+    is_known: bool
+    silent: Set[str]
+
+    def addresses(self, turn: int) -> List[str]:
+        """The workers of the value's host, from another one on each turn, and then one of each other host."""
+        first = turn % max(1, len(self.own))
+        return [one for one in [*self.own[first:], *self.own[:first], *self.others] if one not in self.silent]
+
+
+def answer_part(store: HostStore, name: Name, part: int, id: ObjectId, length: int) -> Dict[str, Any]:
+    """What a worker answers who asks for a part: its bytes, that it isn't here, or a fault."""
+    into, deadline = blank(length), Deadline(_PATIENCE)
+    try:
+        here = store.read_into(id, into, deadline)
+        if not here:
+            here = any(store.read_into(copy, into, deadline) for copy in store.sealed_copies_of(name, part))
+    except StoreError as error:
+        return {"status": "error", "error": to_serialize(error)}
+    return {"status": "OK", "data": to_serialize(into)} if here else {"status": "absent"}
+
+
+class Peers:
+    """The workers of other hosts. All is to be called on the worker's event loop."""
+
+    def __init__(self, worker: Any, host: str) -> None:
+        self._worker = worker
+        self._host = host
+
+    async def route(self, ref: StoreRef) -> Route:
+        """Whom the scheduler knows."""
+        told = await self._worker.scheduler.store_hosts(host=ref.host, mine=self._host)
+        own = [address for address in told["own"] if address != self._worker.address]
+        return Route(own, list(told["others"]), told["known"], set())
+
+    async def part(self, route: Route, ref: StoreRef, part: int) -> memoryview:
+        """The part's bytes, of the digest that the reference has. `ValueLost`, `HostUnknown`."""
+        why = f"no worker of {ref.host} is left"
+        async for address, answer in self._answers(route, ref, part):
+            if answer is None:
+                why = f"{address} doesn't answer"
+            elif answer["status"] == "OK":
+                data = memoryview(answer["data"]).cast("B")
+                if hashlib.blake2b(data, digest_size=DIGEST).digest() == ref.digests[part]:
+                    return data
+                why = f"{address} sent other bytes"
+            elif answer["status"] == "absent":
+                why = f"it was removed there, {address} says"
+            elif isinstance(answer["error"], GONE):
+                why = f"{address} says: {answer['error']}"
+            else:
+                raise answer["error"]
+        if not route.is_known:
+            raise HostUnknown(ref.host, ref.about)
+        raise ValueLost(ref.host, ref.about, why)
+
+    async def _answers(self, route: Route, ref: StoreRef, part: int) -> AsyncIterator[Any]:
+        for address in route.addresses(part):
+            answer = await self._ask(address, ref, part)
+            if answer is None:
+                route.silent.add(address)
+            yield address, answer
+
+    async def _ask(self, address: str, ref: StoreRef, part: int) -> Optional[Dict[str, Any]]:
+        """What the worker answers; None if it is gone. One that is busy is waited for as long as it lives."""
+        words = {
+            "op": "store_part",
+            "name": ref.name.prefix,
+            "part": part,
+            "id": ref.primary(part).to_bytes(),
+            "length": ref.place(part).stop - ref.place(part).start,
+        }
+        with contextlib.suppress(OSError):
+            while True:
+                try:
+                    return await self._send(address, words, _ANSWER)
+                except asyncio.TimeoutError:
+                    if not await self._lives(address):
+                        return None
+        return None
+
+    async def _lives(self, address: str) -> bool:
+        try:
+            await self._send(address, {"op": "store_ping"}, _CONNECT)
+        except (OSError, asyncio.TimeoutError):
+            return False
+        return True
+
+    async def _send(self, address: str, words: Dict[str, Any], seconds: float) -> Dict[str, Any]:
+        # by itself Dask tries for half a minute to connect to a worker that is gone
+        comm = await self._worker.rpc.connect(address, timeout=_CONNECT)
+        try:
+            answer: Dict[str, Any] = await asyncio.wait_for(send_recv(comm, **words), seconds)
+            return answer
+        finally:
+            self._worker.rpc.reuse(address, comm)

@@ -1,0 +1,284 @@
+"""What a worker has of a store: the plugin, and what a task can do with it."""
+
+from __future__ import annotations
+
+import asyncio
+import collections
+import concurrent.futures
+import contextlib
+import hashlib
+import os
+import random
+import socket
+import threading
+from pathlib import Path
+from typing import Any, Counter, Coroutine, Dict, Iterator, List, Optional, Sequence, Set, TypeVar
+
+from distributed import WorkerPlugin
+
+from ..checks import key_bytes, whole_number
+from ..ids import ObjectId
+from ..items import Kind
+from ..memory import blank
+from ..refusals import ConnectionLost
+from ..requests import Pieces
+from ..steps import Deadline
+from .errors import KeyReleased, ValueLost
+from .host import HostStore, all_of
+from .names import Name
+from .peers import GONE, Peers, Route, answer_part
+from .reference import DIGEST, PLUGIN, StoreRef, encode, in_words
+from .sharing import Sharing
+
+T = TypeVar("T")
+
+# a value that is no longer, in bytes, lies in its reference: a store has 1,024 copies of a job at a node
+_SMALL = 1 << 16
+# how long a part is if nothing else is said, in bytes
+PART = 1 << 22
+# so many parts are moved at once for tasks, and as many for other hosts: who waits for another host never keeps one waiting
+_THREADS = 4
+# how long a scheduler or a worker has for a small question, in seconds
+_PATIENCE = 30.0
+
+
+class StoreWorkers(WorkerPlugin):  # type: ignore[misc]
+    """On each worker: connects it to its host's store, and answers the workers of other hosts. `attach` registers it.
+
+    A worker's environment goes before what is said here: `STORE_SOCKET`, `STORE_NODES`, `STORE_JOB`, `STORE_KEY` (64 hexadecimal digits),
+    `STORE_KEY_FILE` and `STORE_HOST`, the name of its host.
+    """
+
+    name = PLUGIN
+
+    def __init__(
+        self, socket: str, job: int = 1, key_file: Optional[str] = None, nodes: int = 1, part: int = PART, lease: float = 5.0
+    ) -> None:
+        """The socket of the server's node K is `SOCKET.K`. A part has so many bytes at most; a lease so many seconds."""
+        self._words = {"STORE_SOCKET": socket, "STORE_JOB": job, "STORE_KEY_FILE": key_file, "STORE_NODES": nodes}
+        self._part = whole_number(part, "the length of a part", 16, 1 << 24)
+        self._lease = lease
+
+    async def setup(self, worker: Any) -> None:
+        """The worker starts."""
+        said: Dict[str, Any] = {**self._words, **os.environ}
+        self._worker = worker
+        self._host = os.environ.get("STORE_HOST") or socket.gethostname()
+        self._job = whole_number(int(said["STORE_JOB"]), "a job", 1, 2**32 - 1)
+        nodes = whole_number(int(said["STORE_NODES"]), "how many nodes a server has", 1, 8)
+        self._store = HostStore(said["STORE_SOCKET"], nodes, self._job, _key(said), self._part)
+        self._sharing = Sharing(self._store, self._lease)
+        self._peers = Peers(worker, self._host)
+        self._threads = concurrent.futures.ThreadPoolExecutor(_THREADS, "store")
+        self._answering = concurrent.futures.ThreadPoolExecutor(_THREADS, "store_answers")
+        self._lock = threading.Lock()
+        self._under_way: Counter[bytes] = collections.Counter()
+        self._gone: Set[bytes] = set()
+        self._counts: Counter[str] = collections.Counter()
+        worker.handlers["store_part"] = self._answer_part
+        worker.handlers["store_ping"] = self._answer_ping
+        worker.handlers["store_forget"] = self._answer_forget
+        await worker.scheduler.store_join(worker=worker.address, host=self._host)
+
+    def teardown(self, worker: Any) -> None:
+        """The worker ends."""
+        self._threads.shutdown(wait=False)
+        self._answering.shutdown(wait=False)
+        self._store.close()
+
+    # ---- for other workers and the scheduler, on the worker's event loop; the store is asked in a thread
+
+    async def _answer_part(self, comm: Any = None, name: bytes = b"", part: int = 0, id: bytes = b"", length: int = 0) -> Dict[str, Any]:
+        words = (self._store, Name(bytes(name)), part, ObjectId.from_bytes(id), length)
+        answer = await asyncio.get_running_loop().run_in_executor(self._answering, answer_part, *words)
+        if answer["status"] == "OK":
+            self._count("served", length)
+        return answer
+
+    async def _answer_ping(self, comm: Any = None) -> Dict[str, str]:
+        return {"status": "OK"}
+
+    async def _answer_forget(self, comm: Any = None, prefixes: Sequence[bytes] = (), sweep: bool = False) -> int:
+        names = [bytes(prefix) for prefix in prefixes]
+        with self._lock:
+            self._gone.update(name for name in names if self._under_way[name])
+        if not sweep:
+            return 0
+        return await asyncio.get_running_loop().run_in_executor(self._answering, self._store.forget, names)
+
+    # ---- for a task, in its thread
+
+    def put(self, value: Any, with_key: bool, timeout: float) -> StoreRef:
+        """See `reference.put`."""
+        key, (pieces, is_pickled) = self._task_key(), encode(value)
+        about = in_words(value)
+        if pieces.length <= _SMALL:
+            name, inline = Name.of(key, 0), b"".join(pieces.views)
+            return StoreRef(key, self._host, self._job, about, pieces.length, name, self._store.part, (), is_pickled, inline)
+        epoch = self._ask(self._worker.scheduler.store_begin(key=key, worker=self._worker.address, with_key=with_key))
+        if epoch is None:
+            raise KeyReleased(f"{key} was released while it ran")
+        name = Name.of(key, epoch)
+        with self._working_on(name):
+            digests = self._put_parts(name, pieces, timeout)
+        self._count("put", pieces.length)
+        return StoreRef(key, self._host, self._job, about, pieces.length, name, self._store.part, tuple(digests), is_pickled)
+
+    def _put_parts(self, name: Name, pieces: Pieces, timeout: float) -> List[bytes]:
+        cut, deadline = pieces.cut(self._store.part), Deadline(timeout)
+
+        def put_part(part: int) -> bytes:
+            views = cut[part].views
+            data = views[0] if len(views) == 1 else b"".join(views)
+            self._store.put(name.primary(part, self._job), data, Kind.PRIMARY, deadline.within(timeout))
+            return hashlib.blake2b(data, digest_size=DIGEST).digest()
+
+        try:
+            return all_of(self._threads, put_part, range(len(cut)))
+        except BaseException:
+            self._store.delete(name.primary(part, self._job) for part in range(len(cut)))
+            raise
+
+    def load(self, ref: StoreRef, timeout: float) -> Any:
+        """See `StoreRef.load`."""
+        self._check_thread()
+        if ref.inline:
+            return ref.decode(memoryview(ref.inline), self._job)
+        body, deadline = blank(ref.length), Deadline(timeout)
+        route = _Once(lambda: self._ask(self._peers.route(ref)))
+        # workers of a host that begin at the same time begin at different parts
+        first = 0 if ref.host == self._host else random.randrange(len(ref.parts))
+        order = [*ref.parts[first:], *ref.parts[:first]]
+        try:
+            with self._working_on(ref.name):
+                all_of(self._threads, lambda part: self._load_part(ref, part, body[ref.place(part)], route, deadline), order)
+        except ValueLost:
+            # before the error is told: then the scheduler computes the key again, and this task after it
+            self._ask(self._worker.scheduler.store_lost(epoch=ref.name.epoch))
+            raise
+        return ref.decode(body.toreadonly(), self._job)
+
+    def _load_part(self, ref: StoreRef, part: int, into: memoryview, route: _Once, deadline: Deadline) -> None:
+        if ref.host == self._host and self._read_own(ref, part, into, deadline):
+            return self._count("local", len(into))
+
+        def fetch(space: memoryview) -> None:
+            # whom to ask is answered by the scheduler, so it isn't asked on the event loop's own thread
+            space[:] = self._ask(self._peers.part(route.get(), ref, part), timeout=None)
+
+        fetched = self._sharing.bring(ref.name, part, into, fetch, deadline)
+        self._count("fetched" if fetched else "local", len(into))
+
+    def _read_own(self, ref: StoreRef, part: int, into: memoryview, deadline: Deadline) -> bool:
+        try:
+            return self._store.read_into(ref.primary(part), into, deadline)
+        except GONE:
+            return False
+
+    def keep(self, ref: StoreRef) -> None:
+        """See `StoreRef.keep`."""
+        if not ref.inline and not self._ask(self._worker.scheduler.store_keep(epoch=ref.name.epoch, key=self._task_key())):
+            raise ValueLost(ref.host, ref.about, "it was released before it was kept")
+
+    def release(self, ref: StoreRef) -> None:
+        """See `StoreRef.release`."""
+        if not ref.inline:
+            self._ask(self._worker.scheduler.store_release(epoch=ref.name.epoch))
+
+    def grant(self, ref: StoreRef, job: int) -> None:
+        """See `StoreRef.grant`."""
+        self._check_host(ref)
+        given: List[int] = []
+        try:
+            for part in ref.parts:
+                self._store.grant(ref.primary(part), job)
+                given.append(part)
+        except BaseException:
+            for part in given:
+                self._store.withdraw(ref.primary(part), job)
+            raise
+
+    def withdraw(self, ref: StoreRef, job: int) -> None:
+        """See `StoreRef.withdraw`."""
+        self._check_host(ref)
+        for part in ref.parts:
+            self._store.withdraw(ref.primary(part), job)
+
+    def counts(self) -> Dict[str, int]:
+        """See `store_client.dask.counts`."""
+        with self._lock:
+            return dict(self._counts)
+
+    # ---- what these need
+
+    @contextlib.contextmanager
+    def _working_on(self, name: Name) -> Iterator[None]:
+        """If the value is released meanwhile, what this worker has made of it afterwards is removed at the end."""
+        with self._lock:
+            self._under_way[name.prefix] += 1
+        try:
+            yield
+        finally:
+            with self._lock:
+                self._under_way[name.prefix] -= 1
+                is_gone = not self._under_way[name.prefix] and name.prefix in self._gone
+                if not self._under_way[name.prefix]:
+                    del self._under_way[name.prefix]
+                    self._gone.discard(name.prefix)
+            if is_gone:
+                with contextlib.suppress(ConnectionLost):
+                    self._store.forget([name.prefix])
+
+    def _ask(self, question: Coroutine[Any, Any, T], timeout: Optional[float] = _PATIENCE) -> T:
+        """What a coroutine of the event loop gives."""
+        return asyncio.run_coroutine_threadsafe(question, self._worker.loop.asyncio_loop).result(timeout)
+
+    def _task_key(self) -> str:
+        self._check_thread()
+        try:
+            return str(self._worker.get_current_task())
+        except KeyError:
+            raise RuntimeError("this is to be called in a task, in the thread that it runs in") from None
+
+    def _check_thread(self) -> None:
+        try:
+            asyncio.get_running_loop()
+        except RuntimeError:
+            return
+        raise RuntimeError("this waits, so it can't be called in a coroutine: make the task a plain function")
+
+    def _check_host(self, ref: StoreRef) -> None:
+        if ref.host != self._host:
+            raise ValueError(f"{ref.about} is on host {ref.host}, and grants are given there, not on {self._host}")
+        if ref.inline:
+            raise ValueError(f"{ref.about} is small and lies in the reference: nothing of it is in a store")
+
+    def _count(self, what: str, bytes_moved: int) -> None:
+        with self._lock:
+            self._counts[what] += bytes_moved
+
+
+class _Once:
+    """What is found out when it is first needed."""
+
+    def __init__(self, find: Any) -> None:
+        self._find = find
+        self._lock = threading.Lock()
+        self._found: Optional[Route] = None
+
+    def get(self) -> Route:
+        with self._lock:
+            if self._found is None:
+                self._found = self._find()
+            return self._found
+
+
+def _key(said: Dict[str, Any]) -> bytes:
+    """The job's key; what was given isn't repeated in an error."""
+    text, file = said.get("STORE_KEY"), said["STORE_KEY_FILE"]
+    if text is None and file is None:
+        raise ValueError("a worker needs the job's key: say key_file, or set STORE_KEY_FILE or STORE_KEY")
+    try:
+        return key_bytes(bytes.fromhex((text or Path(file).read_text(encoding="ascii")).strip()))
+    except ValueError:
+        raise ValueError(f"a key is 64 hexadecimal digits, and {'STORE_KEY' if text else file} hasn't got them") from None
