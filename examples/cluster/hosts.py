@@ -1,0 +1,244 @@
+"""Hosts for a cluster on this machine: each with a store and workers of two jobs, and a scheduler for each job beside them."""
+
+from __future__ import annotations
+
+import contextlib
+import json
+import os
+import subprocess
+import sys
+import time
+from dataclasses import dataclass, field
+from pathlib import Path
+from typing import Any, Dict, Iterator, List, Optional, Sequence
+
+from distributed import Client
+from inside import CLIENT, PROGRAM, has_network
+
+# seconds that a start or an end may take, on a machine that does much else
+PATIENCE = 120
+# of the first job's scheduler, and the first part of all addresses
+_PORT, _NETWORK = 8800, "10.77.0"
+# Dask's own threads and steals make runs differ, and a host that is gone is to be seen soon
+_SETTINGS = {
+    "DASK_DISTRIBUTED__COMM__TIMEOUTS__TCP": "15s",
+    "DASK_DISTRIBUTED__SCHEDULER__WORK_STEALING": "False",
+    "DASK_DISTRIBUTED__ADMIN__TICK__LIMIT": "60s",
+    "DASK_LOGGING__DISTRIBUTED": "error",
+    "OPENBLAS_NUM_THREADS": "1",
+}
+
+
+@dataclass
+class Job:
+    """A job: what it may use of each node of a store, and how many workers of one thread it has on each host."""
+
+    window: int
+    device: int
+    workers: int
+
+    def key(self, number: int) -> str:
+        return f"{number:064x}"
+
+
+@dataclass
+class Host:
+    """What runs on a host."""
+
+    name: str
+    address: str
+    store: Optional[subprocess.Popen[str]] = None
+    # whose network namespace is the host's
+    keeper: Optional[subprocess.Popen[bytes]] = None
+    workers: Dict[str, subprocess.Popen[bytes]] = field(default_factory=dict)
+
+
+class Hosts:
+    """The hosts while they run. With `plain` no worker is given a store."""
+
+    def __init__(self, folder: Path, names: str, jobs: Dict[int, Job], nodes: int = 2, plain: bool = False, lease: float = 5.0) -> None:
+        """A name is one letter. Each store has so many nodes."""
+        self._folder, self.jobs, self._nodes, self._plain, self._lease = folder, jobs, nodes, plain, lease
+        self.hosts = {name: Host(name, f"{_NETWORK}.{number}") for number, name in enumerate(names, 2)}
+        self.clients: Dict[int, Client] = {}
+        self._schedulers: List[subprocess.Popen[bytes]] = []
+        self._around = {**os.environ, **_SETTINGS, "PYTHONPATH": f"{Path(__file__).resolve().parent}:{CLIENT}"}
+
+    def __enter__(self) -> Hosts:
+        try:
+            self._begin()
+        except BaseException:
+            self.__exit__()
+            raise
+        return self
+
+    def _begin(self) -> None:
+        if has_network():
+            self._connect_hosts()
+        for host in self.hosts.values():
+            self.serve(host)
+        for job in self.jobs:
+            self._schedule(job)
+        for job, told in self.jobs.items():
+            for number in range(told.workers):
+                for host in self.hosts:
+                    self.work(host, job, number)
+        for job, told in self.jobs.items():
+            self._attach(job, told.workers * len(self.hosts))
+
+    def _attach(self, job: int, workers: int) -> None:
+        client = self.clients[job] = Client(self._scheduler_address(job), timeout=PATIENCE, set_as_default=job == 1)
+        client.wait_for_workers(workers, timeout=PATIENCE)
+        if not self._plain:
+            from store_client import dask
+
+            dask.attach(client, f"{self._folder}/NONE", job, nodes=self._nodes, lease=self._lease)
+
+    def __exit__(self, *_: object) -> None:
+        for client in self.clients.values():
+            with contextlib.suppress(Exception):
+                client.close(timeout=5)
+        for host in self.hosts.values():
+            end(*host.workers.values())
+        end(*self._schedulers)
+        for host in self.hosts.values():
+            end(host.store, host.keeper)
+
+    # ---- the network: a bridge, and a namespace for each host
+
+    def _connect_hosts(self) -> None:
+        run("ip", "link", "set", "lo", "up")
+        run("ip", "link", "add", "bridge", "type", "bridge")
+        run("ip", "addr", "add", f"{_NETWORK}.1/24", "dev", "bridge")
+        run("ip", "link", "set", "bridge", "up")
+        for host in self.hosts.values():
+            host.keeper = subprocess.Popen(["unshare", "--net", "sleep", "infinity"])
+            link, inside = self.link(host.name), ["nsenter", "--target", str(host.keeper.pid), "--net", "ip"]
+            wait_until(lambda: own_network(host.keeper), "a namespace")
+            run("ip", "link", "add", link, "type", "veth", "peer", "name", "eth0", "netns", str(host.keeper.pid))
+            run("ip", "link", "set", link, "master", "bridge", "up")
+            run(*inside, "addr", "add", f"{host.address}/24", "dev", "eth0")
+            run(*inside, "link", "set", "eth0", "up")
+            run(*inside, "link", "set", "lo", "up")
+
+    def link(self, host: str) -> str:
+        """The end of the host's link that is here."""
+        return f"to{host}"
+
+    def delivered(self, host: str) -> int:
+        """How many bytes went over the link to the host."""
+        words = ["ip", "-json", "-statistics", "link", "show", self.link(host)]
+        told = json.loads(subprocess.run(words, stdout=subprocess.PIPE, check=True).stdout)
+        return int(told[0]["stats64"]["tx"]["bytes"])
+
+    # ---- what is started
+
+    def serve(self, host: Host) -> None:
+        """Starts the host's store, and admits the jobs."""
+        memory = sum(job.window for job in self.jobs.values())
+        words = [PROGRAM, "serve", "--socket", str(self._folder / host.name), "--nodes", str(self._nodes)]
+        words += ["--memory", str(memory), "--spill", str(self._folder / f"spill{host.name}")]
+        host.store = subprocess.Popen(words, stdin=subprocess.PIPE, stdout=subprocess.PIPE, text=True)
+        for number, job in self.jobs.items():
+            for node in range(self._nodes):
+                host.store.stdin.write(f"admit {node} {number} {job.window} {job.device} {job.key(number)}\n")
+                host.store.stdin.flush()
+                if host.store.stdout.readline() != f"n{node} op ok\n":
+                    raise SystemExit(f"the store of host {host.name} admits no job {number}")
+
+    def _schedule(self, job: int) -> None:
+        host, port = self._scheduler_address(job)[6:].split(":")
+        words = ["distributed.cli.dask_scheduler", "--host", host, "--port", port, "--no-dashboard", "--dashboard-address", f"{host}:0"]
+        self._schedulers.append(self._python(words, self._around))
+
+    def _scheduler_address(self, job: int) -> str:
+        return f"tcp://{f'{_NETWORK}.1' if has_network() else '127.0.0.1'}:{_PORT + job}"
+
+    def work(self, name: str, job: int, number: int) -> None:
+        """Starts a worker: of job 1 on host A they are A1.0, A1.1, .."""
+        host, worker = self.hosts[name], f"{name}{job}.{number}"
+        words = ["distributed.cli.dask_worker", self._scheduler_address(job), "--name", worker, "--nthreads", "1", "--no-nanny"]
+        words += ["--host", host.address if has_network() else "127.0.0.1", "--memory-limit", "6GB", "--no-dashboard"]
+        words += ["--local-directory", str(self._folder)]
+        place = {"STORE_HOST": name, "STORE_SOCKET": str(self._folder / name), "STORE_KEY": self.jobs[job].key(job)}
+        within = ["nsenter", "--target", str(host.keeper.pid), "--net"] if host.keeper else []
+        host.workers[worker] = self._python(words, {**self._around, **place}, within)
+
+    def _python(self, words: Sequence[str], around: Dict[str, str], within: Sequence[str] = ()) -> subprocess.Popen[bytes]:
+        log = open(self._folder / "log", "ab")  # pylint: disable=consider-using-with
+        with log:
+            return subprocess.Popen([*within, sys.executable, "-B", "-m", *words], env=around, stdout=log, stderr=log)
+
+    # ---- what is looked at, and what goes wrong
+
+    def pid(self, worker: str) -> Any:
+        """The worker's process."""
+        return self.hosts[worker[0]].workers[worker]
+
+    def kill_worker(self, worker: str) -> None:
+        """The worker is gone, without a word."""
+        kill(self.pid(worker))
+
+    def kill_store(self, host: str) -> None:
+        """The host's store is gone, without a word."""
+        kill(self.hosts[host].store)
+
+    def kill_host(self, host: str) -> None:
+        """The host is gone: first its link, if it has one, and then all that runs there."""
+        if has_network():
+            run("ip", "link", "del", self.link(host))
+        there = self.hosts[host]
+        for process in (*there.workers.values(), there.store):
+            kill(process)
+
+    def resident(self, process: Any) -> int:
+        """How much memory a process has, in bytes."""
+        for line in Path(f"/proc/{process.pid}/status").read_text(encoding="ascii").splitlines():
+            if line.startswith("VmRSS:"):
+                return int(line.split()[1]) * 1024
+        return 0
+
+
+def run(*words: str) -> None:
+    """A command that has to succeed."""
+    subprocess.run(words, check=True)
+
+
+def own_network(process: Any) -> bool:
+    """Whether the process has a network namespace of its own by now."""
+    return os.readlink(f"/proc/{process.pid}/ns/net") != os.readlink("/proc/self/ns/net")
+
+
+def wait_until(is_so: Any, what: str, seconds: float = PATIENCE) -> None:
+    """Until it is so. `TimeoutError`."""
+    end_of_wait = time.monotonic() + seconds
+    while not is_so():
+        if time.monotonic() > end_of_wait:
+            raise TimeoutError(f"{what} didn't come in {seconds:.0f} seconds")
+        time.sleep(0.02)
+
+
+def kill(process: Any) -> None:
+    """A process of ours ends at once."""
+    process.kill()
+    process.wait(PATIENCE)
+
+
+def end(*processes: Any) -> None:
+    """Processes of ours are told to end, and end at last."""
+    for process in processes:
+        if process:
+            process.terminate()
+    for process in processes:
+        if process:
+            with contextlib.suppress(subprocess.TimeoutExpired):
+                process.wait(5)
+            kill(process)
+
+
+@contextlib.contextmanager
+def timed(what: str) -> Iterator[None]:
+    """Says how long it took."""
+    start = time.monotonic()
+    yield
+    print(f"{what}: {time.monotonic() - start:.1f} s", flush=True)
