@@ -56,9 +56,9 @@ class Host:
 class Hosts:
     """The hosts while they run. With `plain` no worker is given a store."""
 
-    def __init__(self, folder: Path, names: str, jobs: Dict[int, Job], nodes: int = 2, plain: bool = False, lease: float = 5.0) -> None:
-        """A name is one letter. Each store has so many nodes."""
-        self._folder, self.jobs, self._nodes, self._plain, self._lease = folder, jobs, nodes, plain, lease
+    def __init__(self, folder: Path, names: str, jobs: Dict[int, Job], nodes: int = 2, plain: bool = False, **words: Any) -> None:
+        """A name is one letter. Each store has so many nodes. The other words go to `attach`."""
+        self._folder, self.jobs, self._nodes, self._plain, self._words = folder, jobs, nodes, plain, words
         self.hosts = {name: Host(name, f"{_NETWORK}.{number}") for number, name in enumerate(names, 2)}
         self.clients: Dict[int, Client] = {}
         self._schedulers: List[subprocess.Popen[bytes]] = []
@@ -92,7 +92,8 @@ class Hosts:
         if not self._plain:
             from store_client import dask
 
-            dask.attach(client, f"{self._folder}/NONE", job, nodes=self._nodes, lease=self._lease)
+            # the sockets and keys are in each worker's environment
+            dask.attach(client, "", job, nodes=self._nodes, **self._words)
 
     def __exit__(self, *_: object) -> None:
         for client in self.clients.values():
@@ -125,6 +126,10 @@ class Hosts:
         """The end of the host's link that is here."""
         return f"to{host}"
 
+    def socket(self, host: str, node: int) -> str:
+        """Where a node of the host's store listens."""
+        return f"{self._folder / host}.{node}"
+
     def delivered(self, host: str) -> int:
         """How many bytes went over the link to the host."""
         words = ["ip", "-json", "-statistics", "link", "show", self.link(host)]
@@ -135,6 +140,9 @@ class Hosts:
 
     def serve(self, host: Host) -> None:
         """Starts the host's store, and admits the jobs."""
+        for left in self._folder.glob(f"{host.name}.*"):
+            # of a store that was killed, as store-daemon removes it
+            left.unlink()
         memory = sum(job.window for job in self.jobs.values())
         words = [PROGRAM, "serve", "--socket", str(self._folder / host.name), "--nodes", str(self._nodes)]
         words += ["--memory", str(memory), "--spill", str(self._folder / f"spill{host.name}")]

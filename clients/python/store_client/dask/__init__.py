@@ -15,11 +15,12 @@ from __future__ import annotations
 from typing import Any, Dict, Optional
 
 from .errors import HostUnknown, KeyReleased, ValueLost
+from .names import Name
 from .reference import PLUGIN, StoreRef, put
 from .scheduler import StoreScheduler
 from .worker import PART, StoreWorkers
 
-__all__ = ["HostUnknown", "KeyReleased", "StoreRef", "StoreScheduler", "StoreWorkers", "ValueLost", "attach", "counts", "put"]
+__all__ = ["HostUnknown", "KeyReleased", "Name", "StoreRef", "StoreScheduler", "StoreWorkers", "ValueLost", "attach", "counts", "put"]
 
 
 def attach(

@@ -4,7 +4,6 @@ from __future__ import annotations
 
 import asyncio
 import contextlib
-import hashlib
 from dataclasses import dataclass
 from typing import Any, AsyncIterator, Dict, List, Optional, Set
 
@@ -18,7 +17,7 @@ from ..steps import Deadline
 from .errors import HostUnknown, ValueLost
 from .host import HostStore
 from .names import Name
-from .reference import DIGEST, StoreRef
+from .reference import StoreRef, digest_of
 
 # a store that is lost or can't give these bytes back: another host may
 GONE = (ConnectionLost, Damaged, DeviceFailed)
@@ -76,7 +75,7 @@ class Peers:
                 why = f"{address} doesn't answer"
             elif answer["status"] == "OK":
                 data = memoryview(answer["data"]).cast("B")
-                if hashlib.blake2b(data, digest_size=DIGEST).digest() == ref.digests[part]:
+                if digest_of(data) == ref.digests[part]:
                     return data
                 why = f"{address} sent other bytes"
             elif answer["status"] == "absent":

@@ -113,6 +113,11 @@ def put(value: Any, with_key: bool = True, timeout: float = 60.0) -> StoreRef:
     return ref
 
 
+def digest_of(part: Any) -> bytes:
+    """The digest that a reference has of a part."""
+    return hashlib.blake2b(part, digest_size=DIGEST).digest()
+
+
 def encode(value: Any) -> Tuple[Pieces, bool]:
     """The value's bytes, and whether they are a pickle."""
     numpy = sys.modules.get("numpy")

@@ -6,7 +6,6 @@ import asyncio
 import collections
 import concurrent.futures
 import contextlib
-import hashlib
 import os
 import random
 import socket
@@ -27,7 +26,7 @@ from .errors import KeyReleased, ValueLost
 from .host import HostStore, all_of
 from .names import Name
 from .peers import GONE, Peers, Route, answer_part
-from .reference import DIGEST, PLUGIN, StoreRef, encode, in_words
+from .reference import PLUGIN, StoreRef, digest_of, encode, in_words
 from .sharing import Sharing
 
 T = TypeVar("T")
@@ -131,7 +130,7 @@ class StoreWorkers(WorkerPlugin):  # type: ignore[misc]
             views = cut[part].views
             data = views[0] if len(views) == 1 else b"".join(views)
             self._store.put(name.primary(part, self._job), data, Kind.PRIMARY, deadline.within(timeout))
-            return hashlib.blake2b(data, digest_size=DIGEST).digest()
+            return digest_of(data)
 
         try:
             return all_of(self._threads, put_part, range(len(cut)))
