@@ -3,24 +3,28 @@
 from __future__ import annotations
 
 import contextlib
+import ctypes
+import importlib
 import json
+import multiprocessing
 import os
 import subprocess
 import sys
 import time
 from dataclasses import dataclass, field
 from pathlib import Path
-from typing import Any, Dict, Iterator, List, Optional, Sequence
+from typing import Any, Dict, Iterator, List, Optional
 
 from distributed import Client
-from inside import CLIENT, PROGRAM, has_network
+from inside import PROGRAM, has_network
 
 # seconds that a start or an end may take, on a machine that does much else
 PATIENCE = 120
 # of the first job's scheduler, and the first part of all addresses
 _PORT, _NETWORK = 8800, "10.77.0"
-# Dask's own threads and steals make runs differ, and a host that is gone is to be seen soon
+# a host that is gone is to be seen soon; what goes over a link is to be what is passed; who runs a task is to be the same each time
 _SETTINGS = {
+    "DASK_DISTRIBUTED__COMM__COMPRESSION": "None",
     "DASK_DISTRIBUTED__COMM__TIMEOUTS__TCP": "15s",
     "DASK_DISTRIBUTED__SCHEDULER__WORK_STEALING": "False",
     "DASK_DISTRIBUTED__ADMIN__TICK__LIMIT": "60s",
@@ -50,7 +54,8 @@ class Host:
     store: Optional[subprocess.Popen[str]] = None
     # whose network namespace is the host's
     keeper: Optional[subprocess.Popen[bytes]] = None
-    workers: Dict[str, subprocess.Popen[bytes]] = field(default_factory=dict)
+    workers: Dict[str, Any] = field(default_factory=dict)
+    is_lost: bool = False
 
 
 class Hosts:
@@ -61,8 +66,11 @@ class Hosts:
         self._folder, self.jobs, self._nodes, self._plain, self._words = folder, jobs, nodes, plain, words
         self.hosts = {name: Host(name, f"{_NETWORK}.{number}") for number, name in enumerate(names, 2)}
         self.clients: Dict[int, Client] = {}
-        self._schedulers: List[subprocess.Popen[bytes]] = []
-        self._around = {**os.environ, **_SETTINGS, "PYTHONPATH": f"{Path(__file__).resolve().parent}:{CLIENT}"}
+        self._schedulers: List[Any] = []
+        os.environ.update(_SETTINGS)
+        # a process that has read all modules, from which the others are forked off
+        self._processes = multiprocessing.get_context("forkserver")
+        self._processes.set_forkserver_preload(["distributed.cli.dask_scheduler", "distributed.cli.dask_worker", "numpy"])
 
     def __enter__(self) -> Hosts:
         try:
@@ -156,8 +164,8 @@ class Hosts:
 
     def _schedule(self, job: int) -> None:
         host, port = self._scheduler_address(job)[6:].split(":")
-        words = ["distributed.cli.dask_scheduler", "--host", host, "--port", port, "--no-dashboard", "--dashboard-address", f"{host}:0"]
-        self._schedulers.append(self._python(words, self._around))
+        words = ["--host", host, "--port", port, "--no-dashboard", "--dashboard-address", f"{host}:0"]
+        self._schedulers.append(self._start("distributed.cli.dask_scheduler", words, {}, 0))
 
     def _scheduler_address(self, job: int) -> str:
         return f"tcp://{f'{_NETWORK}.1' if has_network() else '127.0.0.1'}:{_PORT + job}"
@@ -165,27 +173,25 @@ class Hosts:
     def work(self, name: str, job: int, number: int) -> None:
         """Starts a worker: of job 1 on host A they are A1.0, A1.1, .."""
         host, worker = self.hosts[name], f"{name}{job}.{number}"
-        words = ["distributed.cli.dask_worker", self._scheduler_address(job), "--name", worker, "--nthreads", "1", "--no-nanny"]
-        words += ["--host", host.address if has_network() else "127.0.0.1", "--memory-limit", "6GB", "--no-dashboard"]
-        words += ["--local-directory", str(self._folder)]
+        words = [self._scheduler_address(job), "--name", worker, "--nthreads", "1", "--no-nanny", "--memory-limit", "6GB"]
+        words += ["--host", host.address if has_network() else "127.0.0.1", "--no-dashboard", "--local-directory", str(self._folder)]
         place = {"STORE_HOST": name, "STORE_SOCKET": str(self._folder / name), "STORE_KEY": self.jobs[job].key(job)}
-        within = ["nsenter", "--target", str(host.keeper.pid), "--net"] if host.keeper else []
-        host.workers[worker] = self._python(words, {**self._around, **place}, within)
+        host.workers[worker] = self._start("distributed.cli.dask_worker", words, place, host.keeper.pid if host.keeper else 0)
 
-    def _python(self, words: Sequence[str], around: Dict[str, str], within: Sequence[str] = ()) -> subprocess.Popen[bytes]:
-        log = open(self._folder / "log", "ab")  # pylint: disable=consider-using-with
-        with log:
-            return subprocess.Popen([*within, sys.executable, "-B", "-m", *words], env=around, stdout=log, stderr=log)
+    def _start(self, module: str, words: List[str], place: Dict[str, str], keeper: int) -> Any:
+        process = self._processes.Process(target=become, args=(module, words, place, keeper, str(self._folder / "log")), daemon=True)
+        process.start()
+        return process
 
     # ---- what is looked at, and what goes wrong
 
-    def pid(self, worker: str) -> Any:
+    def process(self, worker: str) -> Any:
         """The worker's process."""
         return self.hosts[worker[0]].workers[worker]
 
     def kill_worker(self, worker: str) -> None:
         """The worker is gone, without a word."""
-        kill(self.pid(worker))
+        kill(self.process(worker))
 
     def kill_store(self, host: str) -> None:
         """The host's store is gone, without a word."""
@@ -196,6 +202,7 @@ class Hosts:
         if has_network():
             run("ip", "link", "del", self.link(host))
         there = self.hosts[host]
+        there.is_lost = True
         for process in (*there.workers.values(), there.store):
             kill(process)
 
@@ -205,6 +212,20 @@ class Hosts:
             if line.startswith("VmRSS:"):
                 return int(line.split()[1]) * 1024
         return 0
+
+
+def become(module: str, words: List[str], place: Dict[str, str], keeper: int, log: str) -> None:
+    """What a process of Dask's does: it goes to the network of the host's keeper, and calls the module's main."""
+    os.environ.update(place)
+    file = os.open(log, os.O_WRONLY | os.O_CREAT | os.O_APPEND)
+    os.dup2(file, 1)
+    os.dup2(file, 2)
+    if keeper:
+        network = os.open(f"/proc/{keeper}/ns/net", os.O_RDONLY)
+        if ctypes.CDLL(None, use_errno=True).setns(network, 0):
+            raise OSError(ctypes.get_errno(), "setns")
+    sys.argv = [module, *words]
+    importlib.import_module(module).main()
 
 
 def run(*words: str) -> None:
@@ -229,7 +250,16 @@ def wait_until(is_so: Any, what: str, seconds: float = PATIENCE) -> None:
 def kill(process: Any) -> None:
     """A process of ours ends at once."""
     process.kill()
-    process.wait(PATIENCE)
+    await_end(process, PATIENCE)
+
+
+def await_end(process: Any, seconds: float) -> None:
+    """Until the process has ended, or so many seconds."""
+    if isinstance(process, subprocess.Popen):
+        with contextlib.suppress(subprocess.TimeoutExpired):
+            process.wait(seconds)
+    else:
+        process.join(seconds)
 
 
 def end(*processes: Any) -> None:
@@ -239,8 +269,7 @@ def end(*processes: Any) -> None:
             process.terminate()
     for process in processes:
         if process:
-            with contextlib.suppress(subprocess.TimeoutExpired):
-                process.wait(5)
+            await_end(process, 5)
             kill(process)
 
 

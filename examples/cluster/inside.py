@@ -33,6 +33,7 @@ def main(run: Callable[[Path], int], seconds: float) -> int:
     If Debian's packages aren't there it says so, and nothing is run.
     """
     if _FOLDER in os.environ:
+        sys.path.insert(0, str(CLIENT))
         return run(Path(os.environ[_FOLDER]))
     name = Path(sys.argv[0]).name
     if not _has_packages():

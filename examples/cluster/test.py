@@ -29,7 +29,7 @@ def define(folder: Path) -> unittest.TestSuite:
     import faults
     from distributed import wait
     from distributed.client import Client
-    from hosts import Hosts, Job, wait_until
+    from hosts import Hosts, Job, await_end, wait_until
 
     import store_client
     from store_client import dask as store
@@ -185,10 +185,12 @@ def define(folder: Path) -> unittest.TestSuite:
             self.assertTrue(any(isinstance(one, store_client.Full) for one in told), told)
             self.assertTrue(all(one is None or isinstance(one, store_client.Full) for one in told), told)
             # the other job has all its room
-            self.assertEqual(self.on("A1.0", faults.total, self.on("A1.0", faults.put_numbers, count(8), 1)).result(PATIENCE), expected(8, 1))
+            other = self.on("A1.0", faults.put_numbers, count(8), 1)
+            self.assertEqual(self.on("A1.0", faults.total, other).result(PATIENCE), expected(8, 1))
             del futures, told
             self.await_nothing("A", "2")
-            self.assertEqual(self.on("A2.0", faults.total, self.on("A2.0", faults.put_numbers, count(4), 1)).result(PATIENCE), expected(4, 1))
+            again = self.on("A2.0", faults.put_numbers, count(4), 1)
+            self.assertEqual(self.on("A2.0", faults.total, again).result(PATIENCE), expected(4, 1))
 
         def test_more_than_the_window_is_spilled(self) -> None:
             refs = [self.on(f"A1.{seed % 2}", faults.put_numbers, count(8), seed) for seed in range(8)]
@@ -212,7 +214,8 @@ def define(folder: Path) -> unittest.TestSuite:
             del future, wrapped
 
         def test_a_host_that_nobody_knows(self) -> None:
-            ref = dataclasses.replace(self.on("A1.0", faults.put_numbers, count(1), 1).result(PATIENCE), host="Z", name=store.Name(bytes(14)))
+            known = self.on("A1.0", faults.put_numbers, count(1), 1).result(PATIENCE)
+            ref = dataclasses.replace(known, host="Z", name=store.Name(bytes(14)))
             with self.assertRaisesRegex(store.HostUnknown, "no worker of this scheduler ever was there"):
                 self.on("B1.0", faults.total, ref).result(PATIENCE)
 
@@ -221,7 +224,7 @@ def define(folder: Path) -> unittest.TestSuite:
                 ref = self.on("A1.0", faults.put_numbers, count(1), 13)
                 wait(ref)
                 dying = self.on("B1.0", death, ref)
-                self.hosts.pid("B1.0").wait(PATIENCE)
+                await_end(self.hosts.process("B1.0"), PATIENCE)
                 self.assertIn("CREATED", self.states("B1.1")["SECONDARY"])
                 self.assertEqual(self.on("B1.1", faults.total, ref).result(PATIENCE), expected(1, 13))
                 self.assertEqual(self.states("B1.1")["SECONDARY"], ["SEALED"])
@@ -243,7 +246,7 @@ def define(folder: Path) -> unittest.TestSuite:
             ref = self.one.submit(faults.die_putting_once, count(4), 15, str(folder / "died"), key="dies", workers=["A1.0", "A1.1"])
             self.assertEqual(self.on("B1.0", faults.total, ref).result(PATIENCE), expected(4, 15))
             del ref
-            dead = next(name for name in ("A1.0", "A1.1") if self.hosts.pid(name).poll() is not None)
+            dead = next(name for name in ("A1.0", "A1.1") if not self.hosts.process(name).is_alive())
             self.restart(dead)
             self.await_nothing("AB")
 
@@ -303,7 +306,6 @@ PATIENCE = 150
 
 def run(folder: Path) -> int:
     """Runs the tests, and counts them."""
-    sys.path.insert(0, str(inside.CLIENT))
     faulthandler.dump_traceback_later(LIMIT - 10, exit=True)
     result = unittest.TextTestRunner(verbosity=2).run(define(folder))
     for _, why in result.skipped:

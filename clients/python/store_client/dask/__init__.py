@@ -12,15 +12,28 @@ and offered to the host's store as a copy. `docs/CLUSTER.md` says when that is w
 
 from __future__ import annotations
 
-from typing import Any, Dict, Optional
+from typing import Any, Dict, List, Optional, Tuple
 
+from ..items import Usage
 from .errors import HostUnknown, KeyReleased, ValueLost
 from .names import Name
 from .reference import PLUGIN, StoreRef, put
 from .scheduler import StoreScheduler
-from .worker import PART, StoreWorkers
+from .worker import MOVES, PART, StoreWorkers
 
-__all__ = ["HostUnknown", "KeyReleased", "Name", "StoreRef", "StoreScheduler", "StoreWorkers", "ValueLost", "attach", "counts", "put"]
+__all__ = [
+    "HostUnknown",
+    "KeyReleased",
+    "Name",
+    "StoreRef",
+    "StoreScheduler",
+    "StoreWorkers",
+    "ValueLost",
+    "attach",
+    "counts",
+    "put",
+    "usage",
+]
 
 
 def attach(
@@ -41,12 +54,24 @@ def attach(
 
 
 def counts(client: Any) -> Dict[str, Dict[str, int]]:
-    """Of each worker what it has moved, in bytes: `put`; `local`, read from its host's store; `fetched` from other hosts, and `served` to
-    them."""
-    told: Dict[str, Dict[str, int]] = client.run(_counts)
-    return told
+    """Of each host what its workers have moved since they began, in bytes: `put`; `local`, read from the host's store; `fetched` from
+    other hosts, and `served` to them."""
+    sums: Dict[str, Dict[str, int]] = {}
+    for host, told in client.run(_counts).values():
+        sums[host] = {what: sums.get(host, {}).get(what, 0) + told.get(what, 0) for what in MOVES}
+    return sums
 
 
-def _counts(dask_worker: Any) -> Dict[str, int]:
-    found: Dict[str, int] = dask_worker.plugins[PLUGIN].counts()
-    return found
+def usage(client: Any) -> Dict[str, List[Usage]]:
+    """Of each host what the job has and uses of each node of its store."""
+    return dict(client.run(_usage).values())
+
+
+def _counts(dask_worker: Any) -> Tuple[str, Dict[str, int]]:
+    plugin = dask_worker.plugins[PLUGIN]
+    return plugin.host, plugin.counts()
+
+
+def _usage(dask_worker: Any) -> Tuple[str, List[Usage]]:
+    plugin = dask_worker.plugins[PLUGIN]
+    return plugin.host, plugin.usage()

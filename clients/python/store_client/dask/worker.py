@@ -17,7 +17,7 @@ from distributed import WorkerPlugin
 
 from ..checks import key_bytes, whole_number
 from ..ids import ObjectId
-from ..items import Kind
+from ..items import Kind, Usage
 from ..memory import blank
 from ..refusals import ConnectionLost
 from ..requests import Pieces
@@ -37,6 +37,8 @@ _SMALL = 1 << 16
 PART = 1 << 22
 # so many parts are moved at once for tasks, and as many for other hosts: who waits for another host never keeps one waiting
 _THREADS = 4
+# what is counted
+MOVES = ("put", "local", "fetched", "served")
 # how long a scheduler or a worker has for a small question, in seconds
 _PATIENCE = 30.0
 
@@ -62,12 +64,12 @@ class StoreWorkers(WorkerPlugin):  # type: ignore[misc]
         """The worker starts."""
         said: Dict[str, Any] = {**self._words, **os.environ}
         self._worker = worker
-        self._host = os.environ.get("STORE_HOST") or socket.gethostname()
+        self.host = os.environ.get("STORE_HOST") or socket.gethostname()
         self._job = whole_number(int(said["STORE_JOB"]), "a job", 1, 2**32 - 1)
         nodes = whole_number(int(said["STORE_NODES"]), "how many nodes a server has", 1, 8)
         self._store = HostStore(said["STORE_SOCKET"], nodes, self._job, _key(said), self._part)
         self._sharing = Sharing(self._store, self._lease)
-        self._peers = Peers(worker, self._host)
+        self._peers = Peers(worker, self.host)
         self._threads = concurrent.futures.ThreadPoolExecutor(_THREADS, "store")
         self._answering = concurrent.futures.ThreadPoolExecutor(_THREADS, "store_answers")
         self._lock = threading.Lock()
@@ -77,7 +79,7 @@ class StoreWorkers(WorkerPlugin):  # type: ignore[misc]
         worker.handlers["store_part"] = self._answer_part
         worker.handlers["store_ping"] = self._answer_ping
         worker.handlers["store_forget"] = self._answer_forget
-        await worker.scheduler.store_join(worker=worker.address, host=self._host)
+        await worker.scheduler.store_join(worker=worker.address, host=self.host)
 
     def teardown(self, worker: Any) -> None:
         """The worker ends."""
@@ -113,7 +115,7 @@ class StoreWorkers(WorkerPlugin):  # type: ignore[misc]
         about = in_words(value)
         if pieces.length <= _SMALL:
             name, inline = Name.of(key, 0), b"".join(pieces.views)
-            return StoreRef(key, self._host, self._job, about, pieces.length, name, self._store.part, (), is_pickled, inline)
+            return StoreRef(key, self.host, self._job, about, pieces.length, name, self._store.part, (), is_pickled, inline)
         epoch = self._ask(self._worker.scheduler.store_begin(key=key, worker=self._worker.address, with_key=with_key))
         if epoch is None:
             raise KeyReleased(f"{key} was released while it ran")
@@ -121,7 +123,7 @@ class StoreWorkers(WorkerPlugin):  # type: ignore[misc]
         with self._working_on(name):
             digests = self._put_parts(name, pieces, timeout)
         self._count("put", pieces.length)
-        return StoreRef(key, self._host, self._job, about, pieces.length, name, self._store.part, tuple(digests), is_pickled)
+        return StoreRef(key, self.host, self._job, about, pieces.length, name, self._store.part, tuple(digests), is_pickled)
 
     def _put_parts(self, name: Name, pieces: Pieces, timeout: float) -> List[bytes]:
         cut, deadline = pieces.cut(self._store.part), Deadline(timeout)
@@ -146,7 +148,7 @@ class StoreWorkers(WorkerPlugin):  # type: ignore[misc]
         body, deadline = blank(ref.length), Deadline(timeout)
         route = _Once(lambda: self._ask(self._peers.route(ref)))
         # workers of a host that begin at the same time begin at different parts
-        first = 0 if ref.host == self._host else random.randrange(len(ref.parts))
+        first = 0 if ref.host == self.host else random.randrange(len(ref.parts))
         order = [*ref.parts[first:], *ref.parts[:first]]
         try:
             with self._working_on(ref.name):
@@ -158,7 +160,7 @@ class StoreWorkers(WorkerPlugin):  # type: ignore[misc]
         return ref.decode(body.toreadonly(), self._job)
 
     def _load_part(self, ref: StoreRef, part: int, into: memoryview, route: _Once, deadline: Deadline) -> None:
-        if ref.host == self._host and self._read_own(ref, part, into, deadline):
+        if ref.host == self.host and self._read_own(ref, part, into, deadline):
             return self._count("local", len(into))
 
         def fetch(space: memoryview) -> None:
@@ -204,9 +206,13 @@ class StoreWorkers(WorkerPlugin):  # type: ignore[misc]
             self._store.withdraw(ref.primary(part), job)
 
     def counts(self) -> Dict[str, int]:
-        """See `store_client.dask.counts`."""
+        """What this worker has moved, in bytes. See `store_client.dask.counts`."""
         with self._lock:
             return dict(self._counts)
+
+    def usage(self) -> List[Usage]:
+        """What the job has and uses of each node of the host's store."""
+        return self._store.usage()
 
     # ---- what these need
 
@@ -247,8 +253,8 @@ class StoreWorkers(WorkerPlugin):  # type: ignore[misc]
         raise RuntimeError("this waits, so it can't be called in a coroutine: make the task a plain function")
 
     def _check_host(self, ref: StoreRef) -> None:
-        if ref.host != self._host:
-            raise ValueError(f"{ref.about} is on host {ref.host}, and grants are given there, not on {self._host}")
+        if ref.host != self.host:
+            raise ValueError(f"{ref.about} is on host {ref.host}, and grants are given there, not on {self.host}")
         if ref.inline:
             raise ValueError(f"{ref.about} is small and lies in the reference: nothing of it is in a store")
 
