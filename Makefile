@@ -106,6 +106,14 @@ show-guarantee:
 pipeline: build
 	examples/pipeline.py
 
+# Dask over three hosts on this machine, each with a store; one is lost in the middle. And its tests, with each fault. Both are at the
+# program that is there, or at the one that STORE_PROGRAM names, and say what they leave out if Debian's packages aren't there.
+cluster-demo:
+	examples/cluster/demo.py
+
+cluster-test:
+	examples/cluster/test.py
+
 # A built program and a plain model of it, on schedules drawn by lot and forged journals (see bench/model --help).
 model: build
 	bench/model
@@ -124,4 +132,4 @@ picture:
 	rm docs/pictures/spilling.log
 
 .PHONY: test check build run edits sessions attack soak soak-service client-test client-check try-built daemon-test serve dist deb dist-check \
-	hostile show-guarantee pipeline model faults bench picture
+	hostile show-guarantee pipeline cluster-demo cluster-test model faults bench picture
