@@ -105,9 +105,9 @@ def die_writing(ref: store.StoreRef) -> None:
     """The worker's process ends when half of a copy is written."""
     host = _plugin()._store
 
-    def put(id: Any, data: memoryview, kind: Kind, timeout: float) -> None:
-        host.create(id, len(data), kind)
-        host._pool(id).write(id, 0, data[: min(len(data) // 2, 65_536)])
+    def put(id: Any, pieces: Any, kind: Kind, *_: Any) -> None:
+        host.create(id, pieces.length, kind)
+        host._pool(id).write(id, 0, pieces.views[0][: min(pieces.length // 2, 65_536)])
         os._exit(9)
 
     host.put = put

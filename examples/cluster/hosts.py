@@ -112,6 +112,9 @@ class Hosts:
         end(*self._schedulers)
         for host in self.hosts.values():
             end(host.store, host.keeper)
+        if has_network():
+            for link in ("bridge", *(self.link(host.name) for host in self.hosts.values() if not host.is_lost)):
+                subprocess.run(["ip", "link", "del", link], stderr=subprocess.DEVNULL, check=False)
 
     # ---- the network: a bridge, and a namespace for each host
 

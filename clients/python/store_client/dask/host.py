@@ -9,13 +9,14 @@ from __future__ import annotations
 import concurrent.futures
 import contextlib
 import time
-from typing import Any, Callable, Dict, Iterable, List, Sequence, Tuple, Type, TypeVar
+from typing import Callable, Dict, Iterable, List, Sequence, Tuple, Type, TypeVar
 
 from ..ids import ObjectId
 from ..items import Kind, State, Usage
 from ..pool import Pool
+from ..putting import write_and_seal
 from ..refusals import Absent, Busy, Full, Granted, NotHeld, Pending, Refused, StoreError, TooMany
-from ..requests import LARGEST
+from ..requests import LARGEST, Pieces
 from ..steps import Deadline, Pauses
 from .names import Name, is_primary, prefix_of
 
@@ -49,10 +50,15 @@ class HostStore:
         """What the job uses, of each node."""
         return [pool.usage() for pool in self._pools]
 
-    def put(self, id: ObjectId, data: Any, kind: Kind, timeout: float) -> None:
-        """A sealed object. What may pass is waited for that long, and then raised."""
-        deadline = Deadline(timeout)
-        patiently(lambda: self._pool(id).put(data, id, timeout=deadline.within(timeout), kind=kind), deadline)
+    def put(self, id: ObjectId, pieces: Pieces, kind: Kind, deadline: Deadline) -> None:
+        """A sealed object, under an id that nobody else makes. Room is waited for until the deadline."""
+        pool = self._pool(id)
+        patiently(lambda: pool.create(id, pieces.length, kind), deadline)
+        try:
+            pool._run(write_and_seal(pool._requests, pieces, id))
+        except BaseException:
+            self.delete([id])
+            raise
 
     def read_into(self, id: ObjectId, into: memoryview, deadline: Deadline) -> bool:
         """Whether the object is here, sealed; its bytes are in the buffer then."""

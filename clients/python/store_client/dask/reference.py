@@ -113,9 +113,12 @@ def put(value: Any, with_key: bool = True, timeout: float = 60.0) -> StoreRef:
     return ref
 
 
-def digest_of(part: Any) -> bytes:
-    """The digest that a reference has of a part."""
-    return hashlib.blake2b(part, digest_size=DIGEST).digest()
+def digest_of(*views: Any) -> bytes:
+    """The digest that a reference has of a part, whose bytes these are one after the other."""
+    digest = hashlib.blake2b(digest_size=DIGEST)
+    for view in views:
+        digest.update(view)
+    return digest.digest()
 
 
 def encode(value: Any) -> Tuple[Pieces, bool]:

@@ -7,8 +7,8 @@ a copy that isn't sealed, and lets anybody of the job write to it, so these rule
   for this try, and is made once. Nobody writes to an id that it hasn't drawn. So however slow a writer is, what it writes
   and seals is its own copy and no other's, and a sealed copy has all bytes. Others find it by the value's name, in a list.
 * **A claim says whose turn it is.** Before it fetches, a worker creates the claim of the part's first turn: an object of one
-  byte that is never sealed. Only one can; the others wait for a sealed copy. The claim is deleted once the copy is sealed, or the
-  fetch has failed.
+  byte that is never sealed. Only one can; the others wait for a sealed copy. Who has the claim looks once more: a turn may have
+  passed since it looked. The claim is deleted once the copy is sealed, or the fetch has failed.
 * **A claim has a lease.** If nothing that the host has of the part has changed for the time of the lease, by the clock of the worker
   that waits, it creates the claim of the next turn. Only one can. It deletes the claims and copies that it had seen of the part, which a
   dead worker left, and fetches. If the first one was only slow, its copy is deleted under it: its Write or Seal is refused, it keeps
@@ -28,6 +28,7 @@ from typing import Callable, Dict, Optional
 from ..ids import ObjectId
 from ..items import Kind, State
 from ..refusals import ConnectionLost, Exists, Refused, TimedOut
+from ..requests import Pieces
 from ..steps import Deadline, Pauses
 from .host import HostStore
 from .names import Name, turn_of
@@ -80,8 +81,7 @@ class Sharing:
                 # the host has no store just now
                 turn = Turn(None)
             if turn is not None:
-                self._fetch(turn, name, part, into, fetch)
-                return True
+                return self._take(turn, name, part, into, fetch, deadline)
             if deadline.is_over:
                 raise TimedOut(f"part {part} is still being fetched by another worker of this host")
             time.sleep(pauses.next().seconds)
@@ -106,13 +106,17 @@ class Sharing:
             self._store.delete(seen)
         return Turn(claim)
 
-    def _fetch(self, turn: Turn, name: Name, part: int, into: memoryview, fetch: Fetch) -> None:
+    def _take(self, turn: Turn, name: Name, part: int, into: memoryview, fetch: Fetch, deadline: Deadline) -> bool:
+        """Fetches, and offers what came. Whether it fetched: another may have, between the list and the claim."""
         try:
+            if turn.claim is not None and self._read(self._store.copies_of(name, part), into, deadline):
+                return False
             fetch(into)
             if turn.claim is not None:
                 # without room, or if it was taken for dead, this worker alone has the bytes
                 with contextlib.suppress(Refused, ConnectionLost):
-                    self._store.put(name.copy(part, self._store.job), into, Kind.SECONDARY, _OFFER)
+                    self._store.put(name.copy(part, self._store.job), Pieces([into]), Kind.SECONDARY, Deadline(_OFFER))
+            return True
         finally:
             if turn.claim is not None:
                 self._store.delete([turn.claim])

@@ -129,10 +129,8 @@ class StoreWorkers(WorkerPlugin):  # type: ignore[misc]
         cut, deadline = pieces.cut(self._store.part), Deadline(timeout)
 
         def put_part(part: int) -> bytes:
-            views = cut[part].views
-            data = views[0] if len(views) == 1 else b"".join(views)
-            self._store.put(name.primary(part, self._job), data, Kind.PRIMARY, deadline.within(timeout))
-            return digest_of(data)
+            self._store.put(name.primary(part, self._job), cut[part], Kind.PRIMARY, deadline)
+            return digest_of(*cut[part].views)
 
         try:
             return all_of(self._threads, put_part, range(len(cut)))

@@ -1,0 +1,286 @@
+"""What store_client.dask does without Dask's processes: ids, references, errors, and the sharing of what a host fetches.
+
+With them it is tested by examples/cluster/test.py, over several hosts.
+"""
+
+from __future__ import annotations
+
+import array
+import concurrent.futures
+import importlib.util
+import pickle
+import threading
+import time
+import unittest
+from typing import Any, List
+
+from support import PATIENCE, Server, key
+
+from store_client import Absent, Kind, ObjectId, State
+from store_client.requests import Pieces
+from store_client.steps import Deadline
+
+HAS_DASK = importlib.util.find_spec("distributed") is not None
+if HAS_DASK:
+    from store_client import dask
+    from store_client.dask import host, names, reference, scheduler, sharing
+
+LEASE = 1.0
+
+
+@unittest.skipUnless(HAS_DASK, "distributed isn't there")
+class Names(unittest.TestCase):
+    """Ids, references and errors. No server is needed."""
+
+    def test_ids_of_a_value(self) -> None:
+        name = names.Name.of("sum-1", 2**40 + 7)
+        ids = [name.primary(0, 1), name.claim(0, 1, 1), name.claim(0, 2**40, 1), name.copy(0, 1), name.copy(0, 1)]
+        self.assertEqual(len(set(ids)), 5)
+        self.assertEqual({names.prefix_of(id) for id in ids}, {name.prefix})
+        self.assertEqual([names.turn_of(id) for id in ids], [0, 1, 2**40, 0, 0])
+        self.assertEqual([names.is_primary(id) for id in ids], [True, False, False, False, False])
+        self.assertEqual((name.epoch, name.primary(4, 1).index), (2**40 + 7, 5))
+
+    def test_another_epoch_has_other_ids(self) -> None:
+        self.assertNotEqual(names.Name.of("sum-1", 1).prefix, names.Name.of("sum-1", 2).prefix)
+        self.assertNotEqual(names.Name.of("sum-1", 1).prefix, names.Name.of("sum-2", 1).prefix)
+
+    def ref(self, value: Any, job: int = 1) -> dask.StoreRef:
+        pieces, is_pickled = reference.encode(value)
+        inline = b"".join(pieces.views)
+        return dask.StoreRef("key", "A", job, reference.in_words(value), len(inline), names.Name(bytes(14)), 64, (), is_pickled, inline)
+
+    def test_a_reference_can_be_pickled(self) -> None:
+        ref = self.ref({"a": [1, 2]})
+        again = pickle.loads(pickle.dumps(ref))
+        self.assertEqual((again, again.digest, again.decode(memoryview(again.inline), 1)), (ref, ref.digest, {"a": [1, 2]}))
+        self.assertNotEqual(ref.digest, self.ref({"a": [1, 3]}).digest)
+        self.assertNotIn("inline", repr(ref))
+
+    def test_nothing_of_another_job_s_is_unpickled(self) -> None:
+        with self.assertRaisesRegex(ValueError, "of another job only arrays are loaded"):
+            ref = self.ref(array.array("q", [1]), job=2)
+            ref.decode(memoryview(ref.inline), 1)
+
+    def test_errors_can_be_pickled(self) -> None:
+        for error in (dask.ValueLost("A", "an array", "gone"), dask.HostUnknown("Z", "an array"), dask.KeyReleased("k")):
+            again = pickle.loads(pickle.dumps(error))
+            self.assertEqual((type(again), str(again), vars(again)), (type(error), str(error), vars(error)))
+        self.assertEqual(str(dask.ValueLost("A", "an array", "gone")), "an array of host A is lost: gone")
+
+    def test_outside_of_a_task(self) -> None:
+        with self.assertRaisesRegex(RuntimeError, "to be called in a task"):
+            dask.put(1)
+
+
+@unittest.skipUnless(HAS_DASK, "distributed isn't there")
+class Shared(unittest.TestCase):
+    """A host's workers share what one of them fetches. Here they are threads, each with pools of its own."""
+
+    server: Server
+
+    @classmethod
+    def setUpClass(cls) -> None:
+        cls.server = Server(nodes=2)
+        cls.addClassCleanup(cls.server.close)
+
+    def setUp(self) -> None:
+        self.name = names.Name.of(self.id(), time.monotonic_ns() % 2**40)
+        self.data = bytes(range(250)) * 4
+        self.fetched: List[int] = []
+        self.store = self.worker()
+
+    def worker(self) -> host.HostStore:
+        """A worker's connection to the host's store."""
+        store = host.HostStore(f"{self.server.folder.name}/store", 2, 1, key(1), 1000)
+        self.addCleanup(store.close)
+        return store
+
+    def bring(self, store: host.HostStore, fetch: Any = None, lease: float = PATIENCE) -> bytes:
+        into = memoryview(bytearray(len(self.data)))
+        sharing.Sharing(store, lease).bring(self.name, 0, into, fetch or self.fetch, Deadline(PATIENCE))
+        return bytes(into)
+
+    def fetch(self, into: memoryview) -> None:
+        self.fetched.append(1)
+        into[:] = self.data
+
+    def copies(self, part: int = 0) -> List[State]:
+        return list(self.store.copies_of(self.name, part).values())
+
+    def test_one_fetches_for_all(self) -> None:
+        begun = threading.Event()
+
+        def slowly(into: memoryview) -> None:
+            begun.wait(PATIENCE)
+            self.fetch(into)
+
+        with concurrent.futures.ThreadPoolExecutor(5) as threads:
+            brought = [threads.submit(self.bring, self.worker(), slowly) for _ in range(5)]
+            begun.set()
+            self.assertEqual({one.result(PATIENCE) for one in brought}, {self.data})
+        self.assertEqual((len(self.fetched), self.copies()), (1, [State.SEALED]))
+
+    def test_a_fetch_that_fails_leaves_nothing(self) -> None:
+        def fail(_: memoryview) -> None:
+            raise ValueError("no")
+
+        with self.assertRaisesRegex(ValueError, "no"):
+            self.bring(self.store, fail)
+        self.assertEqual(self.copies(), [])
+
+    def test_what_a_dead_worker_left_is_taken_back(self) -> None:
+        self.store.create(self.name.claim(0, 1, 1), 1, Kind.SECONDARY)
+        self.store.create(self.name.copy(0, 1), len(self.data), Kind.SECONDARY)
+        start = time.monotonic()
+        self.assertEqual(self.bring(self.worker(), lease=LEASE), self.data)
+        self.assertGreaterEqual(time.monotonic() - start, LEASE)
+        self.assertEqual(self.copies(), [State.SEALED])
+
+    def test_a_slow_writer_is_refused_and_seals_nothing(self) -> None:
+        # it has its claim, and a copy of which half is written
+        claim, copy = self.name.claim(0, 1, 1), self.name.copy(0, 1)
+        pool = self.store._pool(copy)
+        self.store.create(claim, 1, Kind.SECONDARY)
+        self.store.create(copy, len(self.data), Kind.SECONDARY)
+        pool.write(copy, 0, b"half")
+        self.assertEqual(self.bring(self.worker(), lease=LEASE), self.data)
+        for late in (lambda: pool.write(copy, 4, b"late"), lambda: pool.seal(copy)):
+            with self.assertRaises(Absent):
+                late()
+        for id, state in self.store.copies_of(self.name, 0).items():
+            with self.store._pool(id).get(id) as view:
+                self.assertEqual((bytes(view), state), (self.data, State.SEALED))
+
+    def test_all_of_a_value_is_removed_by_its_prefix(self) -> None:
+        other = names.Name.of("other", 1)
+        ids: List[ObjectId] = [self.name.primary(0, 1), self.name.primary(1, 1), self.name.copy(1, 1), other.primary(0, 1)]
+        for id in ids:
+            self.store.put(id, Pieces([memoryview(b"data")]), Kind.PRIMARY, Deadline(1.0))
+        self.assertEqual(self.store.forget([self.name.prefix]), 3)
+        self.assertEqual(self.store.forget([self.name.prefix, other.prefix]), 1)
+        self.assertEqual([usage.copies for usage in self.store.usage()], [0, 0])
+
+    def tearDown(self) -> None:
+        self.store.forget([self.name.prefix])
+
+
+class Task:
+    """A task as the scheduler has it."""
+
+    def __init__(self, key: str) -> None:
+        self.key = key
+        self.state = "processing"
+        self.who_wants: List[Any] = []
+        self.waiters: List[Any] = []
+
+
+class Scheduler:
+    """What the plugin needs of a scheduler, and what it told the workers."""
+
+    def __init__(self, *keys: str) -> None:
+        self.handlers: Any = {}
+        self.tasks = {key: Task(key) for key in keys}
+        self.told: List[Any] = []
+        self.changed: List[Any] = []
+
+    async def broadcast(self, msg: Any, workers: List[str], on_error: str) -> Any:
+        self.told.append((sorted(workers), msg["sweep"], msg["prefixes"]))
+        return {worker: 0 if msg["sweep"] else None for worker in workers if worker != "a1"}
+
+    def transitions(self, recommendations: Any, _: str) -> None:
+        self.changed.append(recommendations)
+
+
+@unittest.skipUnless(HAS_DASK, "distributed isn't there")
+class Scheduling(unittest.IsolatedAsyncioTestCase):
+    """Which values stay, by what the scheduler tells of its keys."""
+
+    async def asyncSetUp(self) -> None:
+        self.scheduler = Scheduler("one", "two")
+        self.plugin = scheduler.StoreScheduler()
+        await self.plugin.start(self.scheduler)
+        for worker, its_host in (("a1", "A"), ("a2", "A"), ("b1", "B")):
+            await self.plugin.store_join(worker, its_host)
+
+    async def put(self, key_: str, with_key: bool = True) -> int:
+        self.plugin.transition(key_, "waiting", "processing")
+        epoch = await self.plugin.store_begin(key_, "a1", with_key)
+        self.plugin.transition(key_, "processing", "memory")
+        assert epoch is not None
+        return epoch
+
+    async def removed(self) -> List[bytes]:
+        """What the hosts were told to remove."""
+        await settled(self.plugin)
+        swept = [(workers, prefixes) for workers, sweep, prefixes in self.scheduler.told if sweep]
+        self.scheduler.told.clear()
+        return sorted({prefix for _, prefixes in swept for prefix in prefixes})
+
+    def release(self, key_: str) -> None:
+        self.plugin.transition(key_, "memory", "released")
+
+    async def test_it_goes_with_its_key_and_one_of_each_host_removes_it(self) -> None:
+        epoch = await self.put("one")
+        self.release("one")
+        await settled(self.plugin)
+        prefix = names.Name.of("one", epoch).prefix
+        # a1 doesn't answer, so a2 is asked
+        self.assertEqual(self.scheduler.told[0], (["a1", "a2", "b1"], False, [prefix]))
+        self.assertEqual(sorted(self.scheduler.told[1:]), [(["a1"], True, [prefix]), (["a2"], True, [prefix]), (["b1"], True, [prefix])])
+
+    async def test_a_key_that_is_wanted_keeps_it(self) -> None:
+        epoch = await self.put("one")
+        self.scheduler.tasks["one"].who_wants = ["client"]
+        self.release("one")
+        self.assertEqual(await self.removed(), [])
+        # it is computed again; then the earlier one goes
+        later = await self.put("one")
+        self.assertEqual(await self.removed(), [names.Name.of("one", epoch).prefix])
+        self.plugin.transition("one", "released", "forgotten")
+        self.assertEqual(await self.removed(), [names.Name.of("one", later).prefix])
+
+    async def test_who_keeps_it(self) -> None:
+        epoch = await self.put("one")
+        self.assertTrue(await self.plugin.store_keep(epoch, "two"))
+        self.release("one")
+        self.assertEqual(await self.removed(), [])
+        self.release("two")
+        self.assertEqual(await self.removed(), [names.Name.of("one", epoch).prefix])
+        self.assertFalse(await self.plugin.store_keep(epoch, "two"))
+
+    async def test_what_is_lost_is_computed_again_once(self) -> None:
+        epoch = await self.put("one")
+        await self.plugin.store_keep(epoch, "two")
+        for task in self.scheduler.tasks.values():
+            task.state = "memory"
+        await self.plugin.store_lost(epoch)
+        await self.plugin.store_lost(epoch)
+        self.assertEqual(self.scheduler.changed, [{"one": "released", "two": "released"}])
+
+    async def test_without_its_key(self) -> None:
+        epoch = await self.put("one", with_key=False)
+        self.plugin.transition("one", "released", "forgotten")
+        self.assertEqual(await self.removed(), [])
+        await self.plugin.store_release(epoch)
+        self.assertEqual(await self.removed(), [names.Name.of("one", epoch).prefix])
+
+    async def test_a_key_that_is_gone_puts_nothing(self) -> None:
+        self.assertIsNone(await self.plugin.store_begin("three", "a1", True))
+
+    async def test_hosts(self) -> None:
+        self.assertEqual(await self.plugin.store_hosts("A", "B"), {"own": ["a1", "a2"], "others": [], "known": True})
+        self.plugin.remove_worker(None, "a1")
+        self.plugin.remove_worker(None, "a2")
+        self.assertEqual(await self.plugin.store_hosts("A", "C"), {"own": [], "others": ["b1"], "known": True})
+        self.assertFalse((await self.plugin.store_hosts("Z", "A"))["known"])
+
+
+async def settled(plugin: Any) -> None:
+    """Until the plugin has told all."""
+    for task in list(plugin._telling):
+        await task
+
+
+if __name__ == "__main__":
+    unittest.main()
