@@ -53,7 +53,7 @@ def define(folder: Path) -> unittest.TestSuite:
         def setUpClass(cls) -> None:
             # the second job's window is full after a few values, and so is its device
             jobs = {1: Job(16 * UNIT, 256 * UNIT, 2), 2: Job(8 * UNIT, 8 * UNIT, 1)}
-            cls.hosts = Hosts(folder, "ABC", jobs, part=UNIT, lease=LEASE)
+            cls.hosts = Hosts(folder, "ABC", jobs, part=UNIT, small=UNIT // 8, lease=LEASE)
             cls.enterClassContext(cls.hosts)
             cls.one, cls.two = cls.hosts.clients[1], cls.hosts.clients[2]
 

@@ -19,7 +19,7 @@ from .errors import HostUnknown, KeyReleased, ValueLost
 from .names import Name
 from .reference import PLUGIN, StoreRef, put
 from .scheduler import StoreScheduler
-from .worker import MOVES, PART, StoreWorkers
+from .worker import MOVES, PART, SMALL, StoreWorkers
 
 __all__ = [
     "HostUnknown",
@@ -43,14 +43,22 @@ def attach(
     key_file: Optional[str] = None,
     nodes: int = 1,
     part: int = PART,
+    small: int = SMALL,
     lease: float = 5.0,
 ) -> None:
-    """Gives all workers of the client's scheduler a store, those that join later too. See `StoreWorkers` for the words.
+    """Gives all workers of the client's scheduler a store, those that join later too.
+
+    The socket is that of a node without its number: that of node K is `SOCKET.K`. `nodes` is how many a host's server has, the key file
+    has the job's key as 64 hexadecimal digits. A worker's environment goes before that: `STORE_SOCKET`, `STORE_NODES`, `STORE_JOB`,
+    `STORE_KEY`, `STORE_KEY_FILE`, and `STORE_HOST`, the name of its host, which is its hostname by itself.
+
+    Values of more than `small` bytes are stored, in parts of at most `part` bytes, the others lie in their references. A worker that
+    fetches something, and shows no progress for `lease` seconds, is taken for dead by the others of its host.
 
     Raises what a worker meets: `ConnectionLost` if its host has no store, `NotAdmitted` if the job's key isn't right.
     """
     client.register_scheduler_plugin(StoreScheduler(), idempotent=True)
-    client.register_worker_plugin(StoreWorkers(socket, job, key_file, nodes, part, lease))
+    client.register_worker_plugin(StoreWorkers(socket, job, key_file, nodes, part, small, lease))
 
 
 def counts(client: Any) -> Dict[str, Dict[str, int]]:

@@ -31,10 +31,9 @@ from .sharing import Sharing
 
 T = TypeVar("T")
 
-# a value that is no longer, in bytes, lies in its reference: a store has 1,024 copies of a job at a node
-_SMALL = 1 << 16
-# how long a part is if nothing else is said, in bytes
-PART = 1 << 22
+# in bytes, if nothing else is said: how long a part is; and how long a value may be that lies in its reference, since a store has 1,024
+# copies of a job at a node
+PART, SMALL = 1 << 22, 1 << 16
 # so many parts are moved at once for tasks, and as many for other hosts: who waits for another host never keeps one waiting
 _THREADS = 4
 # what is counted
@@ -53,11 +52,20 @@ class StoreWorkers(WorkerPlugin):  # type: ignore[misc]
     name = PLUGIN
 
     def __init__(
-        self, socket: str, job: int = 1, key_file: Optional[str] = None, nodes: int = 1, part: int = PART, lease: float = 5.0
+        self,
+        socket: str,
+        job: int = 1,
+        key_file: Optional[str] = None,
+        nodes: int = 1,
+        part: int = PART,
+        small: int = SMALL,
+        lease: float = 5.0,
     ) -> None:
-        """The socket of the server's node K is `SOCKET.K`. A part has so many bytes at most; a lease so many seconds."""
+        """The socket of the server's node K is `SOCKET.K`. A part has so many bytes at most, and a value that lies in its reference; a
+        lease so many seconds."""
         self._words = {"STORE_SOCKET": socket, "STORE_JOB": job, "STORE_KEY_FILE": key_file, "STORE_NODES": nodes}
         self._part = whole_number(part, "the length of a part", 16, 1 << 24)
+        self._small = whole_number(small, "the length of a small value", 0, 1 << 24)
         self._lease = lease
 
     async def setup(self, worker: Any) -> None:
@@ -113,7 +121,7 @@ class StoreWorkers(WorkerPlugin):  # type: ignore[misc]
         """See `reference.put`."""
         key, (pieces, is_pickled) = self._task_key(), encode(value)
         about = in_words(value)
-        if pieces.length <= _SMALL:
+        if pieces.length <= self._small:
             name, inline = Name.of(key, 0), b"".join(pieces.views)
             return StoreRef(key, self.host, self._job, about, pieces.length, name, self._store.part, (), is_pickled, inline)
         epoch = self._ask(self._worker.scheduler.store_begin(key=key, worker=self._worker.address, with_key=with_key))
