@@ -14,6 +14,7 @@ import signal
 import subprocess
 import sys
 import tempfile
+import time
 from pathlib import Path
 from typing import Callable, List
 
@@ -93,4 +94,12 @@ def _apart(name: str, seconds: float) -> int:
                 with contextlib.suppress(ProcessLookupError):
                     os.killpg(process.pid, signal.SIGKILL)
     finally:
+        _remove(folder)
+
+
+def _remove(folder: str) -> None:
+    """What was killed may still be writing for a moment."""
+    end = time.monotonic() + 30
+    while os.path.exists(folder) and time.monotonic() < end:
         shutil.rmtree(folder, ignore_errors=True)
+        time.sleep(0.1)

@@ -69,7 +69,7 @@ class StoreWorkers(WorkerPlugin):  # type: ignore[misc]
         self._lease = lease
 
     async def setup(self, worker: Any) -> None:
-        """The worker starts."""
+        """The worker starts, or the plugin is registered once more: what runs goes on with the one before, so there is no teardown."""
         said: Dict[str, Any] = {**self._words, **os.environ}
         self._worker = worker
         self.host = os.environ.get("STORE_HOST") or socket.gethostname()
@@ -88,12 +88,6 @@ class StoreWorkers(WorkerPlugin):  # type: ignore[misc]
         worker.handlers["store_ping"] = self._answer_ping
         worker.handlers["store_forget"] = self._answer_forget
         await worker.scheduler.store_join(worker=worker.address, host=self.host)
-
-    def teardown(self, worker: Any) -> None:
-        """The worker ends."""
-        self._threads.shutdown(wait=False)
-        self._answering.shutdown(wait=False)
-        self._store.close()
 
     # ---- for other workers and the scheduler, on the worker's event loop; the store is asked in a thread
 
