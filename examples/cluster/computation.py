@@ -16,8 +16,10 @@ from distributed import get_worker
 from store_client import dask as store
 
 # of the arrays of a layer, in units
-SIZES = (1, 8, 2, 4, 8, 1, 4, 2)
+SIZES = (1, 8, 2, 4, 1, 2, 1, 4)
 LAYERS = 3
+# so many numbers are combined at once, so that nothing but the result takes memory
+_STEP = 1 << 16
 
 
 def make(count: int, seed: int) -> Any:
@@ -26,13 +28,17 @@ def make(count: int, seed: int) -> Any:
 
 
 def combine(left: Any, right: Any, extra: Any) -> Any:
-    """A further layer: as long as the first, from both and from what the second job gave."""
-    return numpy.sin(left) + numpy.resize(right, left.shape) * numpy.resize(extra, left.shape)
+    """A further layer: as long as the first, from both and from what the second job gave, which begin again if they are shorter."""
+    made = numpy.empty_like(left)
+    for start in range(0, len(left), _STEP):
+        places = numpy.arange(start, min(start + _STEP, len(left)))
+        made[places] = numpy.sin(left[places]) + right.take(places, mode="wrap") * extra.take(places, mode="wrap")
+    return made
 
 
 def describe(array: Any) -> Tuple[str, float]:
     """A digest of all bits, and the sum."""
-    return hashlib.blake2b(array.tobytes(), digest_size=16).hexdigest(), float(array.sum())
+    return hashlib.blake2b(array, digest_size=16).hexdigest(), float(array.sum())
 
 
 def stored(work: Callable[..., Any], *words: Any) -> Any:

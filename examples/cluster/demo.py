@@ -2,9 +2,9 @@
 """A computation of several gigabytes over three hosts, one of which is lost in the middle: make cluster-demo.
 
 It is done by plain Dask first, and then by way of the stores, where a second job grants an array to the first and host C is killed
-when a third of the tasks are done. Both results have to be equal, bit for bit. It prints what moved where. STORE_CLUSTER_UNIT is the
-length of the shortest array in bytes (64 MiB): arrays have one to eight. It needs Debian's python3-distributed and python3-numpy, and says
-so if they aren't there.
+when a third of the arrays are made. Both results have to be equal, bit for bit. It prints what moved where. STORE_CLUSTER_UNIT is the
+length of the shortest array in bytes (64 MiB): arrays have one to eight of them. It needs Debian's python3-distributed and
+python3-numpy, and says so if they aren't there.
 """
 
 from __future__ import annotations
@@ -33,17 +33,22 @@ def run(folder: Path) -> int:
     total = computation.LAYERS * sum(computation.SIZES) * UNIT / MIB
     print(f"{computation.LAYERS} layers of {count} arrays of {UNIT / MIB:g} to {8 * UNIT / MIB:g} MiB, {total:g} MiB in all")
     print(f"the first job has windows of {2 * window / MIB:g} MiB a host", flush=True)
-    with Hosts(folder, "ABC", {1: Job(window, 64 * UNIT, 2), 2: Job(window, 0, 1)}) as hosts:
+    small = min(2**16, UNIT // 8)
+    with Hosts(folder, "ABC", {1: Job(window, 64 * UNIT, 2), 2: Job(window, 0, 1)}, small=small) as hosts:
         one, two = hosts.clients[1], hosts.clients[2]
         links = Links(hosts)
         with timed("plain Dask, and no host is lost"):
-            due = one.gather(computation.submit(one, computation.plain, UNIT, computation.make(UNIT // 8, 99))[-1])
+            same = one.submit(computation.make, UNIT // 8, 99)
+            due = one.gather(computation.submit(one, computation.plain, UNIT, same)[-1])
+            del same
         links.show()
         with timed("the second job puts an array on host B, and grants it to the first"):
             extra = two.submit(computation.granted, UNIT // 8, 99, 1, workers=["B2.0"]).result()
         with timed("by way of the stores, and host C is lost"):
             layers = computation.submit(one, computation.stored, UNIT, extra)
             lose(hosts, layers, links)
+            # from now on an array goes when no task needs it any more
+            del layers[:-1]
             told = one.gather(layers[-1])
         show_stores(one)
         links.show()

@@ -15,7 +15,7 @@ from ..ids import ObjectId
 from ..items import Kind, State, Usage
 from ..pool import Pool
 from ..putting import write_and_seal
-from ..refusals import Absent, Busy, Full, Granted, NotHeld, Pending, Refused, StoreError, TooMany
+from ..refusals import Absent, Busy, ConnectionLost, Full, Granted, NotHeld, Pending, Refused, ServerSilent, StoreError, TooMany
 from ..requests import LARGEST, Pieces
 from ..steps import Deadline, Pauses
 from .names import Name, is_primary, prefix_of
@@ -48,12 +48,12 @@ class HostStore:
 
     def usage(self) -> List[Usage]:
         """What the job uses, of each node."""
-        return [pool.usage() for pool in self._pools]
+        return [reconnected(pool.usage) for pool in self._pools]
 
     def put(self, id: ObjectId, pieces: Pieces, kind: Kind, deadline: Deadline) -> None:
         """A sealed object, under an id that nobody else makes. Room is waited for until the deadline."""
         pool = self._pool(id)
-        patiently(lambda: pool.create(id, pieces.length, kind), deadline)
+        patiently(lambda: self.create(id, pieces.length, kind), deadline)
         try:
             pool._run(write_and_seal(pool._requests, pieces, id))
         except BaseException:
@@ -63,14 +63,14 @@ class HostStore:
     def read_into(self, id: ObjectId, into: memoryview, deadline: Deadline) -> bool:
         """Whether the object is here, sealed; its bytes are in the buffer then."""
         try:
-            patiently(lambda: self._pool(id).get_into(id, into), deadline)
+            patiently(lambda: reconnected(lambda: self._pool(id).get_into(id, into)), deadline)
         except Absent:
             return False
         return True
 
     def create(self, id: ObjectId, length: int, kind: Kind) -> None:
         """A copy that isn't sealed."""
-        self._pool(id).create(id, length, kind)
+        reconnected(lambda: self._pool(id).create(id, length, kind))
 
     def delete(self, ids: Iterable[ObjectId]) -> None:
         """These copies go, if they are there; nothing is raised."""
@@ -81,7 +81,8 @@ class HostStore:
     def copies_of(self, name: Name, part: int) -> Dict[ObjectId, State]:
         """The claims and copies that the host has of a part, in the order of their ids."""
         primary = name.primary(part, self.job)
-        items = [item for item in self._pool(primary).list()[0] if item.id.index == primary.index]
+        own, _ = reconnected(self._pool(primary).list)
+        items = [item for item in own if item.id.index == primary.index]
         return {item.id: item.state for item in items if prefix_of(item.id) == name.prefix and not is_primary(item.id)}
 
     def sealed_copies_of(self, name: Name, part: int) -> List[ObjectId]:
@@ -92,7 +93,7 @@ class HostStore:
         """Removes all that the host has of these values. What is granted stays until its grants end. How many copies that were."""
         gone, wanted = 0, frozenset(prefixes)
         for pool in self._pools:
-            for item in pool.list()[0]:
+            for item in reconnected(pool.list)[0]:
                 if prefix_of(item.id) in wanted:
                     gone += _let_go(pool, item.id)
         return gone
@@ -100,7 +101,7 @@ class HostStore:
     def grant(self, id: ObjectId, job: int) -> None:
         """Lets another job read the object, which is brought into memory for that and stays there."""
         pool = self._pool(id)
-        patiently(lambda: pool.hold(id, wait=True), Deadline(_SILENCE))
+        patiently(lambda: reconnected(lambda: pool.hold(id, wait=True)), Deadline(_SILENCE))
         try:
             pool.grant(id, job)
         finally:
@@ -124,6 +125,16 @@ def _let_go(pool: Pool, id: ObjectId) -> bool:
     except Absent:
         return False
     return True
+
+
+def reconnected(work: Callable[[], T]) -> T:
+    """What the work gives. If the server went away since this thread last asked, it is asked once more, by a new connection."""
+    try:
+        return work()
+    except ServerSilent:
+        raise
+    except ConnectionLost:
+        return work()
 
 
 def patiently(work: Callable[[], T], deadline: Deadline) -> T:
