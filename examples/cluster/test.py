@@ -207,8 +207,10 @@ def define(folder: Path) -> unittest.TestSuite:
             totals = [self.on(worker, faults.total, ref) for worker in ("B1.0", "C1.0", "C1.1")]
             self.assertEqual(self.one.gather(totals), [expected(3, 11)] * 3)
             self.on("B2.0", faults.withdrawn, ref, 1).result(PATIENCE)
-            with self.assertRaises(store_client.NotGranted):
-                self.on("A1.0", faults.total, ref).result(PATIENCE)
+            for worker in ("A1.0", "B1.0", "C1.0"):
+                with self.assertRaises(store_client.NotGranted):
+                    self.on(worker, faults.total, ref).result(PATIENCE)
+            self.await_nothing("ABC")
             wrapped = self.on("B2.0", faults.granted, count(1), 12, 1, True)
             with self.assertRaisesRegex(ValueError, "of another job only arrays are loaded"):
                 self.on("B1.0", faults.total, wrapped.result(PATIENCE)).result(PATIENCE)

@@ -167,6 +167,10 @@ class StoreWorkers(WorkerPlugin):  # type: ignore[misc]
             # whom to ask is answered by the scheduler, so it isn't asked on the event loop's own thread
             space[:] = self._ask(self._peers.part(route.get(), ref, part), timeout=None)
 
+        if ref.job != self._job:
+            # a copy would outlast the grant, and nobody would remove it
+            fetch(into)
+            return self._count("fetched", len(into))
         fetched = self._sharing.bring(ref.name, part, into, fetch, deadline)
         self._count("fetched" if fetched else "local", len(into))
 
