@@ -18,6 +18,8 @@ from typing import Any, Dict, Iterator, List, Optional
 from distributed import Client
 from inside import PROGRAM, has_network
 
+from store_client import dask
+
 # seconds that a start or an end may take, on a machine that does much else
 PATIENCE = 120
 # of the first job's scheduler, and the first part of all addresses
@@ -46,6 +48,7 @@ class Job:
     workers: int
 
     def key(self, number: int) -> str:
+        """The key of the job of this number, in hexadecimal digits."""
         return f"{number:064x}"
 
 
@@ -63,11 +66,11 @@ class Host:
 
 
 class Hosts:
-    """The hosts while they run. With `plain` no worker is given a store."""
+    """The hosts while they run."""
 
-    def __init__(self, folder: Path, names: str, jobs: Dict[int, Job], nodes: int = 2, plain: bool = False, **words: Any) -> None:
+    def __init__(self, folder: Path, names: str, jobs: Dict[int, Job], nodes: int = 2, **words: Any) -> None:
         """A name is one letter. Each store has so many nodes. The other words go to `attach`."""
-        self._folder, self.jobs, self._nodes, self._plain, self._words = folder, jobs, nodes, plain, words
+        self._folder, self.jobs, self._nodes, self._words = folder, jobs, nodes, words
         self.hosts = {name: Host(name, f"{_NETWORK}.{number}") for number, name in enumerate(names, 2)}
         self.clients: Dict[int, Client] = {}
         self._schedulers: List[Any] = []
@@ -101,11 +104,8 @@ class Hosts:
     def _attach(self, job: int, workers: int) -> None:
         client = self.clients[job] = Client(self._scheduler_address(job), timeout=PATIENCE, set_as_default=job == 1)
         client.wait_for_workers(workers, timeout=PATIENCE)
-        if not self._plain:
-            from store_client import dask
-
-            # the sockets and keys are in each worker's environment
-            dask.attach(client, "", job, nodes=self._nodes, **self._words)
+        # the sockets and keys are in each worker's environment
+        dask.attach(client, "", job, nodes=self._nodes, **self._words)
 
     def __exit__(self, *_: object) -> None:
         for client in self.clients.values():

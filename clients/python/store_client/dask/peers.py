@@ -3,7 +3,6 @@
 from __future__ import annotations
 
 import asyncio
-import contextlib
 from dataclasses import dataclass
 from typing import Any, AsyncIterator, Dict, List, Optional, Set
 
@@ -12,7 +11,7 @@ from distributed.protocol import to_serialize
 
 from ..ids import ObjectId
 from ..memory import blank
-from ..refusals import ConnectionLost, Damaged, DeviceFailed, StoreError
+from ..refusals import ConnectionLost, Damaged, DeviceFailed, StoreError, TimedOut
 from ..steps import Deadline
 from .errors import HostUnknown, ValueLost
 from .host import HostStore
@@ -67,10 +66,10 @@ class Peers:
         own = [address for address in told["own"] if address != self._worker.address]
         return Route(own, list(told["others"]), told["known"], set())
 
-    async def part(self, route: Route, ref: StoreRef, part: int) -> memoryview:
-        """The part's bytes, of the digest that the reference has. `ValueLost`, `HostUnknown`."""
+    async def part(self, route: Route, ref: StoreRef, part: int, deadline: Deadline) -> memoryview:
+        """The part's bytes, of the digest that the reference has. `ValueLost`, `HostUnknown`, `TimedOut`."""
         why = f"no worker of {ref.host} is left"
-        async for address, answer in self._answers(route, ref, part):
+        async for address, answer in self._answers(route, ref, part, deadline):
             if answer is None:
                 why = f"{address} doesn't answer"
             elif answer["status"] == "OK":
@@ -88,14 +87,14 @@ class Peers:
             raise HostUnknown(ref.host, ref.about)
         raise ValueLost(ref.host, ref.about, why)
 
-    async def _answers(self, route: Route, ref: StoreRef, part: int) -> AsyncIterator[Any]:
+    async def _answers(self, route: Route, ref: StoreRef, part: int, deadline: Deadline) -> AsyncIterator[Any]:
         for address in route.addresses(part):
-            answer = await self._ask(address, ref, part)
+            answer = await self._ask(address, ref, part, deadline)
             if answer is None:
                 route.silent.add(address)
             yield address, answer
 
-    async def _ask(self, address: str, ref: StoreRef, part: int) -> Optional[Dict[str, Any]]:
+    async def _ask(self, address: str, ref: StoreRef, part: int, deadline: Deadline) -> Optional[Dict[str, Any]]:
         """What the worker answers; None if it is gone. One that is busy is waited for as long as it lives."""
         words = {
             "op": "store_part",
@@ -104,14 +103,17 @@ class Peers:
             "id": ref.primary(part).to_bytes(),
             "length": ref.place(part).stop - ref.place(part).start,
         }
-        with contextlib.suppress(OSError):
-            while True:
-                try:
-                    return await self._send(address, words, _ANSWER)
-                except asyncio.TimeoutError:
-                    if not await self._lives(address):
-                        return None
-        return None
+        while True:
+            try:
+                return await self._send(address, words, _ANSWER)
+            except asyncio.TimeoutError:
+                lives = await self._lives(address)
+            except OSError:
+                lives = False
+            if not lives:
+                return None
+            if deadline.is_over:
+                raise TimedOut(f"{address} lives, and didn't send part {part} of {ref.about} in time")
 
     async def _lives(self, address: str) -> bool:
         try:

@@ -165,7 +165,7 @@ class StoreWorkers(WorkerPlugin):  # type: ignore[misc]
 
         def fetch(space: memoryview) -> None:
             # whom to ask is answered by the scheduler, so it isn't asked on the event loop's own thread
-            space[:] = self._ask(self._peers.part(route.get(), ref, part), timeout=None)
+            space[:] = self._ask(self._peers.part(route.get(), ref, part, deadline), timeout=None)
 
         if ref.job != self._job:
             # a copy would outlast the grant, and nobody would remove it
