@@ -23,7 +23,8 @@ def run(folder: Path) -> int:
     # not before, since it needs the packages
     import cases
 
-    faulthandler.dump_traceback_later(LIMIT - 10, exit=True)
+    # if something hangs after all, it is told where
+    faulthandler.dump_traceback_later(LIMIT - 10)
     cases.OfCluster.folder = folder
     chosen = unittest.defaultTestLoader.loadTestsFromNames(sys.argv[1:] or ["Sharing", "Losses"], cases)
     result = unittest.TextTestRunner(verbosity=2).run(chosen)

@@ -3,7 +3,7 @@
     from store_client import dask as store
 
     store.attach(client, "/run/store/store", job=1, key_file="/etc/store/job1.key")
-    ref = client.submit(lambda: store.put(numpy.zeros(10**8)))            # a task's result is a reference of some 500 bytes
+    ref = client.submit(lambda: store.put(numpy.zeros(10**8)))            # a task's result is a small reference
     client.submit(lambda ref: ref.load().sum(), ref).result()             # on any host: the array, read-only
 
 A value is read from the host's own store. What another host has is fetched once for all workers of a host, by Dask's own connections,
