@@ -24,8 +24,8 @@ T = TypeVar("T")
 
 # what a moment later may be different: another's hold has ended, another's spill is done
 PASSING: Tuple[Type[Refused], ...] = (Full, TooMany, Busy, Pending)
-# how long a server may be silent, in seconds
-_SILENCE = 60.0
+# how long a server may be silent, in seconds: one that much is sealed at, on a machine that does much else, has been so for a minute
+_SILENCE = 300.0
 # so many parts have room in a window beside each other
 _PARTS_OF_A_WINDOW = 8
 

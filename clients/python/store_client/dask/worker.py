@@ -39,7 +39,7 @@ _THREADS = 4
 # what is counted
 MOVES = ("put", "local", "fetched", "served")
 # how long a scheduler or a worker has for a small question, in seconds
-_PATIENCE = 30.0
+_PATIENCE = 60.0
 
 
 class StoreWorkers(WorkerPlugin):  # type: ignore[misc]
