@@ -173,6 +173,7 @@ class Task:
         self.state = "processing"
         self.who_wants: List[Any] = []
         self.waiters: List[Any] = []
+        self.dependencies: List[Any] = []
 
 
 class Scheduler:
@@ -254,8 +255,11 @@ class Scheduling(unittest.IsolatedAsyncioTestCase):
         await self.plugin.store_keep(epoch, "two")
         for task in self.scheduler.tasks.values():
             task.state = "memory"
-        await self.plugin.store_lost(epoch)
-        await self.plugin.store_lost(epoch)
+        self.scheduler.tasks["reader"], self.scheduler.tasks["stranger"] = Task("reader"), Task("stranger")
+        self.scheduler.tasks["reader"].dependencies = [self.scheduler.tasks["one"]]
+        # who depends on it is to run again, but not for ever; who was given the reference otherwise is not
+        told = [await self.plugin.store_lost(epoch, asker) for asker in ("reader", "stranger", "reader", "")]
+        self.assertEqual(told, [True, False, False, False])
         self.assertEqual(self.scheduler.changed, [{"one": "released", "two": "released"}])
 
     async def test_without_its_key(self) -> None:

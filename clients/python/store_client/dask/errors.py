@@ -8,7 +8,8 @@ from ..refusals import StoreError
 class ValueLost(StoreError):
     """Nobody has the value any more: its host is gone, or its store, or the value was removed there.
 
-    The scheduler was told before this is raised: it computes the key again for the tasks that depend on it.
+    A task that depends on the value's key doesn't meet it: the scheduler computes the key again, and then the task. It is raised in a
+    task that was given the reference in another way.
     """
 
     def __init__(self, host: str, about: str, why: str) -> None:

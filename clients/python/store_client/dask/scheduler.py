@@ -39,6 +39,9 @@ class StoreScheduler(SchedulerPlugin):  # type: ignore[misc]
         self._keys: Dict[int, Set[str]] = {}
         self._epochs: Dict[str, Set[int]] = {}
         self._earlier: Dict[str, Set[int]] = {}
+        # of each lost epoch the keys for which it stayed, and the tasks that said so
+        self._lost: Dict[int, Set[str]] = {}
+        self._askers: Dict[int, Set[str]] = {}
         self._released: List[Name] = []
         self._telling: Set[asyncio.Task[None]] = set()
 
@@ -80,13 +83,20 @@ class StoreScheduler(SchedulerPlugin):  # type: ignore[misc]
         """The value goes, whoever keeps it."""
         self._drop(epoch)
 
-    async def store_lost(self, epoch: int) -> None:
-        """A task found the value to be lost: the keys for which it stayed are computed again. Who says so later says nothing new."""
-        keys = self._drop(epoch)
-        tasks = [self._scheduler.tasks.get(key) for key in keys]
+    async def store_lost(self, epoch: int, asker: str) -> bool:
+        """A task found the value to be lost: the keys for which it stayed are computed again.
+
+        Whether the task is to be run again after them, since it depends on one; each is told so once of a value.
+        """
+        keys = self._lost.setdefault(epoch, self._drop(epoch))
+        tasks = [self._scheduler.tasks.get(key) for key in keys if not self._askers.get(epoch)]
         lost = {task.key: "released" for task in tasks if task is not None and task.state == "memory"}
         if lost:
             self._scheduler.transitions(lost, f"store-lost-{time.time()}")
+        task = self._scheduler.tasks.get(asker)
+        is_first = asker not in self._askers.setdefault(epoch, set())
+        self._askers[epoch].add(asker)
+        return is_first and task is not None and any(dependency.key in keys for dependency in task.dependencies)
 
     # ---- what the scheduler tells
 

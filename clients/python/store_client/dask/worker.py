@@ -13,7 +13,7 @@ import threading
 from pathlib import Path
 from typing import Any, Counter, Coroutine, Dict, Iterator, List, Optional, Sequence, Set, TypeVar
 
-from distributed import WorkerPlugin
+from distributed import Reschedule, WorkerPlugin
 
 from ..checks import key_bytes, whole_number
 from ..ids import ObjectId
@@ -154,8 +154,9 @@ class StoreWorkers(WorkerPlugin):  # type: ignore[misc]
             with self._working_on(ref.name):
                 all_of(self._threads, lambda part: self._load_part(ref, part, body[ref.place(part)], route, deadline), order)
         except ValueLost:
-            # before the error is told: then the scheduler computes the key again, and this task after it
-            self._ask(self._worker.scheduler.store_lost(epoch=ref.name.epoch))
+            # a task that depends on the key isn't to fail, however late its end is heard of: it runs again after the key has
+            if self._ask(self._worker.scheduler.store_lost(epoch=ref.name.epoch, asker=self._asker())):
+                raise Reschedule() from None
             raise
         return ref.decode(body.toreadonly(), self._job)
 
@@ -248,6 +249,10 @@ class StoreWorkers(WorkerPlugin):  # type: ignore[misc]
             return str(self._worker.get_current_task())
         except KeyError:
             raise RuntimeError("this is to be called in a task, in the thread that it runs in") from None
+
+    def _asker(self) -> str:
+        """The key of the task that loads; of none in a thread that a task has started."""
+        return str(self._worker.active_threads.get(threading.get_ident(), ""))
 
     def _check_thread(self) -> None:
         try:
