@@ -4,7 +4,7 @@
 # that crate, on which most others stand, would wait until hardly anything else runs.
 CHECKS = $(shell awk -v most=$$(nproc) '/^MemAvailable/ { n = int($$2 / 4500000); print n < 1 ? 1 : n < most ? n : most }' /proc/meminfo)
 test:
-	diff -r -x '*.py' -x __pycache__ examples crates/schedules/data/examples
+	diff -r -x '*.py' -x __pycache__ -x cluster examples crates/schedules/data/examples
 	cmp examples/first.schedule crates/store_server/stdin
 	cmp examples/first.expected crates/store_server/stdout
 	cmp docs/rules/frames.vectors crates/schedules/data/frames/frames.vectors
