@@ -21,13 +21,14 @@ WINDOWS = {1: 2**23, 2: 2**10}
 @contextlib.contextmanager
 def served() -> Iterator[str]:
     """The path of the socket, once both jobs are admitted."""
-    with tempfile.TemporaryDirectory() as folder:
+    with tempfile.TemporaryDirectory() as folder, tempfile.TemporaryFile("w+") as complaints:
         words = [PROGRAM, "serve", "--socket", f"{folder}/store", "--nodes", "1", "--memory", str(2**24), "--spill", f"{folder}/spill"]
-        with subprocess.Popen(words, stdin=subprocess.PIPE, stdout=subprocess.PIPE, text=True) as server:
+        with subprocess.Popen(words, stdin=subprocess.PIPE, stdout=subprocess.PIPE, stderr=complaints, text=True) as server:
             for job, window in WINDOWS.items():
                 server.stdin.write(f"admit 0 {job} {window} 0 {KEYS[job].hex()}\n")
                 server.stdin.flush()
                 if server.stdout.readline() != "n0 op ok\n":
-                    raise SystemExit("the server admits no job")
+                    complaints.seek(0)
+                    raise SystemExit(f"the server admits no job: {complaints.read()}")
             yield f"{folder}/store.0"
             server.communicate("close\n")

@@ -3,6 +3,7 @@
 from __future__ import annotations
 
 import contextlib
+import ctypes
 import os
 import re
 import resource
@@ -41,7 +42,8 @@ class Server:
         words = [PROGRAM, "serve", "--socket", f"{self.folder.name}/store", "--nodes", str(nodes)]
         words += ["--memory", str(memory), "--spill", f"{self.folder.name}/spill"]
         self.spill = Path(self.folder.name, "spill/0")
-        self.program = subprocess.Popen(words, stdin=subprocess.PIPE, stdout=subprocess.PIPE, text=True)
+        self.complaints = tempfile.TemporaryFile("w+", encoding="utf-8")
+        self.program = subprocess.Popen(words, stdin=subprocess.PIPE, stdout=subprocess.PIPE, stderr=self.complaints, text=True)
         for node in range(nodes):
             self.admit(node, 1, 2**25)
             self.admit(node, 2, 64)
@@ -78,6 +80,38 @@ class Server:
         finally:
             self.program.kill()
             self.folder.cleanup()
+            self.complaints.seek(0)
+            # that it is ready is no complaint
+            sys.stderr.write(self.complaints.read().replace("store: ready\n", ""))
+            self.complaints.close()
+
+
+# of Linux's ptrace: a thread is followed, stands still, and goes on by itself
+_FOLLOW, _STOP, _LET_GO = 0x4206, 0x4207, 17
+# waits for threads that aren't children, too
+_ALL = 0x40000000
+
+
+def _trace(request: int, thread: int) -> None:
+    ptrace = ctypes.CDLL(None, use_errno=True).ptrace
+    ptrace.argtypes = [ctypes.c_long, ctypes.c_long, ctypes.c_void_p, ctypes.c_void_p]
+    ptrace.restype = ctypes.c_long
+    if ptrace(request, thread, None, None) < 0:
+        number = ctypes.get_errno()
+        raise OSError(number, f"ptrace: {os.strerror(number)}")
+
+
+@contextlib.contextmanager
+def device_at_rest(server: Server) -> Iterator[None]:
+    """The worker of a server of one node stands still meanwhile: it is the thread that is started first."""
+    worker = sorted(int(name) for name in os.listdir(f"/proc/{server.program.pid}/task"))[1]
+    _trace(_FOLLOW, worker)
+    _trace(_STOP, worker)
+    os.waitpid(worker, _ALL)
+    try:
+        yield
+    finally:
+        _trace(_LET_GO, worker)
 
 
 class Script:

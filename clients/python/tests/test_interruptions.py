@@ -12,7 +12,7 @@ import time
 import unittest
 from typing import Any, List
 
-from support import PATIENCE, Script, WithServer, in_child, in_use, key
+from support import PATIENCE, Script, WithServer, device_at_rest, in_child, in_use, key
 
 import store_client
 from store_client import ConnectionLost, ServerSilent, Task
@@ -88,15 +88,13 @@ class Interruptions(WithServer):
             task = self.task
             for index in range(1, 10):
                 store.put(bytes(16), task.object(index, job=3))
-            fifo = self.server.spill / "3.1.part"
-            os.mkfifo(fifo)
-            self.addCleanup(lambda: os.close(os.open(fifo, os.O_RDONLY | os.O_NONBLOCK)))
-            with self.assertRaises((store_client.Pending, store_client.Busy)):
-                store.put(bytes(144), task.object(10, job=3), timeout=0.05)
-            self.assertEqual(len(store.list()[0]), 9)
-            self.interrupt(0.2)
-            with self.assertRaises(KeyboardInterrupt):
-                store.put(bytes(144))
+            with device_at_rest(self.server):
+                with self.assertRaises((store_client.Pending, store_client.Busy)):
+                    store.put(bytes(144), task.object(10, job=3), timeout=0.05)
+                self.assertEqual(len(store.list()[0]), 9)
+                self.interrupt(0.2)
+                with self.assertRaises(KeyboardInterrupt):
+                    store.put(bytes(144))
         with self.server.connect(3) as other:
             self.assertEqual(len(other.list()[0]), 9)
 

@@ -14,7 +14,7 @@ import threading
 import time
 import unittest
 
-from support import PATIENCE, PROGRAM, Server, documented, documented_refusals, key
+from support import PATIENCE, PROGRAM, Server, device_at_rest, documented, documented_refusals, key
 from spelling import call, spelled
 
 import store_client
@@ -172,14 +172,16 @@ class Sessions(unittest.TestCase):
             self.server.spill.mkdir()
             store.create(two, 16, wait=True)
 
-    def test_a_disk_that_is_full(self) -> None:
-        """The first write finds no space. Who waits for room is told, and the object stays; the next try finds some."""
+    def test_a_write_that_fails(self) -> None:
+        """Something is in the way of the first write. Who waits for room is told, and the object stays; once it has gone the next try
+        finds some."""
         with self.server.connect(3) as store:
             one, *_ = self.fill(store, 9)
-            os.symlink("/dev/full", self.server.spill / "3.1.part")
+            (self.server.spill / "3.1").mkdir()
             two = store.task(2).object(1)
             self.refused(store_client.DeviceFailed, lambda: store.create(two, 16, wait=True))
             self.assertEqual([item.state for item in store.list()[0]], [State.SEALED] * 9)
+            (self.server.spill / "3.1").rmdir()
             store.create(two, 16, wait=True)
             store.delete(two)
             with store.get(one) as view:
@@ -199,39 +201,35 @@ class Sessions(unittest.TestCase):
             self.assertLess(time.monotonic(), end, "the device works don't end")
 
     def test_a_device_that_is_slow(self) -> None:
-        """Nine objects are in the way of one. Eight are being written, and the first write waits for a reader."""
+        """Nine objects are in the way of one. Eight are to be written, and the device isn't at work."""
         with self.server.connect(3) as store:
             self.fill(store, 9)
-            file = self.server.spill / "3.1.part"
-            os.mkfifo(file)
             two = store.task(2).object(1)
-            self.refused(store_client.Pending, store.create, two, 144)
-            self.assertEqual(store.usage().works, 8)
-            self.refused(store_client.Busy, store.create, two, 144)
-            self.check_others_are_answered()
-            reader = os.open(file, os.O_RDONLY | os.O_NONBLOCK)
-            self.addCleanup(os.close, reader)
+            with device_at_rest(self.server):
+                self.refused(store_client.Pending, store.create, two, 144)
+                self.assertEqual(store.usage().works, 8)
+                self.refused(store_client.Busy, store.create, two, 144)
+                self.check_others_are_answered()
             self.await_works(store)
             self.assertEqual(store.create(two, 144, wait=True), (0, 144))
 
     def test_a_device_that_reads_slowly(self) -> None:
-        """A read of a spilled file waits for a writer; it has no bytes then, and is read once it has them."""
+        """A spilled object isn't read as long as the device isn't at work. Its file is gone then, and there again for the next try."""
         with self.server.connect(3) as store:
             one, *_ = self.fill(store, 9)
             two = store.task(2).object(1)
             store.create(two, 16, wait=True)
             file = self.server.spill / "3.1"
-            content = file.read_bytes()
-            file.unlink()
-            os.mkfifo(file)
+            away = file.with_name("away")
             store.delete(two)
-            self.refused(store_client.Pending, store.hold, one)
-            self.assertEqual(store.usage().works, 1)
-            self.check_others_are_answered()
-            os.close(os.open(file, os.O_WRONLY))
+            with device_at_rest(self.server):
+                self.refused(store_client.Pending, store.hold, one)
+                self.assertEqual(store.usage().works, 1)
+                self.check_others_are_answered()
+                content = file.read_bytes()
+                file.rename(away)
             self.await_works(store)
-            file.unlink()
-            file.write_bytes(content)
+            away.rename(file)
             self.refused(store_client.DeviceFailed, store.hold, one)
             with store.get(one) as view:
                 self.assertEqual(bytes(view), content)
