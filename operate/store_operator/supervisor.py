@@ -32,6 +32,8 @@ _FIRST_PAUSE, _LONGEST_PAUSE, _GOOD_RUN = 0.5, 60.0, 60.0
 # seconds in which sessions that wait are still answered if the server is closed at once
 _LEAST_GRACE = 0.5
 _OK = " op ok"
+# what a server says once all its sockets listen, and no complaint
+_LISTENS = "store: ready"
 
 
 class State(enum.Enum):
@@ -203,6 +205,9 @@ class Supervisor:
         return [self.jobs.over(node) for node in range(self.settings.nodes)]
 
     def _heard(self, line: str) -> None:
+        if line == _LISTENS:
+            self._log.info("the server says: %s", line)
+            return
         self._complaint = line
         self._log.warning("the server says: %s", line)
 

@@ -238,7 +238,7 @@ class Limits(unittest.TestCase):
         with Place(2) as place:
             place.start_ready(["bash", "-c", 'ulimit -n 300; exec "$@"', "_"])
             self.assertEqual(self.limit(place), 300)
-            self.assertIn("limit of 300 descriptors: 2072 are needed for 1024 sessions at each of 2 nodes", place.log())
+            self.assertIn("limit of 300 descriptors: 2074 are needed for 1024 sessions at each of 2 nodes", place.log())
 
     def test_a_limit_of_files_fails_a_spill_and_nothing_else(self) -> None:
         with Place(jobs=(1, 2)) as place:
