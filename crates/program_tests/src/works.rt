@@ -22,7 +22,7 @@ const ONE: Quota = Quota {
 };
 
 /// What a session asks for.
-#[derive(Clone, Copy)]
+#[derive(Drop)]
 enum Asked {
     Create(ObjectId, u32),
     Seal(ObjectId),
@@ -30,12 +30,12 @@ enum Asked {
     Delete(ObjectId),
 }
 
-fn command(asked: Asked) -> Command<Bytes> {
+fn command(asked: &Asked) -> Command<Bytes> {
     match asked {
-        Asked::Create(id, length) => Command::Create(id, Kind::Primary, length),
-        Asked::Seal(id) => Command::Seal(id),
-        Asked::Get(id) => Command::Get(id),
-        Asked::Delete(id) => Command::Delete(id),
+        Asked::Create(id, length) => Command::Create(*id, Kind::Primary, *length),
+        Asked::Seal(id) => Command::Seal(*id),
+        Asked::Get(id) => Command::Get(*id),
+        Asked::Delete(id) => Command::Delete(*id),
     }
 }
 
@@ -44,7 +44,7 @@ fn object(rt: &impl Abort, index: u32) -> ObjectId {
 }
 
 /// The answer, asked for once more if memory ran out.
-fn told<L: Ledger, R: Wait>(rt: &R, node: &SharedNode<L>, asked: Asked) -> Reply<Bytes> {
+fn told<L: Ledger, R: Wait>(rt: &R, node: &SharedNode<L>, asked: &Asked) -> Reply<Bytes> {
     let (reply, _) = node.call(rt, JOB, 1, command(asked));
     if matches!(&reply, Reply::Refused(Refusal::NoMemory)) {
         return node.call(rt, JOB, 1, command(asked)).0;
@@ -71,14 +71,14 @@ fn spill_the_first<L: Ledger, R: Wait + Abort, D: SpillDevice>(
     device: &mut D,
 ) {
     let (first, second) = (object(rt, 1), object(rt, 2));
-    holds!(rt; matches!(told(rt, node, Asked::Create(first, 32)), Reply::Placed(0, 32)));
-    holds!(rt; matches!(told(rt, node, Asked::Seal(first)), Reply::Ok));
-    holds!(rt; matches!(told(rt, node, Asked::Create(second, 16)), Reply::Refused(Refusal::Pending)));
+    holds!(rt; matches!(told(rt, node, &Asked::Create(first, 32)), Reply::Placed(0, 32)));
+    holds!(rt; matches!(told(rt, node, &Asked::Seal(first)), Reply::Ok));
+    holds!(rt; matches!(told(rt, node, &Asked::Create(second, 16)), Reply::Refused(Refusal::Pending)));
     same!(rt; worked(rt, node, device), WorkDone::Done);
-    holds!(rt; matches!(told(rt, node, Asked::Create(second, 16)), Reply::Refused(Refusal::DeviceFailed)));
-    holds!(rt; matches!(told(rt, node, Asked::Create(second, 16)), Reply::Refused(Refusal::Pending)));
+    holds!(rt; matches!(told(rt, node, &Asked::Create(second, 16)), Reply::Refused(Refusal::DeviceFailed)));
+    holds!(rt; matches!(told(rt, node, &Asked::Create(second, 16)), Reply::Refused(Refusal::Pending)));
     same!(rt; worked(rt, node, device), WorkDone::Done);
-    holds!(rt; matches!(told(rt, node, Asked::Create(second, 16)), Reply::Placed(0, 16)));
+    holds!(rt; matches!(told(rt, node, &Asked::Create(second, 16)), Reply::Placed(0, 16)));
 }
 
 /// The second object makes way, and the first comes back from the device.
@@ -88,10 +88,10 @@ fn restore_the_first<L: Ledger, R: Wait + Abort, D: SpillDevice>(
     device: &mut D,
 ) {
     let (first, second) = (object(rt, 1), object(rt, 2));
-    holds!(rt; matches!(told(rt, node, Asked::Delete(second)), Reply::Ok));
-    holds!(rt; matches!(told(rt, node, Asked::Get(first)), Reply::Refused(Refusal::Pending)));
+    holds!(rt; matches!(told(rt, node, &Asked::Delete(second)), Reply::Ok));
+    holds!(rt; matches!(told(rt, node, &Asked::Get(first)), Reply::Refused(Refusal::Pending)));
     same!(rt; worked(rt, node, device), WorkDone::Done);
-    holds!(rt; matches!(told(rt, node, Asked::Get(first)), Reply::Got(32)));
+    holds!(rt; matches!(told(rt, node, &Asked::Get(first)), Reply::Got(32)));
     same!(rt; worked(rt, node, device), WorkDone::Nothing);
 }
 
@@ -138,13 +138,13 @@ fn ask_for_deleted<L: Ledger, R: Wait + Abort>(rt: &R, cluster: &Cluster<L>) -> 
     let first = object(rt, 1);
     let node = cluster.node(0).expect(rt, "a node");
     admit_with(rt, node, ONE);
-    holds!(rt; matches!(told(rt, node, Asked::Create(first, 32)), Reply::Placed(0, 32)));
-    holds!(rt; matches!(told(rt, node, Asked::Seal(first)), Reply::Ok));
-    holds!(rt; matches!(told(rt, node, Asked::Delete(first)), Reply::Ok));
+    holds!(rt; matches!(told(rt, node, &Asked::Create(first, 32)), Reply::Placed(0, 32)));
+    holds!(rt; matches!(told(rt, node, &Asked::Seal(first)), Reply::Ok));
+    holds!(rt; matches!(told(rt, node, &Asked::Delete(first)), Reply::Ok));
     let node = cluster.node(1).expect(rt, "a node");
     admit_with(rt, node, ONE);
-    holds!(rt; matches!(told(rt, node, Asked::Get(first)), Reply::Refused(Refusal::Pending)));
-    told(rt, node, Asked::Get(first))
+    holds!(rt; matches!(told(rt, node, &Asked::Get(first)), Reply::Refused(Refusal::Pending)));
+    told(rt, node, &Asked::Get(first))
 }
 
 fn try_deleted<L: Ledger, R: Threads + Wait + Abort>(
