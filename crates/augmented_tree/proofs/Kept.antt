@@ -1,14 +1,14 @@
 -- What is known of a tree, and what a change below a node leaves.
-use Rattle.std.proofs.Common.{◌≡◌, ◌≢◌, ℕ, zero, suc, ◌+◌, ◌*◌, ◌^◌, ◌<◌, ◌≤◌, Bool, true, false, ◌||◌, List, [], ◌∷◌, ◌++◌, refl, sym, ap, subst, ◌∙◌, arith, Box}
+use Rattle.std.proofs.Common.{◌≡◌, ◌≢◌, ℕ, zero, suc, ◌+◌, ◌*◌, ◌^◌, ◌<◌, ◌≤◌, Bool, true, false, ◌||◌, List, [], ◌∷◌, ◌++◌, Option, refl, sym, ap, subst, ◌∙◌, arith, Box}
 use Rattle.std.specs.Prelude.{max, nat_lt, nat_eq, if◌then◌else◌}
 use Rattle.std.specs.declared.alloc.Global.{Global}
 use Rattle.std.proofs.lemmas.Bool.Decides.{nat_tests}
 use Rattle.augmented_tree.specs.declared.Node.{Node}
 use Rattle.augmented_tree.specs.declared.Tree.{Tree, Leaf, Fork'}
 use Rattle.augmented_tree.specs.declared.Tree.TheVariants.{Fork}
-use Rattle.augmented_tree.specs.Lists.{AllOf, IsRisingBy, put_item, take_item, has_item, change_item}
+use Rattle.augmented_tree.specs.Lists.{AllOf, IsRisingBy, put_item, take_item, has_item, find_item, change_item}
 use Rattle.augmented_tree.specs.Shape.{items, depth, middle, IsTold, IsTree}
-use Rattle.augmented_tree.proofs.Order.{all_both, all_front, all_back, all_put, all_taken, all_changed, all_map, all_above, rising_both, put_least, put_front, put_back, take_front, take_back, change_front, change_back, has_none_above, has_none_below, has_both}
+use Rattle.augmented_tree.proofs.Order.{all_both, all_front, all_back, all_put, all_taken, all_changed, all_map, all_above, rising_both, put_least, put_front, put_back, take_front, take_back, change_front, change_back, has_none_above, has_none_below, has_both, find_front, find_back}
 
 module _ {A S : Type 0} (key : A → ℕ) (fits : A → Type 0) (tells : S → List A → Type 0) where
   abbrev Kept : ℕ → ℕ → Tree A S → Type 0
@@ -264,6 +264,12 @@ module _ {A S : Type 0} (key : A → ℕ) (fits : A → Type 0) (tells : S → L
           let no = has_none_below key k (items l) (below k le) in
           let both = has_both key k (items l) (items r) in
           rw (test, both, no) is
+
+      pub find_left : (found : Option A) → k < middle low high → found ≡ find_item key k (items l) → found ≡ find_item key k (y ∷ rest)
+      find_left found lt is = let whole = find_front key k (items l) (items r) (above k lt) in rw (test, whole) is
+
+      pub find_right : (found : Option A) → middle low high ≤ k → found ≡ find_item key k (items r) → found ≡ find_item key k (y ∷ rest)
+      find_right found le is = let whole = find_back key k (items l) (items r) (below k le) in rw (test, whole) is
 
   -- a tree whose first node is n
   pub node_at : (low high : ℕ) (t : Tree A S) (b : Box (Node A S) Global) (n : Node A S) → t ≡ Fork b → n ≡ b.value → Kept low high t → NodeAt low high n.here n.summary n.left n.right

@@ -1,8 +1,8 @@
 -- Lists of items: parts, and what a change does to them.
-use Rattle.std.proofs.Common.{◌≡◌, ℕ, ◌<◌, ◌≤◌, true, false, ◌||◌, List, [], ◌∷◌, ◌++◌, refl, ap, ◌∙◌, arith}
+use Rattle.std.proofs.Common.{◌≡◌, ℕ, ◌<◌, ◌≤◌, true, false, ◌||◌, List, [], ◌∷◌, ◌++◌, Option, Some, None, is_some, refl, ap, ◌∙◌, arith}
 use Rattle.std.specs.Prelude.{nat_lt, nat_eq, if◌then◌else◌}
 use Rattle.std.proofs.lemmas.Bool.Decides.{nat_tests}
-use Rattle.augmented_tree.specs.Lists.{AllOf, IsRisingBy, put_item, take_item, has_item, change_item}
+use Rattle.augmented_tree.specs.Lists.{AllOf, IsRisingBy, put_item, take_item, has_item, find_item, change_item}
 
 module _ {A : Type 0} where
   module _ (P : A → Type 0) where
@@ -154,4 +154,28 @@ module _ {A : Type 0} (key : A → ℕ) where
   has_both k (z ∷ zs) ys = elim (nat_eq k (key z)) as (λ b. b || has_item key k (zs ++ ys) ≡ (b || has_item key k zs) || has_item key k ys) [
     | true ↦ refl
     | false ↦ has_both k zs ys
+  ]
+
+  pub find_back : (k : ℕ) (xs ys : List A) → AllOf (λ y. key y < k) xs → find_item key k (xs ++ ys) ≡ find_item key k ys
+  find_back k [] ys h = refl
+  find_back k (z ∷ zs) ys h =
+      let e : nat_eq k (key z) ≡ false = grind (arith, nat_tests, h.0) in
+      rw e (find_back k zs ys h.1)
+
+  find_none : (k : ℕ) (xs : List A) → AllOf (λ y. k < key y) xs → find_item key k xs ≡ None
+  find_none k [] h = refl
+  find_none k (z ∷ zs) h =
+      let e : nat_eq k (key z) ≡ false = grind (arith, nat_tests, h.0) in
+      rw e (find_none k zs h.1)
+
+  pub find_front : (k : ℕ) (xs ys : List A) → AllOf (λ y. k < key y) ys → find_item key k (xs ++ ys) ≡ find_item key k xs
+  find_front k [] ys h = find_none k ys h
+  find_front k (z ∷ zs) ys h = ap (λ (r : Option A). if nat_eq k (key z) then Some z else r) (find_front k zs ys h)
+
+  -- one is found if there is one
+  pub found_has : (k : ℕ) (xs : List A) → is_some (find_item key k xs) ≡ has_item key k xs
+  found_has k [] = refl
+  found_has k (z ∷ zs) = elim (nat_eq k (key z)) as (λ b. is_some (if b then Some z else find_item key k zs) ≡ b || has_item key k zs) [
+    | true ↦ refl
+    | false ↦ found_has k zs
   ]

@@ -1,5 +1,5 @@
 -- Lists of items by rising key.
-use Rattle.std.specs.Prelude.{ℕ, ◌<◌, Bool, false, ◌||◌, nat_lt, nat_eq, if◌then◌else◌, List, [], ◌∷◌}
+use Rattle.std.specs.Prelude.{ℕ, ◌<◌, Bool, false, ◌||◌, nat_lt, nat_eq, if◌then◌else◌, List, [], ◌∷◌, Option, Some, None}
 
 -- each item has P
 abbrev pub AllOf : {A : Type 0} → (A → Type 0) → List A → Type 0
@@ -25,6 +25,11 @@ take_item key k (y ∷ ys) = if nat_eq k (key y) then ys else y ∷ take_item ke
 abbrev pub has_item : {A : Type 0} → (A → ℕ) → ℕ → List A → Bool
 has_item key k [] = false
 has_item key k (y ∷ ys) = nat_eq k (key y) || has_item key k ys
+
+-- the item of a key, if there is one
+abbrev pub find_item : {A : Type 0} → (A → ℕ) → ℕ → List A → Option A
+find_item key k [] = None
+find_item key k (y ∷ ys) = if nat_eq k (key y) then Some y else find_item key k ys
 
 -- with the item of a key changed
 abbrev pub change_item : {A : Type 0} → (A → ℕ) → (A → A) → ℕ → List A → List A

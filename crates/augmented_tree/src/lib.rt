@@ -4,7 +4,7 @@
 #![tactic(auto)]
 
 ghost use Rattle.std.specs.Prelude.{◌≡◌, ℕ, ◌+◌, ◌^◌, ◌<◌, ◌≤◌, List, [], ◌∷◌, ◌++◌, nat_lt, if◌then◌else◌, IfSome, IfNone, is_some};
-ghost use Rattle.augmented_tree.specs.Lists.{put_item, take_item, has_item, change_item};
+ghost use Rattle.augmented_tree.specs.Lists.{put_item, take_item, has_item, find_item, change_item};
 ghost use Rattle.augmented_tree.specs.Shape.{items, middle as middle_of, IsTold, IsTree};
 
 use std::alloc::{AllocError, Global};
@@ -137,27 +137,36 @@ fn summary_with<T: Keyed<S>, S: Copy>(here: T, left: &Tree<T, S>, right: &Tree<T
     }
 }
 
+/// The item of a key, if there is one.
+pub fn find<T: Keyed<S>, S: Copy>(tree: &Tree<T, S>, key: u64, low: u64, high: u64) -> Option<T>
+    requires tree { IsTree T.key T.fits T.tells low high tree.now }
+    requires range { high < 2 ^ 63 }
+    ensures { result ≡ find_item T.key key (items tree.now) }
+{
+    match tree {
+        Tree::Leaf => None,
+        Tree::Fork(here) => {
+            let node = &**here;
+            if node.here.key() == key {
+                return Some(node.here);
+            }
+            let middle = middle(low, high);
+            if key < middle {
+                find(&node.left, key, low + 1, middle)
+            } else {
+                find(&node.right, key, middle, high)
+            }
+        }
+    }
+}
+
 /// Whether there is an item of a key.
 pub fn has<T: Keyed<S>, S: Copy>(tree: &Tree<T, S>, key: u64, low: u64, high: u64) -> bool
     requires tree { IsTree T.key T.fits T.tells low high tree.now }
     requires range { high < 2 ^ 63 }
     ensures { result ≡ has_item T.key key (items tree.now) }
 {
-    match tree {
-        Tree::Leaf => false,
-        Tree::Fork(here) => {
-            let node = &**here;
-            if node.here.key() == key {
-                return true;
-            }
-            let middle = middle(low, high);
-            if key < middle {
-                has(&node.left, key, low + 1, middle)
-            } else {
-                has(&node.right, key, middle, high)
-            }
-        }
-    }
+    find(tree, key, low, high).is_some()
 }
 
 /// The two by rising key.
