@@ -1,79 +1,83 @@
--- What stays of a list where extents go besides.
-use Rattle.std.proofs.Common.{◌≡◌, ℕ, suc, ◌<◌, ◌≤◌, Bool, true, false, ◌||◌, List, [], ◌∷◌, ◌++◌, All, length, refl, ap, ◌∙◌, arith}
-use Rattle.std.specs.Prelude.{not, nat_lt, nat_eq}
+-- What stays of a list where extents go besides, and where one is marked as going.
+use Rattle.std.proofs.Common.{◌≡◌, ℕ, ◌<◌, Bool, true, false, ◌||◌, List, [], ◌∷◌, Option, Some, None, refl, sym, ap, subst, ◌∙◌, arith}
+use Rattle.std.specs.Prelude.{not, nat_eq, if◌then◌else◌, map, filter}
 use Rattle.std.specs.List.{list_any}
+use Rattle.std.specs.Option.{option_map}
 use Rattle.std.proofs.lemmas.Bool.Decides.{nat_tests}
-use Rattle.std.proofs.lemmas.List.Elements.{filter-append}
-use Rattle.std.proofs.lemmas.List.Folds.{list_any-append}
-use Rattle.augmented_tree.specs.Lists.{AllOf}
+use Rattle.augmented_tree.specs.Lists.{AllOf, find_item, change_item}
 use Rattle.obj_id.specs.declared.works.Extent.{Extent}
 use Rattle.use_tree.specs.declared.choices.Choice.{Choice}
+use Rattle.use_tree.specs.declared.choices.Choices.{Choices}
 use Rattle.extent_tree.specs.declared.residents.Resident.{Resident}
-use Rattle.extent_tree.specs.Residents.{staying, remaining, joined, span_of}
-use Rattle.extent_tree.proofs.Parts.{stay_both}
-
-abbrev begins : ℕ → List Extent → Bool
-begins o es = list_any (λ e. nat_eq e.offset o) es
-
-none_before : (o : ℕ) (es : List Extent) → All (λ e. e.offset < o) es → begins o es ≡ false
-none_before o [] h = refl
-none_before o (e ∷ es) h =
-    let first = h 0 e (omega arith) in
-    let t : nat_eq e.offset o ≡ false = grind (arith, nat_tests, first) in
-    rw t (none_before o es (λ k d lt. h (suc k) d (omega (arith, lt))))
-
-none_after : (o : ℕ) (es : List Extent) → All (λ e. o < e.offset) es → begins o es ≡ false
-none_after o [] h = refl
-none_after o (e ∷ es) h =
-    let first = h 0 e (omega arith) in
-    let t : nat_eq e.offset o ≡ false = grind (arith, nat_tests, first) in
-    rw t (none_after o es (λ k d lt. h (suc k) d (omega (arith, lt))))
-
--- only those on the same side of m count
-begins_before : (m o : ℕ) (a b : List Extent) → o < m → All (λ e. m ≤ e.offset) b → begins o (a ++ b) ≡ begins o a
-begins_before m o a b lt h =
-    let none = none_after o b (λ k d in_b. omega (arith, lt, h k d in_b)) in
-    list_any-append (λ (e : Extent). nat_eq e.offset o) a b ∙ ap (λ c. begins o a || c) none ∙ or_false (begins o a)
-  where
-    or_false : (c : Bool) → c || false ≡ c
-    or_false true = refl
-    or_false false = refl
-
-begins_after : (m o : ℕ) (a b : List Extent) → m ≤ o → All (λ e. e.offset < m) a → begins o (a ++ b) ≡ begins o b
-begins_after m o a b le h =
-    let none = none_before o a (λ k d in_a. omega (arith, le, h k d in_a)) in
-    list_any-append (λ (e : Extent). nat_eq e.offset o) a b ∙ ap (λ c. c || begins o b) none
-
-pub remaining_before : (m : ℕ) (a b : List Extent) (xs : List Resident) → All (λ e. m ≤ e.offset) b → AllOf (λ x. x.extent.offset < m) xs → remaining (a ++ b) xs ≡ remaining a xs
-remaining_before m a b [] h low = refl
-remaining_before m a b (x ∷ xs) h low =
-    let e = begins_before m x.extent.offset a b low.0 h in
-    rw (e, remaining_before m a b xs h low.1) refl
-
-pub remaining_after : (m : ℕ) (a b : List Extent) (xs : List Resident) → All (λ e. e.offset < m) a → AllOf (λ x. m ≤ x.extent.offset) xs → remaining (a ++ b) xs ≡ remaining b xs
-remaining_after m a b [] h high = refl
-remaining_after m a b (x ∷ xs) h high =
-    let e = begins_after m x.extent.offset a b high.0 h in
-    rw (e, remaining_after m a b xs h high.1) refl
+use Rattle.extent_tree.specs.Residents.{offset_of, with_choices, IsRising, goes, staying, remaining, choose_resident, choices_at}
 
 -- none goes besides
 pub remaining_all : (xs : List Resident) → remaining [] xs ≡ xs
 remaining_all [] = refl
 remaining_all (x ∷ xs) = ap (λ (zs : List Resident). x ∷ zs) (remaining_all xs)
 
-remaining_both : (g : List Extent) (xs ys : List Resident) → remaining g (xs ++ ys) ≡ remaining g xs ++ remaining g ys
-remaining_both g xs ys = filter-append (λ (x : Resident). not (begins x.extent.offset g)) xs ys
+-- those after an offset are none that begins there
+remaining_after : (e : Extent) (gone : List Extent) (xs : List Resident) → AllOf (λ x. e.offset < x.extent.offset) xs → remaining (e ∷ gone) xs ≡ remaining gone xs
+remaining_after e gone [] h = refl
+remaining_after e gone (x ∷ xs) h =
+    let t : nat_eq e.offset x.extent.offset ≡ false = grind (arith, nat_tests, h.0) in
+    rw (t, remaining_after e gone xs h.1) refl
 
--- one part after another
-pub span_parts : (k : Choice) (g : List Extent) (xs ys : List Resident) → span_of (staying k (remaining g (xs ++ ys))) ≡ joined (span_of (staying k (remaining g xs))) (span_of (staying k (remaining g ys)))
-span_parts k g xs ys = ap (λ (zs : List Resident). span_of (staying k zs)) (remaining_both g xs ys) ∙ stay_both k (remaining g xs) (remaining g ys)
+module _ (k : Choice) (e : Extent) (m : Choices) (marked : goes k m ≡ true) (gone : List Extent) where
+  -- whether an extent at an offset goes besides
+  abbrev gone_at : ℕ → Bool
+  gone_at o = list_any (λ (g : Extent). nat_eq g.offset o) gone
 
-pub less : (a o : ℕ) → nat_lt a o ≡ true → a < o
-less a o t = grind (arith, nat_tests, t)
+  -- one that is marked as going goes, as if its extent went
+  pub staying_marked : (xs : List Resident) → IsRising xs → staying k (remaining gone (choose_resident e.offset m xs)) ≡ staying k (remaining (e ∷ gone) xs)
+  staying_marked [] rising = refl
+  staying_marked (x ∷ xs) rising = by (staying_marked xs rising.1) (nat_eq e.offset x.extent.offset) refl
+    where
+      -- the marked one itself
+      leaves : (b : Bool) → staying k (if b then with_choices m x ∷ remaining gone xs else remaining gone xs) ≡ staying k (remaining gone xs)
+      leaves true = rw marked refl
+      leaves false = refl
 
-pub not_less : (a o : ℕ) → nat_lt a o ≡ false → o ≤ a
-not_less a o t = grind (arith, nat_tests, t)
+      by : staying k (remaining gone (choose_resident e.offset m xs)) ≡ staying k (remaining (e ∷ gone) xs) → (b : Bool) → nat_eq e.offset x.extent.offset ≡ b
+          → staying k (remaining gone (choose_resident e.offset m (x ∷ xs))) ≡ staying k (remaining (e ∷ gone) (x ∷ xs))
+      by rest true t =
+          let same : e.offset ≡ x.extent.offset = grind (arith, nat_tests, t) in
+          let others = remaining_after e gone xs (later same) in
+          rw t (leaves (not (gone_at x.extent.offset)) ∙ sym (ap (staying k) others))
+        where
+          later : e.offset ≡ x.extent.offset → AllOf (λ y. e.offset < y.extent.offset) xs
+          later same = subst (λ o. AllOf (λ y. o < y.extent.offset) xs) (sym same) rising.0
+      by rest false t = rw t (on (not (gone_at x.extent.offset)))
+        where
+          on : (b : Bool) → map (λ y. y.extent) (filter (λ y. not (goes k y.choices)) (if b then x ∷ remaining gone (choose_resident e.offset m xs) else remaining gone (choose_resident e.offset m xs)))
+              ≡ map (λ y. y.extent) (filter (λ y. not (goes k y.choices)) (if b then x ∷ remaining (e ∷ gone) xs else remaining (e ∷ gone) xs))
+          on true = elim (goes k x.choices) as (λ c. map (λ y. y.extent) (if not c then x ∷ filter (λ y. not (goes k y.choices)) (remaining gone (choose_resident e.offset m xs)) else filter (λ y. not (goes k y.choices)) (remaining gone (choose_resident e.offset m xs)))
+              ≡ map (λ y. y.extent) (if not c then x ∷ filter (λ y. not (goes k y.choices)) (remaining (e ∷ gone) xs) else filter (λ y. not (goes k y.choices)) (remaining (e ∷ gone) xs))) [
+                | true ↦ rest
+                | false ↦ ap (λ es. x.extent ∷ es) rest
+              ]
+          on false = rest
 
-pub none_of : (es : List Extent) → nat_eq (length es) 0 ≡ true → es ≡ []
-none_of [] h = refl
-none_of (e ∷ es) h = absurd (grind (arith, nat_tests, h))
+-- a mark that is taken back leaves all as it was
+pub choices_back : (o : ℕ) (m c : Choices) (xs : List Resident) → choices_at o xs ≡ Some c → choose_resident o c (choose_resident o m xs) ≡ xs
+choices_back o m c [] h = absurd cc
+choices_back o m c (x ∷ xs) h = by (choices_back o m c xs) (nat_eq o x.extent.offset) refl h
+  where
+    by : (choices_at o xs ≡ Some c → choose_resident o c (choose_resident o m xs) ≡ xs) → (b : Bool) → nat_eq o x.extent.offset ≡ b
+        → option_map (λ (y : Resident). y.choices) (if b then Some x else find_item offset_of o xs) ≡ Some c → choose_resident o c (choose_resident o m (x ∷ xs)) ≡ x ∷ xs
+    by rest true t h = rw (t, t) (λ i. record x { choices = some_of (sym h i) } ∷ xs)
+      where
+        some_of : Option Choices → Choices
+        some_of None = c
+        some_of (Some d) = d
+    by rest false t h = rw (t, t) (ap (λ ys. x ∷ ys) (rest h))
+
+-- nothing is marked where nothing begins
+pub choose_none : (o : ℕ) (m : Choices) (xs : List Resident) → choices_at o xs ≡ None → choose_resident o m xs ≡ xs
+choose_none o m [] h = refl
+choose_none o m (x ∷ xs) h = by (choose_none o m xs) (nat_eq o x.extent.offset) refl h
+  where
+    by : (choices_at o xs ≡ None → choose_resident o m xs ≡ xs) → (b : Bool) → nat_eq o x.extent.offset ≡ b
+        → option_map (λ (y : Resident). y.choices) (if b then Some x else find_item offset_of o xs) ≡ None → choose_resident o m (x ∷ xs) ≡ x ∷ xs
+    by rest true t h = absurd cc
+    by rest false t h = rw t (ap (λ ys. x ∷ ys) (rest h))

@@ -1,7 +1,8 @@
 -- Lists of resident copies' extents by rising offset, and the gaps between those that stay.
 use Rattle.std.specs.Prelude.{◌≡◌, ℕ, ◌+◌, ◌-◌, ◌<◌, Bool, not, ◌||◌, nat_le, nat_eq, max, List, [], ◌∷◌, map, filter, Option, Some, None}
 use Rattle.std.specs.List.{list_any}
-use Rattle.augmented_tree.specs.Lists.{IsRisingBy, put_item, take_item, has_item, change_item}
+use Rattle.std.specs.Option.{option_map}
+use Rattle.augmented_tree.specs.Lists.{IsRisingBy, put_item, take_item, has_item, find_item, change_item}
 use Rattle.obj_id.specs.declared.works.Extent.{Extent}
 use Rattle.use_tree.specs.declared.choices.Choice.{Choice}
 use Rattle.use_tree.specs.declared.choices.Choice.TheVariants.{Evictable, Passing, Spillable}
@@ -35,6 +36,10 @@ take_resident = take_item offset_of
 -- whether there is one at an offset
 abbrev pub has_resident : ℕ → List Resident → Bool
 has_resident = has_item offset_of
+
+-- the walks that choose the one at an offset
+abbrev pub choices_at : ℕ → List Resident → Option Choices
+choices_at o xs = option_map (λ x. x.choices) (find_item offset_of o xs)
 
 -- with these walks for the one at an offset
 abbrev pub choose_resident : ℕ → Choices → List Resident → List Resident

@@ -1,16 +1,10 @@
 //! Resident extents in a tree by offset, each node of which knows the spans of its own extent and all below.
-ghost use Rattle.std.specs.Prelude.{◌≡◌, ◌^◌, ◌<◌, ◌≤◌, List, [], ◌∷◌, ◌++◌, ◌&&◌, not, true, false, All, nat_lt, nat_eq, is_some};
-ghost use Rattle.std.specs.List.{list_any};
-ghost use Rattle.std.specs.List.Sorted.{IsNonDecreasingBy};
+ghost use Rattle.std.specs.Prelude.{◌≡◌, ◌^◌, ◌<◌, [], ◌&&◌, not, true, false, nat_lt, is_some};
 ghost use Rattle.augmented_tree.specs.Lists.{AllOf};
-ghost use Rattle.augmented_tree.specs.Shape.{items, IsTree};
-ghost use Rattle.obj_id.specs.declared.works.Extent.{Extent};
-ghost use Rattle.use_tree.specs.declared.choices.Choice.{Choice};
-ghost use Rattle.extent_tree.specs.declared.residents.Resident.{Resident};
-ghost use Rattle.extent_tree.specs.Residents.{offset_of, with_choices, Fits, AreOf, IsRising, put_resident, take_resident, has_resident, choose_resident, staying, remaining, span_of};
+ghost use Rattle.extent_tree.specs.Residents.{offset_of, with_choices, Fits, AreOf, IsRising, put_resident, take_resident, has_resident, choose_resident, choices_at, staying, span_of};
 
-use crate::spans::{Span, Spans, joined, span_of_one};
-use augmented_tree::{Keyed, Marked, Tree, middle, summary};
+use crate::spans::{Span, Spans};
+use augmented_tree::{Keyed, Marked, Tree, summary};
 use obj_id::Extent;
 use std::alloc::{AllocError, Global};
 use std::marker::Model;
@@ -188,72 +182,12 @@ impl Residents {
         summary(&self.tree).at(choice)
     }
 
-    /// The span of the extents that stay if these go besides. They are given by rising offset; those that aren't there count
-    /// for nothing. Looks at the nodes on the way to each of them.
-    pub fn span_without(&self, choice: Choice, gone: &[Extent]) -> Option<Span>
-        requires { IsNonDecreasingBy (λ (e : Extent). e.offset) gone.now }
+    /// The walks that choose the copy at an offset, if one begins there.
+    pub fn choices(&self, offset: u64) -> Option<Choices>
         ensures rising { IsRising self.now }
-        ensures span { result ≡ span_of (staying choice (remaining gone.now self.now)) }
+        ensures choices { result ≡ choices_at offset self.now }
     {
-        span_without(&self.tree, choice, gone, 0, END)
+        let resident = augmented_tree::find(&self.tree, offset, 0, END)?;
+        Some(resident.choices)
     }
-}
-
-/// The span of the extents that stay if these go besides. Looks at no node below which none of them may lie.
-fn span_without(
-    tree: &Tree<Resident, Spans>,
-    choice: Choice,
-    gone: &[Extent],
-    low: u64,
-    high: u64,
-) -> Option<Span>
-    requires tree { IsTree offset_of Fits AreOf low high tree.now }
-    requires gone { IsNonDecreasingBy (λ (e : Extent). e.offset) gone.now }
-    requires range { high < 2 ^ 31 }
-    ensures { result ≡ span_of (staying choice (remaining gone.now (items tree.now))) }
-{
-    if gone.is_empty() {
-        return summary(tree).at(choice);
-    }
-    match tree {
-        Tree::Leaf => None,
-        Tree::Fork(here) => {
-            let node = &**here;
-            let middle = middle(low, high);
-            let (before, after) = parted(gone, middle);
-            let left = span_without(&node.left, choice, before, low + 1, middle);
-            let right = span_without(&node.right, choice, after, middle, high);
-            let first = own_span(node.here, choice, gone);
-            joined(first, joined(left, right))
-        }
-    }
-}
-
-/// The extents before an offset, and those from it on.
-fn parted(extents: &[Extent], offset: u64) -> (&[Extent], &[Extent])
-    requires { IsNonDecreasingBy (λ (e : Extent). e.offset) extents.now }
-    ensures whole { result.0.now ++ result.1.now ≡ extents.now }
-    ensures rising { IsNonDecreasingBy (λ (e : Extent). e.offset) result.0.now × IsNonDecreasingBy (λ (e : Extent). e.offset) result.1.now }
-    ensures before { All (λ e. e.offset < offset) result.0.now }
-    ensures after { All (λ e. offset ≤ e.offset) result.1.now }
-{
-    extents.split_at(extents.partition_point(|e| e.offset < offset))
-}
-
-/// The span of one extent, if its copy stays.
-fn own_span(here: Resident, choice: Choice, gone: &[Extent]) -> Option<Span>
-    requires { Fits here }
-    ensures { result ≡ span_of (staying choice (remaining gone.now (here ∷ []))) }
-{
-    if begins_at(gone, here.extent.offset) {
-        return None;
-    }
-    span_of_one(choice, here)
-}
-
-/// Whether any of the extents begins at an offset.
-fn begins_at(extents: &[Extent], offset: u64) -> bool
-    ensures { result ≡ list_any (λ e. nat_eq e.offset offset) extents.now }
-{
-    extents.iter().any(|extent| extent.offset == offset)
 }

@@ -1,7 +1,10 @@
 use Rattle.std.proofs.Common.{subst}
 use Rattle.extent_tree.specs.Residents.{offset_of, Fits, AreOf, IsRising}
 use Rattle.augmented_tree.proofs.Kept.{rises}
-use Rattle.extent_tree.proofs.residents.Residents.span_without.Goals as goal
+use Rattle.extent_tree.proofs.residents.Residents.choices.Goals as goal
+
+pub returns-in_err-resident-clause-rising : goal.returns-in_err-resident-clause-rising
+returns-in_err-resident-clause-rising c = subst IsRising c.self.view_is (rises offset_of Fits AreOf 0 536870912 c.self.inside.tree c.self.invariant)
 
 pub returns-clause-rising : goal.returns-clause-rising
 returns-clause-rising c = subst IsRising c.self.view_is (rises offset_of Fits AreOf 0 536870912 c.self.inside.tree c.self.invariant)
