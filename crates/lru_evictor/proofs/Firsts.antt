@@ -9,12 +9,11 @@ use Rattle.std.proofs.lemmas.List.Sorted.{list_any-IsPermutation}
 use Rattle.std.proofs.lemmas.List.Kept.{IsNonDecreasingBy-filter}
 use Rattle.obj_id.specs.declared.ids.ObjectId.{ObjectId}
 use Rattle.obj_id.specs.declared.works.Extent.{Extent}
-use Rattle.lru_evictor.specs.declared.area.Area.{Area}
+use Rattle.job_region.specs.Region.{Region}
 use Rattle.lru_evictor.specs.declared.search.Leaving.{Leaving}
-use Rattle.lru_evictor.specs.Facts.{Looked, extent_at, gone_of}
-use Rattle.lru_evictor.specs.Areas.{fits_without}
+use Rattle.lru_evictor.specs.Facts.{Looked, extent_at, gone_of, fits_without}
 use Rattle.lru_evictor.specs.Leavings.{leaving_at, leaving_of, firsts, fits_first}
-use Rattle.lru_evictor.proofs.Free.{goes, fits_in-same}
+use Rattle.lru_evictor.proofs.Free.{goes, first_in-same}
 
 -- whether it is among the first k, and begins there
 abbrev goes_first : ℕ → ℕ → Leaving → Bool
@@ -53,9 +52,9 @@ module _ (facts : Looked) (k offset : ℕ) where
           ∙ ap (λ b. nat_eq e.offset offset || b) on
 
 -- a test of the first k of the sorted extents is one of the first k ids
-pub fits-first : (area : Area) (facts : Looked) (n : ℕ) (ids : List ObjectId) (leaving : List Leaving) → IsPermutation (leaving_of facts 0 ids) leaving
-    → (k : ℕ) → fits_first area n leaving k ≡ fits_without area facts n (take k ids)
-fits-first area facts n ids leaving moved k = fits_in-same area n (firsts k leaving) (gone_of facts (take k ids)) same
+pub fits-first : (window : Region) (facts : Looked) (n : ℕ) (ids : List ObjectId) (leaving : List Leaving) → IsPermutation (leaving_of facts 0 ids) leaving
+    → (k : ℕ) → fits_first window n leaving k ≡ fits_without window facts n (take k ids)
+fits-first window facts n ids leaving moved k = first_in-same window n (firsts k leaving) (gone_of facts (take k ids)) same
   where
     same : (offset : ℕ) → goes (firsts k leaving) offset ≡ goes (gone_of facts (take k ids)) offset
     same offset =
@@ -64,11 +63,11 @@ fits-first area facts n ids leaving moved k = fits_in-same area n (firsts k leav
         ∙ first-any facts k offset k 0 ids (omega arith)
 
 -- and a test of them all is one of all ids
-pub fits-all : (area : Area) (facts : Looked) (n : ℕ) (ids : List ObjectId) (leaving : List Leaving) → IsPermutation (leaving_of facts 0 ids) leaving
-    → (fits : Bool) → fits ≡ fits_first area n leaving (length ids) → fits_without area facts n ids ≡ fits
-fits-all area facts n ids leaving moved fits is =
+pub fits-all : (window : Region) (facts : Looked) (n : ℕ) (ids : List ObjectId) (leaving : List Leaving) → IsPermutation (leaving_of facts 0 ids) leaving
+    → (fits : Bool) → fits ≡ fits_first window n leaving (length ids) → fits_without window facts n ids ≡ fits
+fits-all window facts n ids leaving moved fits is =
     let whole : take (length ids) ids ≡ ids = take_all (length ids) ids (omega arith) in
-    sym (is ∙ fits-first area facts n ids leaving moved (length ids) ∙ ap (fits_without area facts n) whole)
+    sym (is ∙ fits-first window facts n ids leaving moved (length ids) ∙ ap (fits_without window facts n) whole)
 
 -- picked out, they rise as all do
 get-extent : (i : ℕ) (leaving : List Leaving) (d : Leaving) → get_or (map (λ (l : Leaving). l.extent) leaving) i d.extent ≡ (get_or leaving i d).extent

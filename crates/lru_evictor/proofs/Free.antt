@@ -11,12 +11,6 @@ use Rattle.obj_id.specs.declared.works.Extent.{Extent}
 use Rattle.std.specs.Option.{option_and_then}
 use Rattle.private_store.specs.Extents.{rounded, end_of, is_apart, is_free, first, first_from}
 use Rattle.job_region.specs.Region.{Region, extents_of, without}
-use Rattle.use_tree.specs.declared.choices.Choice.TheVariants.{Passing}
-use Rattle.extent_tree.specs.declared.residents.Resident.{Resident}
-use Rattle.extent_tree.specs.Residents.{staying, remaining, span_of, has_gap}
-use Rattle.lru_evictor.specs.declared.area.Area.{Area}
-use Rattle.lru_evictor.specs.declared.area.Area.TheVariants.{Window, Staying}
-use Rattle.lru_evictor.specs.Areas.{fits_in}
 use Rattle.lru_evictor.specs.Facts.{Looked, gone_of, fits_without}
 use Rattle.lru_evictor.proofs.Truths.{each}
 
@@ -33,15 +27,10 @@ without-same gone other h (p ∷ ps) = λ i. cond (not (h p.0 i)) (p ∷ without
 pub without-permuted : (gone sorted : List Extent) (placed : List (ℕ × List ℕ)) → IsPermutation gone sorted → without sorted placed ≡ without gone placed
 without-permuted gone sorted placed moved = without-same sorted gone (λ offset. sym (list_any-IsPermutation (λ (g : Extent). nat_eq g.offset offset) gone sorted moved)) placed
 
--- only where extents begin that go decides which residents remain
-pub remaining-same : (gone other : List Extent) → ((offset : ℕ) → goes gone offset ≡ goes other offset) → (residents : List Resident) → remaining gone residents ≡ remaining other residents
-remaining-same gone other h [] = refl
-remaining-same gone other h (x ∷ xs) = λ i. cond (not (h x.extent.offset i)) (x ∷ remaining-same gone other h xs i) (remaining-same gone other h xs i)
-
--- and so, in either area, whether bytes fit
-pub fits_in-same : (area : Area) (n : ℕ) (gone other : List Extent) → ((offset : ℕ) → goes gone offset ≡ goes other offset) → fits_in area n gone ≡ fits_in area n other
-fits_in-same (Window w) n gone other h = ap (λ ps. is_some (first (extents_of ps) w.now.quota n)) (without-same gone other h w.now.placed)
-fits_in-same (Staying residents quota) n gone other h = ap (λ xs. has_gap quota (rounded n) (span_of (staying Passing xs))) (remaining-same gone other h residents.now)
+-- and so whether bytes fit
+pub first_in-same : (window : Region) (n : ℕ) (gone other : List Extent) → ((offset : ℕ) → goes gone offset ≡ goes other offset)
+    → is_some (first (extents_of (without gone window.placed)) window.quota n) ≡ is_some (first (extents_of (without other window.placed)) window.quota n)
+first_in-same window n gone other h = ap (λ ps. is_some (first (extents_of ps) window.quota n)) (without-same gone other h window.placed)
 
 -- what passes a test of what is left
 pub all-left : (test : Extent → Bool) (gone : List Extent) (placed : List (ℕ × List ℕ)) → list_all test (extents_of (without gone placed)) ≡ list_all (λ e. goes gone e.offset || test e) (extents_of placed)

@@ -7,10 +7,13 @@ pub mod Spread
 pub mod Gaps
 pub mod Shortest
 pub mod Needed
+pub mod Spills
+pub mod Counted
 pub mod Described
 pub mod Agreeing
 pub mod Planned
 pub mod Rooms
 pub mod Firsts
 pub mod Uses
+pub mod Turning
 pub mod Crossing

@@ -1,22 +1,16 @@
 -- How many have to go.
-use Rattle.std.proofs.Common.{◌≡◌, ℕ, ◌-◌, ◌≤◌, Bool, true, false, List, [], ◌∷◌, ◌++◌, take, drop, length, Option, Some, None, refl, sym, ap, ◌∙◌, arith, cond, append_assoc, length-append, append-nil, Bor}
+use Rattle.std.proofs.Common.{◌≡◌, ℕ, ◌-◌, ◌≤◌, Bool, true, false, List, [], ◌∷◌, ◌++◌, take, drop, length, Option, Some, None, refl, sym, ap, ◌∙◌, arith, cond, append_assoc, length-append, append-nil}
 use Rattle.std.specs.Prelude.{IfSome, IfNone}
 use Rattle.std.specs.Option.{option_map}
 use Rattle.std.proofs.lemmas.List.{take-append-drop, take-take, take_all, take-append-le}
 use Rattle.obj_id.specs.declared.ids.ObjectId.{ObjectId}
-use Rattle.job_region.specs.declared.Window.{Window as JobWindow}
+use Rattle.job_region.specs.Region.{Region}
 use Rattle.private_store.specs.Room.{shortest}
 use Rattle.use_tree.specs.declared.choices.Choice.{Choice}
-use Rattle.lru_evictor.specs.declared.area.Area.{Area}
-use Rattle.lru_evictor.specs.declared.area.Area.TheVariants.{Window}
-use Rattle.lru_evictor.specs.Areas.{fits_without, AreEnough, AreMore}
-use Rattle.lru_evictor.specs.Facts.{Looked, passes_at, chosen}
+use Rattle.lru_evictor.specs.Searches.{AreEnough, AreMore}
+use Rattle.lru_evictor.specs.Facts.{Looked, passes_at, chosen, fits_without}
 use Rattle.lru_evictor.proofs.Free.{fits-more}
 use Rattle.lru_evictor.proofs.Shortest.{shortest-found, shortest-none}
-
--- in the window as it is, what is enough with some is enough with more of them
-pub window-more : (window : Bor JobWindow) (facts : Looked) (n : ℕ) → AreMore (fits_without (Window window) facts n)
-window-more window facts n = fits-more window.now facts n
 
 -- none at all are enough
 pub found_at_once : (test : List ObjectId → Bool) (all : List ObjectId) (fits : Bool) → fits ≡ test [] → fits ≡ true → Some [] ≡ shortest test all
@@ -69,11 +63,11 @@ pub too_few : (test : List ObjectId → Bool) → AreMore test → (all : List O
 too_few test more all bad = found_none test more all [] all (append-nil all) refl bad
 
 -- what the last test says, when the walk is at its end
-pub found-last : (area : Area) (facts : Looked) (n : ℕ) → AreMore (fits_without area facts n) → (ids rest all : List ObjectId) → ids ++ rest ≡ all → rest ≡ []
-    → (r : Option ℕ) → IfSome r (AreEnough area facts n ids) → IfNone r (fits_without area facts n ids ≡ false)
-    → option_map (λ k. take k ids) r ≡ shortest (fits_without area facts n) all
-found-last area facts n more ids rest all whole done None some none = found_none (fits_without area facts n) more ids rest all whole done none
-found-last area facts n more ids rest all whole done (Some k) some none = found_here (fits_without area facts n) more ids rest all whole k some.within some.enough some.fewer
+pub found-last : (window : Region) (facts : Looked) (n : ℕ) (ids rest all : List ObjectId) → ids ++ rest ≡ all → rest ≡ []
+    → (r : Option ℕ) → IfSome r (AreEnough window facts n ids) → IfNone r (fits_without window facts n ids ≡ false)
+    → option_map (λ k. take k ids) r ≡ shortest (fits_without window facts n) all
+found-last window facts n ids rest all whole done None some none = found_none (fits_without window facts n) (fits-more window facts n) ids rest all whole done none
+found-last window facts n ids rest all whole done (Some k) some none = found_here (fits_without window facts n) (fits-more window facts n) ids rest all whole k some.within some.enough some.fewer
 
 -- one more is chosen
 pub whole-pushed : (facts : Looked) (choice : Choice) (ids new : List ObjectId) (id : ObjectId) → new ≡ ids ++ id ∷ [] → (left next all : List ObjectId) → left ≡ id ∷ next → true ≡ passes_at facts choice id

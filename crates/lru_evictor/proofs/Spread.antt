@@ -1,5 +1,5 @@
 -- Where the copies of an order lie, after a change of one of them.
-use Rattle.std.proofs.Common.{◌≡◌, ◌≢◌, ℕ, Bool, true, false, not, ◌||◌, List, [], ◌∷◌, Option, Some, None, refl, sym, ap, subst, ◌∙◌, arith, cond}
+use Rattle.std.proofs.Common.{◌≡◌, ◌≢◌, ℕ, Bool, true, false, not, ◌&&◌, ◌||◌, List, [], ◌∷◌, Option, Some, None, refl, sym, ap, subst, ◌∙◌, arith, cond}
 use Rattle.std.specs.Prelude.{nat_eq}
 use Rattle.std.specs.Map.{lookup, remove_entry, set_value}
 use Rattle.std.specs.Option.{option_map_or}
@@ -10,7 +10,8 @@ use Rattle.obj_id.specs.Ids.{id_eq}
 use Rattle.use_tree.specs.declared.choices.Choices.{Choices}
 use Rattle.extent_tree.specs.declared.residents.Resident.{Resident}
 use Rattle.extent_tree.specs.Residents.{IsRising, put_resident, take_resident, has_resident, choose_resident}
-use Rattle.lru_evictor.proofs.Truths.{some_is}
+use Rattle.lru_evictor.specs.Orders.{same_extent, may_stand}
+use Rattle.lru_evictor.proofs.Truths.{some_is, each}
 use Rattle.lru_evictor.proofs.Lists.{rising-put, has-put, has-choose, take-put, take-put_other, choose-put, choose-put_other, put-put}
 use Rattle.lru_evictor.specs.declared.facts.Standing.{Standing}
 use Rattle.lru_evictor.specs.declared.index.Place.{Place}
@@ -395,3 +396,33 @@ module _ (before after : Standing) (old new : List Resident) where
     where
       here : after ≡ lying e after.choices
       here = λ i. record { extent = is i; choices = after.choices }
+
+-- ---- what may be said of a copy
+
+same_extent-itself : (o : Option Extent) → same_extent o o ≡ true
+same_extent-itself None = refl
+same_extent-itself (Some e) =
+    let at : nat_eq e.offset e.offset ≡ true = grind (arith, nat_tests) in
+    let long : nat_eq e.length e.length ≡ true = grind (arith, nat_tests) in
+    (λ i. at i && long i)
+
+-- that it lies where it lay
+pub may-stay : (o : Option Extent) → may_stand o o ≡ true
+may-stay o = ap (λ b. same_extent o None || b) (same_extent-itself o) ∙ or_true (same_extent o None)
+  where
+    or_true : (a : Bool) → a || true ≡ true
+    or_true true = refl
+    or_true false = refl
+
+-- nothing comes to lie anywhere
+pub may-nowhere : (o : Option Extent) → may_stand None o ≡ true → o ≡ None
+may-nowhere None h = refl
+may-nowhere (Some e) h = cc
+
+-- or elsewhere
+pub may-there : (a b : Extent) → may_stand (Some a) (Some b) ≡ true → a ≡ b
+may-there a b h =
+    let both = each (nat_eq a.offset b.offset) (nat_eq a.length b.length) h in
+    let at : a.offset ≡ b.offset = grind (arith, nat_tests, both.0) in
+    let long : a.length ≡ b.length = grind (arith, nat_tests, both.1) in
+    λ i. record { offset = at i; length = long i }

@@ -1,5 +1,5 @@
 -- What the uses of copies say of the copies' entries, the most recently used first.
-use Rattle.std.proofs.Common.{◌≡◌, ℕ, ◌-◌, ◌<◌, ◌≤◌, Bool, is_some, length, take, true, false, ◌&&◌, List, [], ◌∷◌, ◌++◌, Option, Some, None, refl, sym, ap, subst, ◌∙◌, arith, cond, map, filter, reverse}
+use Rattle.std.proofs.Common.{◌≡◌, ℕ, suc, ◌-◌, ◌<◌, ◌≤◌, not, Bool, is_some, length, take, true, false, ◌&&◌, ◌||◌, List, [], ◌∷◌, ◌++◌, Option, Some, None, refl, sym, ap, subst, ◌∙◌, arith, cond, map, filter, reverse}
 use Rattle.std.specs.Prelude.{nat_lt, nat_eq, if◌then◌else◌}
 use Rattle.std.specs.Map.{keys_of, lookup, lookup_entry, remove_entry, set_value}
 use Rattle.std.specs.Option.{option_map_or}
@@ -7,7 +7,7 @@ use Rattle.augmented_tree.specs.Lists.{AllOf}
 use Rattle.lru.specs.LruCache.{LruCache, promoted, put_entries}
 use Rattle.std.specs.List.{IsDistinct, AllByRecursion}
 use Rattle.std.proofs.lemmas.Bool.Decides.{nat_tests}
-use Rattle.std.proofs.lemmas.List.{take_all, reverse-append}
+use Rattle.std.proofs.lemmas.List.{take_all, reverse-append, length-reverse}
 use Rattle.private_store.specs.Tables.{is_among}
 use Rattle.std.proofs.lemmas.Map.Keys.{IsDistinct-head, IsDistinct-tail}
 use Rattle.obj_id.specs.Ids.{id_eq, same_id}
@@ -17,10 +17,14 @@ use Rattle.use_tree.specs.declared.choices.Choice.{Choice}
 use Rattle.lru_evictor.specs.declared.facts.Standing.{Standing}
 use Rattle.use_tree.specs.declared.uses.Use.{Use}
 use Rattle.use_tree.specs.Choices.{has}
-use Rattle.use_tree.specs.Uses.{IsRising, take_use, choose_use, either, last_chosen}
+use Rattle.use_tree.specs.Uses.{IsRising, take_use, has_use, choose_use, either, last_chosen}
 use Rattle.lru_evictor.specs.declared.index.Place.{Place}
-use Rattle.lru_evictor.specs.Orders.{AllPass, OthersPass}
-use Rattle.lru_evictor.specs.Indexed.{use_of, chosen_ids, shown}
+use Rattle.lru_evictor.specs.Orders.{ids_of, AllPass, OthersPass, standing_in, stood, begins_in, can_settle, settled}
+use Rattle.lru_evictor.specs.Indexed.{use_of, chosen_ids, shown, spread}
+use Rattle.obj_id.specs.declared.works.Extent.{Extent}
+use Rattle.extent_tree.specs.declared.residents.Resident.{Resident}
+use Rattle.extent_tree.specs.Residents.{put_resident, has_resident}
+use Rattle.lru_evictor.proofs.Lists.{has-put}
 use Rattle.lru_evictor.proofs.Truths.{some_is}
 use Rattle.lru_evictor.proofs.CacheOrders.{filter-reverse, order-has}
 
@@ -95,6 +99,21 @@ module _ (id : ObjectId) (p : Place) where
             rw t (ap (λ us. use_of e ∷ us) (use-taken es r.1 h))
       ]) h
 
+  -- it is among the uses
+  pub use-there : (es : List (ObjectId × Place)) → lookup (id_eq id) es ≡ Some p → has_use p.turn (map use_of es) ≡ true
+  use-there [] h = cc
+  use-there (e ∷ es) h = (elim (id_eq id e.0) as (λ b. cond b (Some e.1) (lookup (id_eq id) es) ≡ Some p → nat_eq p.turn e.1.turn || has_use p.turn (map use_of es) ≡ true) [
+    | true ↦ λ h.
+        let same = ap (λ (q : Place). q.turn) (some_is e.1 p h) in
+        let t : nat_eq p.turn e.1.turn ≡ true = grind (arith, nat_tests, same) in
+        ap (λ b. b || has_use p.turn (map use_of es)) t
+    | false ↦ λ h. ap (λ b. nat_eq p.turn e.1.turn || b) (use-there es h) ∙ or_true (nat_eq p.turn e.1.turn)
+  ]) h
+    where
+      or_true : (a : Bool) → a || true ≡ true
+      or_true true = refl
+      or_true false = refl
+
   pub use-chosen : (s : Standing) (es : List (ObjectId × Place)) → IsRising (map use_of es) → lookup (id_eq id) es ≡ Some p
       → choose_use p.turn s.choices (map use_of es) ≡ map use_of (set_value (id_eq id) es (record { turn = p.turn; standing = s }))
   use-chosen s [] r h = cc
@@ -144,6 +163,97 @@ module _ (id : ObjectId) (test : ObjectId → Standing → Bool) where
     | true ↦ λ t. (ap (λ x. test x q.standing) (sym (id_eq-equal id e.0 t)) ∙ is, others-pass es (here_others e es d t) h.1)
     | false ↦ λ t. (h.0 (by_eq e.0 t), set-passes es q (IsDistinct-tail id_eq e.0 (keys_of es) d) h.1 is)
   ]) refl
+
+-- ---- the standing of a copy that is found
+
+module _ (id : ObjectId) where
+  pub set-length : (q : Place) (es : List (ObjectId × Place)) → length (set_value (id_eq id) es q) ≡ length es
+  set-length q [] = refl
+  set-length q (e ∷ es) = elim (id_eq id e.0) as (λ b. length (cond b ((e.0, q) ∷ es) (e ∷ set_value (id_eq id) es q)) ≡ suc (length es)) [
+    | true ↦ refl
+    | false ↦ ap suc (set-length q es)
+  ]
+
+  pub removed-length : (es : List (ObjectId × Place)) → length (remove_entry (id_eq id) es) ≤ length es
+  removed-length [] = omega arith
+  removed-length (e ∷ es) = elim (id_eq id e.0) as (λ b. length (cond b es (e ∷ remove_entry (id_eq id) es)) ≤ suc (length es)) [
+    | true ↦ omega arith
+    | false ↦ omega (arith, removed-length es)
+  ]
+
+  -- one that moves to the front is as long as before
+  pub moved-length : (p q : Place) (es before : List (ObjectId × Place)) (n : ℕ) → lookup (id_eq id) es ≡ Some p → shown es ≡ shown before → length before < n → length ((id, q) ∷ remove_entry (id_eq id) es) < n
+  moved-length p q es before n found same few =
+      let a = length-shown es in
+      let b = length-shown before in
+      let s = ap length same in
+      let fewer = removed-fewer p es found in
+      omega (arith, a, b, s, fewer, few)
+    where
+      length-shown : (es : List (ObjectId × Place)) → length (shown es) ≡ length es
+      length-shown [] = refl
+      length-shown (e ∷ es) = ap suc (length-shown es)
+
+      removed-fewer : (p : Place) (es : List (ObjectId × Place)) → lookup (id_eq id) es ≡ Some p → suc (length (remove_entry (id_eq id) es)) ≡ length es
+      removed-fewer p [] h = cc
+      removed-fewer p (e ∷ es) h = (elim (id_eq id e.0) as (λ b. cond b (Some e.1) (lookup (id_eq id) es) ≡ Some p → suc (length (cond b es (e ∷ remove_entry (id_eq id) es))) ≡ suc (length es)) [
+        | true ↦ λ h. refl
+        | false ↦ λ h. ap suc (removed-fewer p es h)
+      ]) h
+
+  module _ (p : Place) where
+    found-standing : (es : List (ObjectId × Place)) → lookup (id_eq id) es ≡ Some p → standing_in id (shown es) ≡ p.standing
+    found-standing [] h = cc
+    found-standing (e ∷ es) h =
+        ap (λ b. if b then e.1.standing else standing_in id (shown es)) (same_id-id_eq id e.0)
+        ∙ (elim (id_eq id e.0) as (λ b. cond b (Some e.1) (lookup (id_eq id) es) ≡ Some p → (if b then e.1.standing else standing_in id (shown es)) ≡ p.standing) [
+          | true ↦ λ h. ap (λ (q : Place). q.standing) (some_is e.1 p h)
+          | false ↦ λ h. found-standing es h
+        ]) h
+
+    module _ (es : List (ObjectId × Place)) (now : List (ObjectId × Standing)) (view : shown es ≡ now) (found : lookup (id_eq id) es ≡ Some p) where
+      among-found : is_among (ids_of now) id ≡ true
+      among-found = ap (λ xs. is_among (ids_of xs) id) (sym view) ∙ ap (λ ids. is_among ids id) (order-shown es) ∙ sym (order-has id es) ∙ ap is_some found
+
+      standing-found : p.standing ≡ standing_in id now
+      standing-found = sym (found-standing es found) ∙ ap (standing_in id) view
+
+      pub stood-at : (test : ObjectId → Standing → Bool) (after told : Standing) → told ≡ stood p.standing after
+          → (is_among (ids_of now) id ≡ true → test id (stood (standing_in id now) after) ≡ true) → test id told ≡ true
+      stood-at test after told is here = ap (test id) (is ∙ ap (λ s. stood s after) standing-found) ∙ here among-found
+
+      pub settled-at : (test : ObjectId → Standing → Bool) (resident : Resident) (told : Standing) → told ≡ settled p.standing resident now
+          → (is_among (ids_of now) id ≡ true → test id (settled (standing_in id now) resident now) ≡ true) → test id told ≡ true
+      settled-at test resident told is here = ap (test id) (is ∙ ap (λ s. settled s resident now) standing-found) ∙ here among-found
+
+-- what begins in an index begins in the order
+pub begins-spread : (o : ℕ) (es : List (ObjectId × Place)) → has_resident o (spread es) ≡ begins_in o (shown es)
+begins-spread o [] = refl
+begins-spread o (e ∷ es) = by (begins-spread o es) e.1.standing.extent
+  where
+    by : has_resident o (spread es) ≡ begins_in o (shown es) → (r : Option Extent)
+        → has_resident o (option_map_or (λ x. put_resident (record { extent = x; choices = e.1.standing.choices }) (spread es)) r (spread es)) ≡ option_map_or (λ (x : Extent). nat_eq o x.offset) r false || begins_in o (shown es)
+    by rest None = rest
+    by rest (Some x) = has-put o (record { extent = x; choices = e.1.standing.choices }) (spread es) ∙ ap (λ b. nat_eq o x.offset || b) rest
+
+-- a copy that lay somewhere doesn't settle
+pub settled-there : (before : Standing) (resident : Resident) (now : List (ObjectId × Standing)) → is_some before.extent ≡ true → before ≡ settled before resident now
+settled-there before resident now there =
+    sym (ap (λ b. if not b && (nat_lt resident.extent.offset 536870912 && (nat_lt resident.extent.length 4294967296 && not (begins_in resident.extent.offset now))) then record { extent = Some resident.extent; choices = resident.choices } else before) there)
+
+module _ (before : Standing) (resident : Resident) (es : List (ObjectId × Place)) (now : List (ObjectId × Standing)) (view : shown es ≡ now) (nowhere : is_some before.extent ≡ false) (says : Bool)
+    (when : says ≡ (nat_lt resident.extent.offset 536870912 && (nat_lt resident.extent.length 4294967296 && not (has_resident resident.extent.offset (spread es))))) where
+  can : can_settle before resident now ≡ says
+  can =
+      ap (λ b. not b && (nat_lt resident.extent.offset 536870912 && (nat_lt resident.extent.length 4294967296 && not (begins_in resident.extent.offset now)))) nowhere
+      ∙ ap (λ b. nat_lt resident.extent.offset 536870912 && (nat_lt resident.extent.length 4294967296 && not b)) (ap (begins_in resident.extent.offset) (sym view) ∙ sym (begins-spread resident.extent.offset es))
+      ∙ sym when
+
+  pub settled-now : says ≡ true → record { extent = Some resident.extent; choices = resident.choices } ≡ settled before resident now
+  settled-now on = sym (ap (λ b. if b then record { extent = Some resident.extent; choices = resident.choices } else before) (can ∙ on))
+
+  pub settled-not : says ≡ false → before ≡ settled before resident now
+  settled-not off = sym (ap (λ b. if b then record { extent = Some resident.extent; choices = resident.choices } else before) (can ∙ off))
 
 -- ---- the ids that a walk goes over
 
@@ -225,6 +335,17 @@ module _ (k : Choice) where
   pub walk-goes-on : (b : ℕ) (us : List Use) (u : Use) → IsRising us → last_chosen k b us ≡ Some u → chosen_ids k b us ≡ u.id ∷ chosen_ids k u.turn us
   walk-goes-on b us u r h = ap reverse (split b us u r h) ∙ reverse-append (ids_below u.turn us) (u.id ∷ [])
 
+  -- they are no more than there are uses
+  few_below : (b : ℕ) (us : List Use) → length (ids_below b us) ≤ length us
+  few_below b [] = omega arith
+  few_below b (u ∷ us) = (elim (nat_lt u.turn b && has k u.choices) as (λ c. length (map (λ u. u.id) (cond c (u ∷ filter (λ u. nat_lt u.turn b && has k u.choices) us) (filter (λ u. nat_lt u.turn b && has k u.choices) us))) ≤ suc (length us)) [
+    | true ↦ omega (arith, few_below b us)
+    | false ↦ omega (arith, few_below b us)
+  ])
+
+  pub chosen-few : (b : ℕ) (us : List Use) → length (chosen_ids k b us) ≤ length us
+  chosen-few b us = let same = length-reverse (ids_below b us) in omega (arith, same, few_below b us)
+
   -- all that a walk chooses are candidates
   module _ (test : ObjectId → Standing → Bool) (chosen : ObjectId → Bool) (covered : (x : ObjectId) (c : Standing) → test x c ≡ true → chosen x ≡ true → has k c.choices ≡ true) where
     kept : (b : ℕ) (es : List (ObjectId × Place)) → AllPass test (shown es) → AllOf (λ u. u.turn < b) (map use_of es) → filter chosen (ids_below b (map use_of es)) ≡ filter chosen (keys_of (shown es))
@@ -241,3 +362,19 @@ module _ (k : Choice) where
 
     pub candidates-kept : (b : ℕ) (es : List (ObjectId × Place)) → AllPass test (shown es) → AllOf (λ u. u.turn < b) (map use_of es) → filter chosen (chosen_ids k b (map use_of es)) ≡ filter chosen (reverse (keys_of (shown es)))
     candidates-kept b es c a = filter-reverse chosen (ids_below b (map use_of es)) ∙ ap reverse (kept b es c a) ∙ sym (filter-reverse chosen (keys_of (shown es)))
+
+  -- all candidates are chosen, if the walk's choices are told by the test
+  module _ (test : ObjectId → Standing → Bool) (chosen : ObjectId → Bool) (covers : (x : ObjectId) (c : Standing) → test x c ≡ true → has k c.choices ≡ true → chosen x ≡ true) where
+    passed : (b : ℕ) (es : List (ObjectId × Place)) → AllPass test (shown es) → filter chosen (ids_below b (map use_of es)) ≡ ids_below b (map use_of es)
+    passed b [] c = refl
+    passed b (e ∷ es) c = by (passed b es c.1) (nat_lt e.1.turn b) (has k e.1.standing.choices) refl
+      where
+        by : filter chosen (ids_below b (map use_of es)) ≡ ids_below b (map use_of es) → (n m : Bool) → has k e.1.standing.choices ≡ m
+            → filter chosen (map (λ u. u.id) (cond (n && m) (use_of e ∷ filter (λ u. nat_lt u.turn b && has k u.choices) (map use_of es)) (filter (λ u. nat_lt u.turn b && has k u.choices) (map use_of es))))
+            ≡ map (λ u. u.id) (cond (n && m) (use_of e ∷ filter (λ u. nat_lt u.turn b && has k u.choices) (map use_of es)) (filter (λ u. nat_lt u.turn b && has k u.choices) (map use_of es)))
+        by rest true true h = let here = covers e.0 e.1.standing c.0 h in rw here (ap (λ ys. e.0 ∷ ys) rest)
+        by rest true false h = rest
+        by rest false m h = rest
+
+    pub candidates-pass : (b : ℕ) (es : List (ObjectId × Place)) → AllPass test (shown es) → filter chosen (chosen_ids k b (map use_of es)) ≡ chosen_ids k b (map use_of es)
+    candidates-pass b es c = filter-reverse chosen (ids_below b (map use_of es)) ∙ ap reverse (passed b es c)

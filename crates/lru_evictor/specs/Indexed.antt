@@ -1,5 +1,5 @@
 -- The index of copies: their uses, and where they lie.
-use Rattle.std.specs.Prelude.{◌≡◌, ℕ, ◌&&◌, not, nat_lt, Bool, true, List, [], ◌∷◌, map, filter, reverse, Option, Some, None}
+use Rattle.std.specs.Prelude.{◌≡◌, ℕ, ◌&&◌, not, nat_lt, Bool, true, List, [], ◌∷◌, map, filter, reverse, Some}
 use Rattle.std.specs.Option.{option_map_or}
 use Rattle.std.specs.Map.{lookup, set_value}
 use Rattle.obj_id.specs.declared.ids.ObjectId.{ObjectId}
@@ -15,6 +15,10 @@ use Rattle.lru_evictor.specs.declared.index.Place.{Place}
 -- the last use of a copy
 abbrev pub use_of : ObjectId × Place → Use
 use_of e = record { turn = e.1.turn; id = e.0; choices = e.1.standing.choices }
+
+-- an entry whose use has a turn
+abbrev pub with_turn : ℕ → ObjectId × Place → ObjectId × Place
+with_turn turn e = (e.0, record { turn = turn; standing = e.1.standing })
 
 -- with a copy where it lies, if it is resident
 abbrev pub spread_one : Standing → List Resident → List Resident
@@ -49,11 +53,6 @@ pub record IsOf (es : List (ObjectId × Place)) (index : Listed) : Type 0 where
   pub uses : index.0 ≡ map use_of es
   pub residents : index.2 ≡ spread es
   pub apart : AreApart es
-
--- an index, if there is one
-abbrev pub IsIndexed : Option Listed → List (ObjectId × Place) → Type 0
-IsIndexed None es = Unit {0}
-IsIndexed (Some index) es = IsOf es index
 
 -- the ids of the uses of turns below b whose copies a walk chooses, the latest last
 abbrev pub chosen_ids : Choice → ℕ → List Use → List ObjectId

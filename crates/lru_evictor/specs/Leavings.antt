@@ -1,9 +1,9 @@
 -- The extents that go with the first copies of a walk, picked out of those that go with all.
-use Rattle.std.specs.Prelude.{ℕ, ◌+◌, nat_lt, Bool, List, [], ◌∷◌, map, filter, Option, Some, None}
+use Rattle.std.specs.Prelude.{ℕ, ◌+◌, nat_lt, Bool, List, [], ◌∷◌, map, filter, Option, Some, None, is_some}
 use Rattle.obj_id.specs.declared.ids.ObjectId.{ObjectId}
 use Rattle.obj_id.specs.declared.works.Extent.{Extent}
-use Rattle.lru_evictor.specs.declared.area.Area.{Area}
-use Rattle.lru_evictor.specs.Areas.{fits_in}
+use Rattle.private_store.specs.Extents.{first}
+use Rattle.job_region.specs.Region.{Region, extents_of, without}
 use Rattle.lru_evictor.specs.declared.search.Leaving.{Leaving}
 use Rattle.lru_evictor.specs.Facts.{Looked, extent_at}
 
@@ -22,5 +22,5 @@ abbrev pub firsts : ℕ → List Leaving → List Extent
 firsts k leaving = map (λ (l : Leaving). l.extent) (filter (λ (l : Leaving). nat_lt l.place k) leaving)
 
 -- whether n bytes would fit if the first k copies were not there
-abbrev pub fits_first : Area → ℕ → List Leaving → ℕ → Bool
-fits_first area n leaving k = fits_in area n (firsts k leaving)
+abbrev pub fits_first : Region → ℕ → List Leaving → ℕ → Bool
+fits_first window n leaving k = is_some (first (extents_of (without (firsts k leaving) window.placed)) window.quota n)

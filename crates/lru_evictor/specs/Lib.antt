@@ -1,6 +1,7 @@
 pub mod Orders
 pub mod Facts
 pub mod Plans
-pub mod Areas
+pub mod Searches
+pub mod Spilling
 pub mod Leavings
 pub mod Indexed

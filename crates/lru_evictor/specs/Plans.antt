@@ -1,5 +1,5 @@
 -- The plan for room, and the stores that a caller's window, device and copies describe.
-use Rattle.std.specs.Prelude.{◌≡◌, ◌↔◌, ℕ, ◌+◌, ◌-◌, ◌==◌, nat_lt, Bool, true, if◌then◌else◌, IsTrue, List, [], ◌∷◌, length, take, filter_map, Contains, Some, is_some}
+use Rattle.std.specs.Prelude.{◌≡◌, ◌↔◌, ℕ, ◌+◌, ◌-◌, ◌==◌, nat_lt, true, if◌then◌else◌, IsTrue, List, [], ◌∷◌, length, take, filter_map, Contains, Option, Some, None, is_some}
 use Rattle.std.specs.Option.{option_map}
 use Rattle.std.specs.FinMap.{is_sorted}
 use Rattle.obj_id.specs.declared.ids.ObjectId.{ObjectId}
@@ -17,17 +17,23 @@ use Rattle.lru_evictor.specs.declared.facts.DeviceRoom.{DeviceRoom}
 use Rattle.lru_evictor.specs.declared.facts.Plan.{Plan as Found}
 use Rattle.lru_evictor.specs.declared.facts.Plan.TheVariants as found
 use Rattle.lru_evictor.specs.declared.facts.Standing.{Standing}
-use Rattle.lru_evictor.specs.Facts.{Looked, standing_at, device_bytes, fits_without}
+use Rattle.lru_evictor.specs.Facts.{Looked, standing_at, device_bytes}
 use Rattle.lru_evictor.specs.Orders.{ids_of, AllPass, same_standing}
 
--- the plan as the rule of room has it
-abbrev pub shown : Found → Plan
-shown found.Fits = fits
-shown (found.Evict ids) = evict ids
-shown found.Wait = wait
-shown found.Full = full
-shown found.Busy = busy
-shown (found.Spill ids) = spill ids
+-- which kind of plan the rule of room has
+abbrev pub kind_of : Plan → Found
+kind_of fits = found.Fits
+kind_of (evict ids) = found.Evict
+kind_of wait = found.Wait
+kind_of full = found.Full
+kind_of busy = found.Busy
+kind_of (spill ids) = found.Spill (length ids)
+
+-- the copies that a plan names
+abbrev pub listed : Plan → List ObjectId
+listed (evict ids) = ids
+listed (spill ids) = ids
+listed _ = []
 
 -- what a plan reads of a store's copy
 abbrev pub facts_of : Shape → ObjectId → Copy → CopyFacts
@@ -74,11 +80,7 @@ spill_here device facts (id ∷ ids) =
     if nat_lt device.quota (device.used + device_bytes facts (id ∷ ids)) then full else
     (if most_works - device.works == 0 then busy else spill (take (most_works - device.works) (id ∷ ids)))
 
--- a plan that places the object at once makes room for it
-abbrev pub makes_room : Region → Looked → ℕ → Plan → Bool
-makes_room window facts n fits = fits_without window facts n []
-makes_room window facts n (evict ids) = fits_without window facts n ids
-makes_room window facts n wait = true
-makes_room window facts n full = true
-makes_room window facts n busy = true
-makes_room window facts n (spill ids) = true
+-- the plan that spills what is to be spilled, if that is known
+abbrev pub spills_here : DeviceRoom → Looked → Option (List ObjectId) → Plan
+spills_here device facts None = full
+spills_here device facts (Some ids) = spill_here device facts ids

@@ -4,15 +4,14 @@ ghost use Rattle.std.specs.Map.Iter.{TakesFirst};
 ghost use Rattle.augmented_tree.specs.Lists.{AllOf};
 ghost use Rattle.lru_evictor.specs.Indexed.{chosen_ids};
 
-use crate::index::Index;
 use obj_id::ObjectId;
 use std::marker::Model;
-use use_tree::Choice;
+use use_tree::{Choice, Uses};
 
 /// The ids whose copies a walk for room chooses, from the least recently used on. A contract sees those that are left.
 #[derive(Drop)]
 pub(crate) struct Candidates<'a> {
-    index: &'a Index,
+    uses: &'a Uses,
     choice: Choice,
     // they have a turn below this one
     below: u64,
@@ -25,19 +24,19 @@ impl<'a> Model for Candidates<'a> {
 
     ghost Value = { List ObjectId };
 
-    ghost view = { λ c. chosen_ids c.choice c.below c.index.now.0 };
+    ghost view = { λ c. chosen_ids c.choice c.below c.uses.now };
 }
 
 impl<'a> Candidates<'a> {
-    /// Those of the index.
-    pub(crate) fn chosen(index: &'a Index, choice: Choice) -> Candidates<'a>
-        ensures ids { result ≡ chosen_ids choice 4611686018427387904 index.now.0 }
-        ensures all { AllOf (λ u. u.turn < 4611686018427387904) index.now.0 }
+    /// Those of these uses.
+    pub(crate) fn chosen(uses: &'a Uses, choice: Choice) -> Candidates<'a>
+        ensures ids { result ≡ chosen_ids choice 4611686018427387904 uses.now }
+        ensures all { AllOf (λ u. u.turn < 4611686018427387904) uses.now }
     {
         Candidates {
-            index,
+            uses,
             choice,
-            below: index.end(),
+            below: uses.end(),
         }
     }
 }
@@ -54,15 +53,15 @@ impl<'a> Iterator for Candidates<'a> {
     ghost remaining = { λ s. at_most (length s) };
 
     fn next(&mut self) -> Option<ObjectId> {
-        next_chosen(self.index, self.choice, &mut self.below)
+        next_chosen(self.uses, self.choice, &mut self.below)
     }
 }
 
 /// The next id whose copy the walk chooses, of those of turns below this one.
-fn next_chosen(index: &Index, choice: Choice, below: &mut u64) -> Option<ObjectId>
-    ensures { TakesFirst (λ x. x) (chosen_ids choice below.old index.now.0) result (chosen_ids choice below.new index.now.0) }
+fn next_chosen(uses: &Uses, choice: Choice, below: &mut u64) -> Option<ObjectId>
+    ensures { TakesFirst (λ x. x) (chosen_ids choice below.old uses.now) result (chosen_ids choice below.new uses.now) }
 {
-    let found = index.last(choice, *below)?;
+    let found = uses.last(choice, *below)?;
     *below = found.turn;
     Some(found.id)
 }

@@ -1,10 +1,11 @@
 //! What a plan for room reads, and what it may be.
 ghost use Rattle.std.specs.Prelude.{◌≡◌, Option, None, true, false};
 ghost use Rattle.obj_id.specs.declared.ids.ObjectId.{ObjectId};
-ghost use Rattle.lru_evictor.specs.Facts.{passes, standing_of};
+ghost use Rattle.lru_evictor.specs.Facts.{standing_of};
+ghost use Rattle.lru_evictor.specs.Orders.{may_stand as may_stand_lem, stood as stood_lem};
 
-use obj_id::{Extent, Items, ObjectId};
-use use_tree::{Choice, Choices};
+use obj_id::{Extent, ObjectId};
+use use_tree::Choices;
 
 /// Where a copy lies, and the walks for room that choose it.
 #[derive(Clone, Copy, Debug, PartialEq, Eq)]
@@ -81,31 +82,20 @@ pub struct DeviceRoom {
 }
 
 /// How room is made.
-#[derive(Debug, Drop)]
+#[derive(Clone, Copy, Debug)]
 pub enum Plan {
     /// It is there.
     Fits,
-    /// These copies are to be evicted, in this order.
-    Evict(Items<ObjectId>),
+    /// Copies are to be evicted: those that `UseOrder::victims` lists.
+    Evict,
     /// Once the works in flight have ended there is room.
     Wait,
     /// There is none, or no device bytes for what would have to be spilled.
     Full,
     /// As many works are in flight as may be.
     Busy,
-    /// These copies are to be spilled, in this order.
-    Spill(Items<ObjectId>),
-}
-
-/// Whether a walk chooses the copy.
-pub(crate) fn is_chosen(choice: Choice, facts: CopyFacts) -> bool
-    ensures { result ≡ passes choice facts }
-{
-    match choice {
-        Choice::Evictable => facts.evictable,
-        Choice::Passing => facts.passing,
-        Choice::Spillable => facts.spillable,
-    }
+    /// So many copies are to be spilled: those that `UseOrder::spillable` lists.
+    Spill(usize),
 }
 
 /// Whether these are the same.
@@ -115,9 +105,25 @@ pub(crate) fn are_same(a: Standing, b: Standing) -> bool
     a == b
 }
 
-/// Whether these are the same bytes.
-pub(crate) fn is_same_extent(a: Extent, b: Extent) -> bool
-    ensures { result ≡ true → a ≡ b }
+/// How a copy stands that stood so, and of which this is said: it can't come to lie anywhere by that.
+pub(crate) fn stood(before: Standing, after: Standing) -> Standing
+    ensures stood { result ≡ stood_lem before after }
+    ensures stands { may_stand_lem before.extent result.extent ≡ true }
 {
-    a == b
+    if may_stand(before.extent, after.extent) {
+        after
+    } else {
+        before
+    }
+}
+
+/// Whether a copy that lay there may be said to lie so: where it lay, or nowhere.
+fn may_stand(before: Option<Extent>, after: Option<Extent>) -> bool
+    ensures { result ≡ may_stand_lem before after }
+{
+    match (before, after) {
+        (_, None) => true,
+        (None, Some(_)) => false,
+        (Some(b), Some(a)) => b.offset == a.offset && b.length == a.length,
+    }
 }

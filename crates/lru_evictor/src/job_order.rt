@@ -1,16 +1,22 @@
 //! The order of use of a job that has copies.
-ghost use Rattle.std.specs.Prelude.{◌≡◌, Bool, [], ◌∷◌, Some, true, false, IfOk, OnOk, OnErr, IfSome, IsOk, length};
+ghost use Rattle.std.specs.Prelude.{◌≡◌, ◌<◌, Bool, [], ◌∷◌, true, false, IfOk, OnOk, OnErr, IsOk, length};
 ghost use Rattle.obj_id.specs.declared.ids.ObjectId.{ObjectId};
 ghost use Rattle.private_store.specs.Tables.{is_among};
 ghost use Rattle.lru_evictor.specs.declared.facts.Standing.{Standing};
-ghost use Rattle.lru_evictor.specs.Facts.{nowhere};
+ghost use Rattle.private_store.specs.Shape.{Shape};
+ghost use Rattle.private_store.specs.Room.{plan as room_plan};
+ghost use Rattle.lru_evictor.specs.Facts.{nowhere, fits_without as is_room_without};
 ghost use Rattle.lru_evictor.specs.Indexed.{HasIndex};
-ghost use Rattle.lru_evictor.specs.Orders.{ids_of, without_id, last_used, touched, AllPass, OthersPass};
+ghost use Rattle.lru_evictor.specs.Orders.{ids_of, without_id, last_used, touched, standing_in, stood as stood_lem, settled, AllPass, OthersPass};
+ghost use Rattle.lru_evictor.specs.Plans.{IsDescribed, IsOfCopies, kind_of};
 
-use crate::facts::{Standing, are_same};
-use crate::index::{Index, Place, add, choose, next_turn, remove, replace, settle};
+use crate::facts::{CopyLookup, DeviceRoom, Plan, Standing, are_same, stood};
+use crate::index::{Index, Place};
+use crate::plans::plan_over;
+use crate::renumbering::next_turn;
 use crate::use_order::Order;
 use extent_tree::Resident;
+use job_region::Window;
 use lru::LruCache;
 use obj_id::ObjectId;
 use std::alloc::{AllocError, Global};
@@ -24,22 +30,25 @@ pub(crate) struct JobOrder {
     // Unbounded, so that it never pushes an id out: how many copies a job may have is the command's to
     // check, and an id that went unasked would be a copy without a place.
     cache: LruCache<ObjectId, Place>,
-    // Of all in the cache. There is none once all turns have been used up.
-    index: Option<Index>,
+    // Of all in the cache.
+    index: Index,
 }
 
 impl Model for JobOrder {
-    ghost use Rattle.std.specs.Prelude.{◌≡◌, Bool, ◌-◌, ◌^◌, List, map};
+    ghost use Rattle.std.specs.Prelude.{◌≡◌, ◌<◌, Bool, ◌-◌, ◌^◌, List, length, map};
     ghost use Rattle.obj_id.specs.declared.ids.ObjectId.{ObjectId};
     ghost use Rattle.lru_evictor.specs.declared.facts.Standing.{Standing};
-    ghost use Rattle.lru_evictor.specs.Indexed.{IsIndexed};
+    ghost use Rattle.lru_evictor.specs.Indexed.{IsOf};
 
     ghost Value = { List (ObjectId × Standing) };
 
     ghost view = { λ o. map (λ e. (e.0, e.1.standing)) o.cache.entries };
 
-    ghost invariant = { λ o. (o.cache.cap ≡ 2 ^ 64 - 1) × IsIndexed o.index o.cache.entries };
+    ghost invariant = { λ o. (o.cache.cap ≡ 2 ^ 64 - 1) × IsOf o.cache.entries o.index × (length o.cache.entries < 4611686018427387904) };
 }
+
+/// So many ids are in no order, so that each can have a turn and one is left.
+const MOST_IDS: usize = 4_611_686_018_427_387_903;
 
 impl JobOrder {
     /// The order of a job with one copy, of which nothing is known.
@@ -58,7 +67,7 @@ impl JobOrder {
     {
         Ok(JobOrder {
             cache: LruCache::unbounded(alloc)?,
-            index: Some(Index::new()),
+            index: Index::new(),
         })
     }
 
@@ -77,73 +86,84 @@ impl JobOrder {
         }
     }
 
-    /// Adds an id that isn't there, as the most recently used.
+    /// Adds an id that isn't there, as the most recently used. The error is out of memory, or that there are 2^62 - 1 ids.
     fn add(&mut self, alloc: Global, id: ObjectId) -> Result<(), AllocError>
         requires { is_among (ids_of self.old) id ≡ false }
         ensures ids { OnOk result (ids_of self.new ≡ last_used id (ids_of self.old)) }
         ensures standings { OnOk result ((test : ObjectId → Standing → Bool) → OthersPass id test self.old → test id nowhere ≡ true → AllPass test self.new) }
         ensures err { OnErr result (self.new ≡ self.old) }
     {
-        // What the count says of the cache is what the proof needs.
-        let _count = self.cache.len();
-        let turn = next_turn(&self.index);
+        let turn = next_turn(&mut self.cache, &mut self.index);
+        if self.cache.len() >= MOST_IDS {
+            return Err(AllocError);
+        }
         let choices = Choices::none();
         let room = Room::new(alloc, Use { turn, id, choices })?;
         let standing = Standing::nowhere();
         self.cache.put(id, Place { turn, standing })?;
-        add(&mut self.index, room, id, turn);
+        self.index.add(room, id, turn);
         Ok(())
     }
 
-    /// Makes the id the most recently used, if it is there, with this standing of its copy.
+    /// Makes the id the most recently used, if it is there; its copy stands so, but doesn't come to lie anywhere by that.
     pub(crate) fn touch(&mut self, id: ObjectId, standing: Standing)
         ensures ids { ids_of self.new ≡ touched id (ids_of self.old) }
-        ensures standings { (test : ObjectId → Standing → Bool) → OthersPass id test self.old → test id standing ≡ true → AllPass test self.new }
+        ensures standings { (test : ObjectId → Standing → Bool) → OthersPass id test self.old
+            → (is_among (ids_of self.old) id ≡ true → test id (stood_lem (standing_in id self.old) standing) ≡ true) → AllPass test self.new }
     {
+        let turn = next_turn(&mut self.cache, &mut self.index);
         let _count = self.cache.len();
-        let turn = next_turn(&self.index);
         let Some(there) = self.cache.get_mut(&id) else {
             return;
         };
         let before = *there;
+        let standing = stood(before.standing, standing);
         let after = Place { turn, standing };
         *there = after;
-        replace(&mut self.index, id, before, after);
+        self.index.replace(id, before, after);
     }
 
-    /// The copy of the id stands so, if it is there. One that lay nowhere, or elsewhere, takes its place by `settle`.
+    /// The copy of the id stands so, if it is there, but doesn't come to lie anywhere by that.
     pub(crate) fn choose(&mut self, id: &ObjectId, standing: Standing)
         ensures ids { ids_of self.new ≡ ids_of self.old }
-        ensures standings { (test : ObjectId → Standing → Bool) → OthersPass id.now test self.old → test id.now standing ≡ true → AllPass test self.new }
+        ensures standings { (test : ObjectId → Standing → Bool) → OthersPass id.now test self.old
+            → (is_among (ids_of self.old) id.now ≡ true → test id.now (stood_lem (standing_in id.now self.old) standing) ≡ true) → AllPass test self.new }
     {
         let _count = self.cache.len();
         let Some(there) = self.cache.peek_mut(id) else {
             return;
         };
         let place = *there;
+        let standing = stood(place.standing, standing);
         // most changes of a copy leave it as it is
         if are_same(place.standing, standing) {
             return;
         }
         there.standing = standing;
-        choose(&mut self.index, place, standing);
+        self.index.choose(place, standing);
     }
 
-    /// The copy of the id lies there, if it is in the order, and these walks choose it. Uses the room.
+    /// The copy of the id, if it is in the order and can, takes its place, and these walks choose it. Uses the room.
     pub(crate) fn settle(&mut self, room: extent_tree::Room, id: &ObjectId, resident: Resident)
         ensures ids { ids_of self.new ≡ ids_of self.old }
-        ensures standings { (test : ObjectId → Standing → Bool) → OthersPass id.now test self.old → test id.now (record { extent = Some resident.extent; choices = resident.choices }) ≡ true → AllPass test self.new }
+        ensures standings { (test : ObjectId → Standing → Bool) → OthersPass id.now test self.old
+            → (is_among (ids_of self.old) id.now ≡ true → test id.now (settled (standing_in id.now self.old) resident self.old) ≡ true) → AllPass test self.new }
     {
         let _count = self.cache.len();
         let Some(there) = self.cache.peek_mut(id) else {
             return;
         };
         let place = *there;
+        if place.standing.extent.is_some() {
+            return;
+        }
+        if !self.index.settle(room, place, resident) {
+            return;
+        }
         there.standing = Standing {
             extent: Some(resident.extent),
             choices: resident.choices,
         };
-        settle(&mut self.index, room, place, resident);
     }
 
     /// Takes the id out, if it is there.
@@ -155,7 +175,7 @@ impl JobOrder {
         let Some(place) = self.cache.pop(id) else {
             return;
         };
-        remove(&mut self.index, place);
+        self.index.remove(place);
     }
 
     /// Whether the id is there.
@@ -179,10 +199,25 @@ impl JobOrder {
         Order::of(self.cache.iter())
     }
 
-    /// Where the copies lie and how they were used, unless all turns have been used up.
-    pub(crate) fn index(&self) -> Option<&Index>
-        ensures { IfSome result (λ i. HasIndex i.now self.now) }
+    /// Where the copies lie and how they were used.
+    pub(crate) fn index(&self) -> &Index
+        ensures { HasIndex result.now self.now }
     {
-        self.index.as_ref()
+        &self.index
+    }
+
+    /// How room for an object of `len` bytes is made, if it doesn't fit as it is.
+    pub(crate) fn plan<C: CopyLookup>(
+        &mut self,
+        len: u32,
+        device: DeviceRoom,
+        window: &Window,
+        copies: &C,
+    ) -> Plan
+        ensures plan { (store : Shape) → 0 < len → is_room_without window.now (C.facts copies.now) len [] ≡ false → IsOfCopies self.old (C.facts copies.now) → IsDescribed store window.now device (C.facts copies.now)
+            → result ≡ kind_of (room_plan (ids_of self.old) store len) }
+        ensures same { self.new ≡ self.old }
+    {
+        plan_over(&mut self.index, len, device, window, copies)
     }
 }

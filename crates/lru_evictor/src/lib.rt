@@ -3,14 +3,15 @@
 //! which it looks up one at a time.
 #![tactic(auto)]
 
-mod area;
 mod candidates;
 mod facts;
 mod index;
 mod job_order;
 mod laws;
 mod plans;
+mod renumbering;
 mod search;
+mod spilling;
 mod use_order;
 
 pub use facts::{CopyFacts, CopyLookup, DeviceRoom, Plan, Standing};

@@ -1,131 +1,149 @@
 //! The plan for room.
-ghost use Rattle.std.specs.Prelude.{◌≡◌, ◌+◌, ◌<◌, List, true, nat_lt, IfOk, IfSome};
+ghost use Rattle.std.specs.Prelude.{◌≡◌, ◌+◌, ◌<◌, ◌≤◌, ℕ, List, [], take, length, false, nat_lt, IfOk, IfSome};
 ghost use Rattle.std.specs.Option.{option_map};
+ghost use Rattle.use_tree.specs.declared.choices.Choice.TheVariants.{Spillable};
+ghost use Rattle.augmented_tree.specs.Lists.{AllOf};
 ghost use Rattle.obj_id.specs.declared.ids.ObjectId.{ObjectId};
-ghost use Rattle.obj_id.specs.declared.refusals.Refusal.{Refusal};
 ghost use Rattle.private_store.specs.Extents.{rounded as rounded_lem};
 ghost use Rattle.private_store.specs.Shape.{Shape};
-ghost use Rattle.private_store.specs.Room.{plan as room_plan, victims as victims_lem, spilled as spilled_lem};
-ghost use Rattle.job_region.specs.Region.{extents_of};
+ghost use Rattle.private_store.specs.Room.{plan as room_plan};
+ghost use Rattle.job_region.specs.Region.{Region, extents_of};
 ghost use Rattle.job_region.specs.Layout.{LaidFrom};
 ghost use Rattle.extent_tree.specs.Residents.{staying, span_of, has_gap as has_gap_lem};
 ghost use Rattle.lru_evictor.specs.declared.facts.Standing.{Standing};
-ghost use Rattle.lru_evictor.specs.Facts.{bytes_at, device_bytes, fits_without as is_room_without};
-ghost use Rattle.lru_evictor.specs.Indexed.{HasIndex};
+ghost use Rattle.lru_evictor.specs.declared.facts.Plan.TheVariants as found;
+ghost use Rattle.lru_evictor.specs.Facts.{Looked, bytes_at, device_bytes, fits_without as is_room_without};
+ghost use Rattle.lru_evictor.specs.Indexed.{HasIndex, chosen_ids};
 ghost use Rattle.lru_evictor.specs.Orders.{ids_of};
-ghost use Rattle.lru_evictor.specs.Plans.{shown, makes_room, IsDescribed, IsOfCopies, evict_here, spill_here};
+ghost use Rattle.lru_evictor.specs.Plans.{IsDescribed, IsOfCopies, kind_of, listed, spills_here};
 
-use crate::area::Area;
 use crate::candidates::Candidates;
 use crate::facts::{CopyLookup, DeviceRoom, Plan};
 use crate::index::Index;
 use crate::search::shortest;
+use crate::spilling::Gap;
 use crate::use_order::UseOrder;
 use extent_tree::has_gap;
 use job_region::Window;
 use obj_id::limits::MOST_WORKS;
-use obj_id::{Items, ObjectId, Refusal};
+use obj_id::{Items, ObjectId};
 use private_store::rounded;
 use std::alloc::{AllocError, Global};
 use use_tree::Choice;
 
 impl UseOrder {
     /// How room for an object of `len` bytes is made in the job's window, by the rule of room over the
-    /// job's copies alone, if the order has each of them with its standing. `NoMemory` alone, also once all turns of the order
-    /// have been used up; changes nothing.
+    /// job's copies alone, if the order has each of them with its standing. Takes no memory, and changes nothing in the end.
     ///
     /// Takes one search of the window if there is room. Otherwise one look at the tree of residents tells whether evictions make
-    /// room, whether works in flight do, and whether spilling does. For evictions and spills the copies are looked up that go,
-    /// and as many again at most, each found in two descents of a tree; the window or the tree is searched as often as twice
-    /// the logarithm of how many go.
+    /// room, whether works in flight do, and whether spilling does. For spills each copy that goes is looked up twice, and marked in
+    /// the tree of residents and unmarked, each of which takes a descent or two of a tree.
     pub fn plan<C: CopyLookup>(
-        &self,
-        alloc: Global,
+        &mut self,
         len: u32,
         device: DeviceRoom,
         window: &Window,
         copies: &C,
-    ) -> Result<Plan, Refusal>
-        ensures plan { IfOk result (λ p. (store : Shape) → IsOfCopies self.now (C.facts copies.now) → IsDescribed store window.now device (C.facts copies.now)
-            → shown p ≡ room_plan (ids_of self.now) store len) }
-        ensures room { IfOk result (λ p. makes_room window.now (C.facts copies.now) len (shown p) ≡ true) }
-        ensures memory { (r : Refusal) → result ≡ Err r → r ≡ Refusal.NoMemory }
+    ) -> Plan
+        ensures plan { (store : Shape) → IsOfCopies self.old (C.facts copies.now) → IsDescribed store window.now device (C.facts copies.now)
+            → result ≡ kind_of (room_plan (ids_of self.old) store len) }
+        ensures same { self.new ≡ self.old }
     {
         if window.search(len).0.is_some() {
-            return Ok(Plan::Fits);
+            return Plan::Fits;
         }
+        match &mut self.cache {
+            None => Plan::Full,
+            Some(order) => order.plan(len, device, window, copies),
+        }
+    }
+
+    /// The copies that are to be evicted for an object of `len` bytes, in this order, if that is the plan. The error is out of
+    /// memory.
+    ///
+    /// As many copies are looked up as go, and as many again at most, each found in two descents of a tree; the window is searched as
+    /// often as twice the logarithm of how many go.
+    pub fn victims<C: CopyLookup>(
+        &self,
+        alloc: Global,
+        len: u32,
+        window: &Window,
+        copies: &C,
+    ) -> Result<Items<ObjectId>, AllocError>
+        ensures { IfOk result (λ ids. (store : Shape) (device : DeviceRoom) → IsOfCopies self.now (C.facts copies.now) → IsDescribed store window.now device (C.facts copies.now)
+            → kind_of (room_plan (ids_of self.now) store len) ≡ found.Evict → ids ≡ listed (room_plan (ids_of self.now) store len)) }
+    {
         let Some(order) = &self.cache else {
-            return Ok(Plan::Full);
+            return Ok(Items::new(alloc));
         };
-        let Some(index) = order.index() else {
-            return Err(Refusal::NoMemory);
+        victims(order.index(), alloc, len, window, copies)
+    }
+
+    /// The first so many copies that may be spilled, the least recently used first. The error is out of memory. Takes a descent of
+    /// a tree for each.
+    pub fn spillable(&self, alloc: Global, count: usize) -> Result<Items<ObjectId>, AllocError>
+        ensures { IfOk result (λ ids. (store : Shape) (window : Region) (device : DeviceRoom) (facts : Looked) (n : ℕ) → IsOfCopies self.now facts → IsDescribed store window device facts
+            → kind_of (room_plan (ids_of self.now) store n) ≡ found.Spill count → ids ≡ listed (room_plan (ids_of self.now) store n)) }
+    {
+        let Some(order) = &self.cache else {
+            return Ok(Items::new(alloc));
         };
-        Ok(plan_over(index, alloc, len, device, window, copies)?)
+        spillable(order.index(), alloc, count)
     }
 }
 
-/// The plan of a job with copies that has this index.
-fn plan_over<C: CopyLookup>(
-    index: &Index,
-    alloc: Global,
+/// The plan of a job with copies that has this index, if the object doesn't fit as it is.
+pub(crate) fn plan_over<C: CopyLookup>(
+    index: &mut Index,
     len: u32,
     device: DeviceRoom,
     window: &Window,
     copies: &C,
-) -> Result<Plan, AllocError>
-    ensures plan { IfOk result (λ p. (store : Shape) (order : List (ObjectId × Standing)) → 0 < len → HasIndex index.now order → IsOfCopies order (C.facts copies.now) → IsDescribed store window.now device (C.facts copies.now)
-        → shown p ≡ room_plan (ids_of order) store len) }
-    ensures room { IfOk result (λ p. makes_room window.now (C.facts copies.now) len (shown p) ≡ true) }
+) -> Plan
+    requires { length index.old.0 < 4611686018427387904 }
+    ensures plan { (store : Shape) (order : List (ObjectId × Standing)) → 0 < len → is_room_without window.now (C.facts copies.now) len [] ≡ false → HasIndex index.old order → IsOfCopies order (C.facts copies.now) → IsDescribed store window.now device (C.facts copies.now)
+        → result ≡ kind_of (room_plan (ids_of order) store len) }
+    ensures same { index.new ≡ index.old }
 {
-    if let Some(ids) = victims(index, alloc, len, window, copies)? {
-        return Ok(eviction(ids));
+    if leaves_room(index, Choice::Evictable, window, len) {
+        return Plan::Evict;
     }
-    match spilled(index, alloc, len, window, copies)? {
-        None => Ok(Plan::Full),
-        Some(ids) => Ok(spilling(device, copies, ids)),
-    }
-}
-
-/// The copies to be evicted, if evictions make room.
-fn victims<C: CopyLookup>(
-    index: &Index,
-    alloc: Global,
-    len: u32,
-    window: &Window,
-    copies: &C,
-) -> Result<Option<Vec<ObjectId>>, AllocError>
-    ensures victims { IfOk result (λ r. (store : Shape) (order : List (ObjectId × Standing)) (device : DeviceRoom) → 0 < len → HasIndex index.now order → IsOfCopies order (C.facts copies.now) → IsDescribed store window.now device (C.facts copies.now)
-        → option_map (λ v. v.items) r ≡ victims_lem (ids_of order) store len) }
-    ensures room { IfOk result (λ r. IfSome r (λ ids. is_room_without window.now (C.facts copies.now) len ids.items ≡ true)) }
-{
-    if !leaves_room(index, Choice::Evictable, window, len) {
-        return Ok(None);
-    }
-    let evictable = Candidates::chosen(index, Choice::Evictable);
-    let area = Area::Window(window);
-    shortest(alloc, evictable, Choice::Evictable, area, copies, len)
-}
-
-/// The copies to be spilled if evictions don't make room, none if works in flight will; `None` if nothing would.
-fn spilled<C: CopyLookup>(
-    index: &Index,
-    alloc: Global,
-    len: u32,
-    window: &Window,
-    copies: &C,
-) -> Result<Option<Vec<ObjectId>>, AllocError>
-    ensures { IfOk result (λ r. (store : Shape) (order : List (ObjectId × Standing)) (device : DeviceRoom) → 0 < len → HasIndex index.now order → IsOfCopies order (C.facts copies.now) → IsDescribed store window.now device (C.facts copies.now)
-        → option_map (λ v. v.items) r ≡ spilled_lem (ids_of order) store len) }
-{
-    if leaves_room(index, Choice::Passing, window, len) {
-        return Ok(Some(Vec::new(alloc)));
-    }
+    // most jobs without room have none to spill either
     if !leaves_room(index, Choice::Spillable, window, len) {
-        return Ok(None);
+        return Plan::Full;
     }
-    let spillable = Candidates::chosen(index, Choice::Spillable);
-    let area = Area::Staying(index.residents(), window.quota());
-    shortest(alloc, spillable, Choice::Spillable, area, copies, len)
+    let gap = Gap {
+        quota: window.quota(),
+        need: rounded(len),
+    };
+    let count = index.count_spills(copies, gap);
+    spilling(index, device, copies, count)
+}
+
+/// The plan that spills the first so many copies of those that may be spilled, if that is known: all of them must fit the device
+/// quota, and as many as there are works left are asked for.
+fn spilling<C: CopyLookup>(
+    index: &Index,
+    device: DeviceRoom,
+    copies: &C,
+    count: Option<usize>,
+) -> Plan
+    requires within { IfSome count (λ k. k ≤ length (chosen_ids Spillable 4611686018427387904 index.now.0)) }
+    ensures { result ≡ kind_of (spills_here device (C.facts copies.now) (option_map (λ k. take k (chosen_ids Spillable 4611686018427387904 index.now.0)) count)) }
+{
+    let Some(count) = count else {
+        return Plan::Full;
+    };
+    if count == 0 {
+        return Plan::Wait;
+    }
+    if passes_quota(device, copies, index.candidates(Choice::Spillable), count) {
+        return Plan::Full;
+    }
+    if device.works >= MOST_WORKS {
+        return Plan::Busy;
+    }
+    Plan::Spill(count.min(MOST_WORKS - device.works))
 }
 
 /// Whether the object would fit if all copies went that the walk chooses, and those before it. One look at the tree.
@@ -137,45 +155,26 @@ fn leaves_room(index: &Index, choice: Choice, window: &Window, len: u32) -> bool
     has_gap(span, window.quota(), rounded(len))
 }
 
-/// The plan that evicts these copies, if there are any.
-fn eviction(ids: Vec<ObjectId>) -> Plan
-    ensures { shown result ≡ evict_here ids.items }
-{
-    if ids.is_empty() {
-        return Plan::Fits;
-    }
-    Plan::Evict(Items::from_vec(ids))
-}
-
-/// The plan that spills these copies, if there are any: all of them must fit the device quota, and as
-/// many as there are works left are asked for.
-fn spilling<C: CopyLookup>(device: DeviceRoom, copies: &C, ids: Vec<ObjectId>) -> Plan
-    ensures { shown result ≡ spill_here device (C.facts copies.now) ids.items }
-{
-    if ids.is_empty() {
-        return Plan::Wait;
-    }
-    if passes_quota(device, copies, &ids) {
-        return Plan::Full;
-    }
-    if device.works >= MOST_WORKS {
-        return Plan::Busy;
-    }
-    let mut asked = ids;
-    asked.truncate(MOST_WORKS - device.works);
-    Plan::Spill(Items::from_vec(asked))
-}
-
-/// Whether spilling all of these copies would pass the device quota.
-fn passes_quota<C: CopyLookup>(device: DeviceRoom, copies: &C, ids: &[ObjectId]) -> bool
-    ensures { result ≡ nat_lt device.quota (device.used + device_bytes (C.facts copies.now) ids.now) }
+/// Whether spilling the first so many of these copies would pass the device quota.
+fn passes_quota<C: CopyLookup>(
+    device: DeviceRoom,
+    copies: &C,
+    candidates: Candidates<'_>,
+    count: usize,
+) -> bool
+    ensures { result ≡ nat_lt device.quota (device.used + device_bytes (C.facts copies.now) (take count candidates.entry)) }
 {
     if device.used > device.quota {
         return true;
     }
     let mut left = device.quota - device.used;
-    for id in ids {
-        let bytes = bytes_of(copies, id);
+    let mut more = count;
+    for id in candidates {
+        if more == 0 {
+            return false;
+        }
+        more -= 1;
+        let bytes = bytes_of(copies, &id);
         if bytes > left {
             return true;
         }
@@ -192,4 +191,37 @@ fn bytes_of<C: CopyLookup>(copies: &C, id: &ObjectId) -> u64
         Some(facts) => facts.bytes,
         None => 0,
     }
+}
+
+/// The copies to be evicted, if evictions make room.
+fn victims<C: CopyLookup>(
+    index: &Index,
+    alloc: Global,
+    len: u32,
+    window: &Window,
+    copies: &C,
+) -> Result<Items<ObjectId>, AllocError>
+    ensures { IfOk result (λ ids. (store : Shape) (order : List (ObjectId × Standing)) (device : DeviceRoom) → HasIndex index.now order → IsOfCopies order (C.facts copies.now) → IsDescribed store window.now device (C.facts copies.now)
+        → kind_of (room_plan (ids_of order) store len) ≡ found.Evict → ids ≡ listed (room_plan (ids_of order) store len)) }
+{
+    let candidates = index.candidates(Choice::Evictable);
+    match shortest(alloc, candidates, window, copies, len)? {
+        Some(ids) => Ok(Items::from_vec(ids)),
+        None => Ok(Items::new(alloc)),
+    }
+}
+
+/// The first so many copies that may be spilled.
+fn spillable(index: &Index, alloc: Global, count: usize) -> Result<Items<ObjectId>, AllocError>
+    ensures all { AllOf (λ u. u.turn < 4611686018427387904) index.now.0 }
+    ensures first { IfOk result (λ ids. ids ≡ take count (chosen_ids Spillable 4611686018427387904 index.now.0)) }
+{
+    let mut ids = Vec::new(alloc);
+    for id in index.candidates(Choice::Spillable) {
+        if ids.len() == count {
+            return Ok(Items::from_vec(ids));
+        }
+        ids.push(id)?;
+    }
+    Ok(Items::from_vec(ids))
 }

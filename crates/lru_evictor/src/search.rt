@@ -5,29 +5,29 @@ ghost use Rattle.std.specs.List.Sorted.{IsPermutation, IsNonDecreasingBy};
 ghost use Rattle.obj_id.specs.declared.works.Extent.{Extent};
 ghost use Rattle.private_store.specs.Room.{shortest as shortest_beginning};
 ghost use Rattle.lru_evictor.specs.declared.search.Leaving.{Leaving};
-ghost use Rattle.lru_evictor.specs.Facts.{chosen, passes_at, extent_at, gone_of};
-ghost use Rattle.lru_evictor.specs.Areas.{fits_without as is_room_without, AreEnough, AreMore};
+ghost use Rattle.use_tree.specs.declared.choices.Choice.TheVariants.{Evictable};
+ghost use Rattle.lru_evictor.specs.Facts.{chosen, passes_at, extent_at, gone_of, fits_without as is_room_without};
+ghost use Rattle.lru_evictor.specs.Searches.{AreEnough};
 ghost use Rattle.lru_evictor.specs.Leavings.{leaving_of as all_leaving, firsts, fits_first as is_room_first};
 
-use crate::area::Area;
 use crate::candidates::Candidates;
-use crate::facts::{CopyLookup, is_chosen};
+use crate::facts::CopyLookup;
+use job_region::Window;
 use obj_id::{Extent, ObjectId};
 use std::alloc::{AllocError, Global};
-use use_tree::Choice;
 
-/// Whether a walk chooses the copy of the id, if there is one.
-fn chooses<C: CopyLookup>(choice: Choice, copies: &C, id: &ObjectId) -> bool
-    ensures { result ≡ passes_at (C.facts copies.now) choice id.now }
+/// Whether the copy of the id may be evicted, if there is one.
+fn is_evictable<C: CopyLookup>(copies: &C, id: &ObjectId) -> bool
+    ensures { result ≡ passes_at (C.facts copies.now) Evictable id.now }
 {
     match copies.facts(id) {
-        Some(facts) => is_chosen(choice, facts),
+        Some(facts) => facts.evictable,
         None => false,
     }
 }
 
 /// Where the copy of the id lies, if there is one and it is resident.
-fn extent_of<C: CopyLookup>(copies: &C, id: &ObjectId) -> Option<Extent>
+pub(crate) fn extent_of<C: CopyLookup>(copies: &C, id: &ObjectId) -> Option<Extent>
     ensures { result ≡ extent_at (C.facts copies.now) id.now }
 {
     copies.facts(id)?.extent
@@ -128,23 +128,23 @@ fn first_extents(
 /// Whether so many bytes would fit if the first `count` copies were not there. Takes no look-up and no sort.
 fn fits_first(
     alloc: Global,
-    area: Area<'_>,
+    window: &Window,
     leaving: &[Leaving],
     count: usize,
     len: u32,
 ) -> Result<bool, AllocError>
     requires { IsNonDecreasingBy (λ (l : Leaving). l.extent.offset) leaving.now }
-    ensures { IfOk result (λ b. b ≡ is_room_first area.entry len leaving.now count) }
+    ensures { IfOk result (λ b. b ≡ is_room_first window.now len leaving.now count) }
 {
     let gone = first_extents(alloc, leaving, count)?;
-    Ok(area.fits_without(&gone, len))
+    Ok(window.fits_without(&gone, len).is_some())
 }
 
 /// How many copies have to go for so many bytes to fit, if the first `few` are too few and the first
 /// `enough` are enough. Takes a test for each time that the distance is halved.
 fn bisect(
     alloc: Global,
-    area: Area<'_>,
+    window: &Window,
     leaving: &[Leaving],
     few: usize,
     enough: usize,
@@ -152,14 +152,14 @@ fn bisect(
 ) -> Result<usize, AllocError>
     requires by_offset { IsNonDecreasingBy (λ (l : Leaving). l.extent.offset) leaving.now }
     requires rising { few ≤ enough }
-    requires few { is_room_first area len leaving.now few ≡ false }
-    requires enough { is_room_first area len leaving.now enough ≡ true }
-    ensures { IfOk result (λ k. (k ≤ enough) × (is_room_first area.entry len leaving.now k ≡ true) × (is_room_first area.entry len leaving.now (k - 1) ≡ false)) }
+    requires few { is_room_first window.now len leaving.now few ≡ false }
+    requires enough { is_room_first window.now len leaving.now enough ≡ true }
+    ensures { IfOk result (λ k. (k ≤ enough) × (is_room_first window.now len leaving.now k ≡ true) × (is_room_first window.now len leaving.now (k - 1) ≡ false)) }
 {
     let (mut few, mut enough) = (few, enough);
     while enough - few > 1 {
         let middle = few + (enough - few) / 2;
-        if fits_first(alloc, area, leaving, middle, len)? {
+        if fits_first(alloc, window, leaving, middle, len)? {
             enough = middle;
         } else {
             few = middle;
@@ -172,59 +172,56 @@ fn bisect(
 /// `None` if all of them are. Takes one look-up for each and one sort, however many tests it takes.
 fn needed<C: CopyLookup>(
     alloc: Global,
-    area: Area<'_>,
+    window: &Window,
     copies: &C,
     ids: &[ObjectId],
     few: usize,
     len: u32,
 ) -> Result<Option<usize>, AllocError>
     requires within { few ≤ length ids.now }
-    requires few { is_room_without area (C.facts copies.now) len (take few ids.now) ≡ false }
-    ensures found { IfOk result (λ r. IfSome r (AreEnough area.entry (C.facts copies.now) len ids.now)) }
-    ensures none { IfOk result (λ r. IfNone r (is_room_without area.entry (C.facts copies.now) len ids.now ≡ false)) }
+    requires few { is_room_without window.now (C.facts copies.now) len (take few ids.now) ≡ false }
+    ensures found { IfOk result (λ r. IfSome r (AreEnough window.now (C.facts copies.now) len ids.now)) }
+    ensures none { IfOk result (λ r. IfNone r (is_room_without window.now (C.facts copies.now) len ids.now ≡ false)) }
 {
     let mut leaving = leaving_of(alloc, copies, ids)?;
     sort_leaving(&mut leaving)?;
     let all = ids.len();
-    if fits_first(alloc, area, &leaving, all, len)? {
-        let count = bisect(alloc, area, &leaving, few, all, len)?;
+    if fits_first(alloc, window, &leaving, all, len)? {
+        let count = bisect(alloc, window, &leaving, few, all, len)?;
         Ok(Some(count))
     } else {
         Ok(None)
     }
 }
 
-/// The shortest beginning of the copies that the walk chooses without which so many bytes fit; `None` if all of them are too
-/// few. It is that if no bytes that fit without some copies fail to fit without more of them.
+/// The shortest beginning of the copies that may be evicted without which so many bytes fit; `None` if all of them are too few.
 ///
 /// Looks at one chosen copy, two, four and so on, each time with one look-up of each and one sort, and if these
 /// are enough finds how many are by bisection, which takes neither.
 pub(crate) fn shortest<C: CopyLookup>(
     alloc: Global,
     candidates: Candidates<'_>,
-    choice: Choice,
-    area: Area<'_>,
+    window: &Window,
     copies: &C,
     len: u32,
 ) -> Result<Option<Vec<ObjectId>>, AllocError>
-    ensures { IfOk result (λ r. AreMore (is_room_without area.entry (C.facts copies.now) len)
-        → option_map (λ v. v.items) r ≡ shortest_beginning (is_room_without area.entry (C.facts copies.now) len) (chosen (C.facts copies.now) choice candidates.entry)) }
+    ensures { IfOk result (λ r. option_map (λ v. v.items) r ≡ shortest_beginning (is_room_without window.now (C.facts copies.now) len) (chosen (C.facts copies.now) Evictable candidates.entry)) }
 {
     let mut ids = Vec::new(alloc);
-    if area.fits_without(&[], len) {
+    if window.fits_without(&[], len).is_some() {
         return Ok(Some(ids));
     }
     let mut few = 0;
     // How many more are chosen before the next test.
     let mut left = 1;
     for id in candidates {
-        if !chooses(choice, copies, &id) {
+        if !is_evictable(copies, &id) {
             continue;
         }
         ids.push(id)?;
         left -= 1;
         if left == 0 {
-            if let Some(count) = needed(alloc, area, copies, &ids, few, len)? {
+            if let Some(count) = needed(alloc, window, copies, &ids, few, len)? {
                 ids.truncate(count);
                 return Ok(Some(ids));
             }
@@ -232,7 +229,7 @@ pub(crate) fn shortest<C: CopyLookup>(
             left = few;
         }
     }
-    let count = needed(alloc, area, copies, &ids, few, len)?;
+    let count = needed(alloc, window, copies, &ids, few, len)?;
     Ok(beginning(ids, count))
 }
 

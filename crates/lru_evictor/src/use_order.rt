@@ -1,12 +1,12 @@
 //! The order of use of one job's copies.
-ghost use Rattle.std.specs.Prelude.{◌≡◌, Bool, [], true, Some, OnOk, OnErr, IsOk, length, reverse};
+ghost use Rattle.std.specs.Prelude.{◌≡◌, Bool, [], true, OnOk, OnErr, IsOk, length, reverse};
 ghost use Rattle.std.specs.Map.{keys_of};
 ghost use Rattle.obj_id.specs.declared.refusals.Refusal.{Refusal};
 ghost use Rattle.obj_id.specs.declared.ids.ObjectId.{ObjectId};
 ghost use Rattle.private_store.specs.Tables.{is_among};
 ghost use Rattle.lru_evictor.specs.declared.facts.Standing.{Standing};
 ghost use Rattle.lru_evictor.specs.Facts.{nowhere};
-ghost use Rattle.lru_evictor.specs.Orders.{ids_of, without_id, last_used, touched, AllPass, OthersPass};
+ghost use Rattle.lru_evictor.specs.Orders.{ids_of, without_id, last_used, touched, standing_in, stood, settled, AllPass, OthersPass};
 
 use crate::facts::Standing;
 use crate::index::Place;
@@ -63,20 +63,21 @@ impl UseOrder {
         ensures err { OnErr result (self.new ≡ self.old) }
         ensures memory { (r : Refusal) → result ≡ Err r → r ≡ Refusal.NoMemory }
     {
-        match &mut self.cache {
-            Some(order) => order.enter(self.alloc, id)?,
-            None => {
-                let order = JobOrder::first(self.alloc, id)?;
-                self.cache = Some(order);
-            }
+        if let Some(order) = &mut self.cache {
+            order.enter(self.alloc, id)?;
+            return Ok(());
         }
+        let order = JobOrder::first(self.alloc, id)?;
+        self.cache = Some(order);
         Ok(())
     }
 
-    /// Makes the id the most recently used, if it is there, with this standing of its copy. Takes no memory.
+    /// Makes the id the most recently used, if it is there. Its copy stands so now, but doesn't come to lie anywhere by that:
+    /// if it is said to lie where it didn't lie, it stands as before. Takes no memory.
     pub fn touch(&mut self, id: ObjectId, standing: Standing)
         ensures ids { ids_of self.new ≡ touched id (ids_of self.old) }
-        ensures standings { (test : ObjectId → Standing → Bool) → OthersPass id test self.old → test id standing ≡ true → AllPass test self.new }
+        ensures standings { (test : ObjectId → Standing → Bool) → OthersPass id test self.old
+            → (is_among (ids_of self.old) id ≡ true → test id (stood (standing_in id self.old) standing) ≡ true) → AllPass test self.new }
     {
         let Some(order) = &mut self.cache else {
             return;
@@ -84,13 +85,12 @@ impl UseOrder {
         order.touch(id, standing);
     }
 
-    /// The copy of the id stands so, if it is in the order: it lies where it lay, or nowhere any more. Takes no memory.
-    ///
-    /// A copy that comes to lie somewhere is told by `settle`. If it is told here, the order can make no plans any more until
-    /// the job has no copy.
+    /// The copy of the id stands so, if it is in the order, but doesn't come to lie anywhere by that: if it is said to lie where it
+    /// didn't lie, it stands as before. Takes no memory.
     pub fn choose(&mut self, id: &ObjectId, standing: Standing)
         ensures ids { ids_of self.new ≡ ids_of self.old }
-        ensures standings { (test : ObjectId → Standing → Bool) → OthersPass id.now test self.old → test id.now standing ≡ true → AllPass test self.new }
+        ensures standings { (test : ObjectId → Standing → Bool) → OthersPass id.now test self.old
+            → (is_among (ids_of self.old) id.now ≡ true → test id.now (stood (standing_in id.now self.old) standing) ≡ true) → AllPass test self.new }
     {
         let Some(order) = &mut self.cache else {
             return;
@@ -98,11 +98,13 @@ impl UseOrder {
         order.choose(id, standing);
     }
 
-    /// The copy of the id, which lay nowhere, lies there, if it is in the order, and these walks choose it. Uses the room, and
-    /// takes no memory.
+    /// The copy of the id, if it is in the order and lay nowhere, lies there, and these walks choose it. It stands as before if
+    /// another copy begins there, or the widest window hasn't the place: its offset is 2^29 or more, or its length 2^32 or more.
+    /// Uses the room, and takes no memory.
     pub fn settle(&mut self, room: Room, id: &ObjectId, resident: Resident)
         ensures ids { ids_of self.new ≡ ids_of self.old }
-        ensures standings { (test : ObjectId → Standing → Bool) → OthersPass id.now test self.old → test id.now (record { extent = Some resident.extent; choices = resident.choices }) ≡ true → AllPass test self.new }
+        ensures standings { (test : ObjectId → Standing → Bool) → OthersPass id.now test self.old
+            → (is_among (ids_of self.old) id.now ≡ true → test id.now (settled (standing_in id.now self.old) resident self.old) ≡ true) → AllPass test self.new }
     {
         let Some(order) = &mut self.cache else {
             return;

@@ -1,9 +1,9 @@
-use Rattle.std.proofs.Common.{◌≡◌, ◌+◌, drop, nat_lt}
+use Rattle.std.proofs.Common.{◌≡◌, ◌+◌, take, nat_lt}
 use Rattle.lru_evictor.specs.Facts.{device_bytes}
 use Rattle.lru_evictor.proofs.plans.passes_quota.Given as goal
 
--- all pass the quota where those that are left pass what is left of it
+-- all pass the quota if those that are still to be counted pass what is left of it
 abbrev pub invariant-loop-id : goal.invariant-loop-id
 invariant-loop-id g l =
-    nat_lt l.left (device_bytes (g.C.CopyLookup.facts l.copies) (drop l.id-index l.ids))
-    ≡ nat_lt l.fn.device.quota (l.fn.device.used + device_bytes (g.C.CopyLookup.facts l.copies) l.ids)
+    nat_lt l.left (device_bytes (g.C.CopyLookup.facts l.copies) (take l.more l.id-iterator))
+    ≡ nat_lt l.fn.device.quota (l.fn.device.used + device_bytes (g.C.CopyLookup.facts l.copies) (take l.fn.count l.fn.candidates))

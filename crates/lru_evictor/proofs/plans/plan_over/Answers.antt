@@ -1,22 +1,26 @@
-use Rattle.std.proofs.Common.{sym, ap, ◌∙◌}
+use Rattle.std.proofs.Common.{ap, ◌∙◌, take}
 use Rattle.std.specs.Option.{option_map}
-use Rattle.lru_evictor.specs.Orders.{ids_of}
-use Rattle.lru_evictor.proofs.Planned.{plan-evicts, plan-full, plan-spills}
+use Rattle.use_tree.specs.declared.choices.Choice.TheVariants.{Spillable}
+use Rattle.lru_evictor.specs.Indexed.{chosen_ids}
+use Rattle.lru_evictor.specs.Plans.{kind_of, spills_here}
+use Rattle.lru_evictor.proofs.Planned.{plan-evictions, plan-hopeless, plan-counted}
 use Rattle.lru_evictor.proofs.plans.plan_over.Goals as goal
 
-pub returns-in-Some-clause-plan : goal.returns-in-Some-clause-plan
-returns-in-Some-clause-plan g c store order some of known described =
-    let found = ap (option_map (λ v. v.items)) (sym c.in-Some.is) ∙ c.in_ok-ids.ensures.victims store order c.args.device some of known described in
-    c.eviction.ensures ∙ plan-evicts store c.args.window.now c.args.device (g.C.CopyLookup.facts c.args.copies.now) described c.args.len (ids_of order) c.in-Some.ids.items found
+pub returns-then-leaves_room-clause-plan : goal.returns-then-leaves_room-clause-plan
+returns-then-leaves_room-clause-plan g c store order some bad of known described =
+    plan-evictions store c.args.window.now c.args.device (g.C.CopyLookup.facts c.args.copies.now) described c.args.index.now order of known c.leaves_room.ensures.laid c.args.len some c.leaves_room.result c.leaves_room.ensures.gap c.if-leaves_room.true bad
 
-pub returns-in-None-clause-plan : goal.returns-in-None-clause-plan
-returns-in-None-clause-plan g c store order some of known described =
-    let none = ap (option_map (λ v. v.items)) (sym c.in_default.is) ∙ c.in_ok-ids.ensures.victims store order c.args.device some of known described in
-    let nothing = ap (option_map (λ v. v.items)) (sym c.in-None.is) ∙ c.in_ok-spilled.ensures store order c.args.device some of known described in
-    plan-full store c.args.window.now c.args.device (g.C.CopyLookup.facts c.args.copies.now) described c.args.len (ids_of order) none nothing
+pub returns-then-not-leaves_room-clause-plan : goal.returns-then-not-leaves_room-clause-plan
+returns-then-not-leaves_room-clause-plan g c store order some bad of known described =
+    ap kind_of (plan-hopeless store c.args.window.now c.args.device (g.C.CopyLookup.facts c.args.copies.now) described c.args.index.now order of known c.leaves_room.ensures.laid c.args.len some
+    c.leaves_room.result c.leaves_room-2.result c.leaves_room.ensures.gap c.if-leaves_room.false c.leaves_room-2.ensures.gap c.if-not-leaves_room.true)
 
-pub returns-in-Some-2-clause-plan : goal.returns-in-Some-2-clause-plan
-returns-in-Some-2-clause-plan g c store order some of known described =
-    let none = ap (option_map (λ v. v.items)) (sym c.in_default.is) ∙ c.in_ok-ids.ensures.victims store order c.args.device some of known described in
-    let found = ap (option_map (λ v. v.items)) (sym c.in-Some-2.is) ∙ c.in_ok-spilled.ensures store order c.args.device some of known described in
-    c.spilling.ensures ∙ plan-spills store c.args.window.now c.args.device (g.C.CopyLookup.facts c.args.copies.now) described c.args.len (ids_of order) none c.in-Some-2.ids.items found
+pub returns-clause-plan : goal.returns-clause-plan
+returns-clause-plan g c store order some bad of known described =
+    let facts = g.C.CopyLookup.facts c.args.copies.now in
+    let may = chosen_ids Spillable 4611686018427387904 c.args.index.now.0 in
+    c.spilling.ensures
+    ∙ ap (λ i. kind_of (spills_here c.args.device facts (option_map (λ k. take k (chosen_ids Spillable 4611686018427387904 i.0)) c.count_spills-count.result))) c.count_spills-count.ensures.same
+    ∙ ap kind_of (plan-counted store c.args.window.now c.args.device facts described c.args.index.now order of known c.leaves_room.ensures.laid c.args.len some
+    c.leaves_room.result c.leaves_room.ensures.gap c.if-leaves_room.false may (λ i. may) c.count_spills-count.ensures.all (record { quota = c.quota.result; need = c.rounded.result }) c.quota.ensures.quota c.rounded.ensures
+    (option_map (λ k. take k may) c.count_spills-count.result) c.count_spills-count.ensures.count)

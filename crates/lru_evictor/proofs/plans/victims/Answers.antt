@@ -1,19 +1,21 @@
-use Rattle.lru_evictor.specs.Facts.{fits_without}
-use Rattle.std.proofs.Common.{◌≡◌, true}
+use Rattle.std.proofs.Common.{sym, ap, ◌∙◌}
+use Rattle.std.specs.Prelude.{unwrap_or}
 use Rattle.std.specs.Option.{option_map}
-use Rattle.lru_evictor.proofs.Needed.{window-more}
-use Rattle.lru_evictor.proofs.Planned.{victims-none, victims-found}
-use Rattle.lru_evictor.proofs.Rooms.{ok_then, victims_room, each_of}
+use Rattle.private_store.proofs.Tests.{none_some}
+use Rattle.private_store.specs.Room.{plan}
+use Rattle.lru_evictor.specs.Orders.{ids_of}
+use Rattle.lru_evictor.specs.Plans.{listed}
+use Rattle.lru_evictor.proofs.Planned.{victims-found, evicts-listed}
 use Rattle.lru_evictor.proofs.plans.victims.Goals as goal
 
-pub returns-then-not-leaves_room-clause-victims : goal.returns-then-not-leaves_room-clause-victims
-returns-then-not-leaves_room-clause-victims g c store order device some of known described =
-    victims-none store c.args.window.now device (g.C.CopyLookup.facts c.args.copies.now) described c.args.index.now order of known c.leaves_room.ensures.laid c.args.len some c.leaves_room.result c.leaves_room.ensures.gap c.if-not-leaves_room.true
+pub returns-in-Some : goal.returns-in-Some
+returns-in-Some g c store order device of known described evicts =
+    let found = ap (option_map (λ v. v.items)) (sym c.in-Some.is) ∙ victims-found store c.args.window.now device (g.C.CopyLookup.facts c.args.copies.now) described c.args.index.now order of known c.args.len c.candidates-candidates.result c.candidates-candidates.ensures.ids c.candidates-candidates.ensures.all
+    (option_map (λ v. v.items) c.in_ok-ids.field-0) c.in_ok-ids.ensures ∙ evicts-listed (ids_of order) store c.args.len evicts in
+    c.from_vec.ensures ∙ ap (λ o. unwrap_or o c.in-Some.ids.items) found
 
-pub returns-clause-victims : goal.returns-clause-victims
-returns-clause-victims g c = ok_then (λ r found store order device some of known described.
-    victims-found store c.args.window.now device (g.C.CopyLookup.facts c.args.copies.now) described c.args.index.now order of known c.leaves_room.ensures.laid c.args.len some c.chosen-evictable.result c.chosen-evictable.ensures.ids c.chosen-evictable.ensures.all
-    (option_map (λ v. v.items) r) (found (window-more c.args.window (g.C.CopyLookup.facts c.args.copies.now) c.args.len))) c.shortest.result c.shortest.ensures
-
-pub returns-clause-room : goal.returns-clause-room
-returns-clause-room g c = ok_then (λ r found. each_of (λ v. v.items) (λ ids. fits_without c.args.window.now (g.C.CopyLookup.facts c.args.copies.now) c.args.len ids ≡ true) r (victims_room c.args.window.now (g.C.CopyLookup.facts c.args.copies.now) c.args.len _ (option_map (λ v. v.items) r) (found (window-more c.args.window (g.C.CopyLookup.facts c.args.copies.now) c.args.len)))) c.shortest.result c.shortest.ensures
+pub returns-in-None : goal.returns-in-None
+returns-in-None g c store order device of known described evicts =
+    let found = ap (option_map (λ v. v.items)) (sym c.in-None.is) ∙ victims-found store c.args.window.now device (g.C.CopyLookup.facts c.args.copies.now) described c.args.index.now order of known c.args.len c.candidates-candidates.result c.candidates-candidates.ensures.ids c.candidates-candidates.ensures.all
+    (option_map (λ v. v.items) c.in_ok-ids.field-0) c.in_ok-ids.ensures ∙ evicts-listed (ids_of order) store c.args.len evicts in
+    none_some (listed (plan (ids_of order) store c.args.len)) found

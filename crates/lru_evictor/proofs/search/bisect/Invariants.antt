@@ -6,8 +6,8 @@ abbrev pub invariant-loop-enough : goal.invariant-loop-enough
 invariant-loop-enough l = record {
   rising : l.few ≤ l.enough;
   within : l.enough ≤ l.fn.enough;
-  few : fits_first l.area l.len l.leaving l.few ≡ false;
-  enough : fits_first l.area l.len l.leaving l.enough ≡ true;
+  few : fits_first l.window l.len l.leaving l.few ≡ false;
+  enough : fits_first l.window l.len l.leaving l.enough ≡ true;
 }
 
 abbrev pub decreases-loop-enough : goal.decreases-loop-enough

@@ -1,6 +1,6 @@
 use Rattle.std.proofs.Common.{ℕ, ◌≡◌, ◌-◌, ◌∙◌, sym, take}
 use Rattle.std.specs.List.Sorted.{IsPermutation}
-use Rattle.lru_evictor.specs.Areas.{fits_without}
+use Rattle.lru_evictor.specs.Facts.{fits_without}
 use Rattle.lru_evictor.specs.Leavings.{leaving_of, fits_first}
 use Rattle.lru_evictor.proofs.Firsts.{fits-first, fits-all}
 use Rattle.lru_evictor.proofs.search.needed.Goals as goal
@@ -10,7 +10,7 @@ bisect-requires-clause-few g c =
     let facts = g.C.CopyLookup.facts c.args.copies.now in
     let now = c.deref-then-branch.result.now in
     let moved : IsPermutation (leaving_of facts 0 c.args.ids.now) now = rw (← c.in_ok-leaving.ensures, c.deref-then-branch.ensures.value) c.sort_leaving.ensures.permutation in
-    fits-first c.args.area facts c.args.len c.args.ids.now now moved c.args.few ∙ c.requires.few
+    fits-first c.args.window.now facts c.args.len c.args.ids.now now moved c.args.few ∙ c.requires.few
 
 pub returns-then-branch-clause-found : goal.returns-then-branch-clause-found
 returns-then-branch-clause-found g c =
@@ -19,7 +19,7 @@ returns-then-branch-clause-found g c =
     let k = c.in_ok-count.count in
     let now = c.deref-then-branch.result.now in
     let moved : IsPermutation (leaving_of facts 0 ids) now = rw (← c.in_ok-leaving.ensures, c.deref-then-branch.ensures.value) c.sort_leaving.ensures.permutation in
-    let same : (j : ℕ) → fits_first c.args.area c.args.len now j ≡ fits_without c.args.area facts c.args.len (take j ids) = fits-first c.args.area facts c.args.len ids now moved in
+    let same : (j : ℕ) → fits_first c.args.window.now c.args.len now j ≡ fits_without c.args.window.now facts c.args.len (take j ids) = fits-first c.args.window.now facts c.args.len ids now moved in
     record {
       within = c.in_ok-count.ensures.0;
       enough = sym (same k) ∙ c.in_ok-count.ensures.1;
@@ -32,4 +32,4 @@ returns-clause-none g c =
     let ids = c.args.ids.now in
     let now = c.deref.result.now in
     let moved : IsPermutation (leaving_of facts 0 ids) now = rw (← c.in_ok-leaving.ensures, c.deref.ensures.value) c.sort_leaving.ensures.permutation in
-    fits-all c.args.area facts c.args.len ids now moved _ c.in_ok-fits_first.ensures ∙ c.if-branch.false
+    fits-all c.args.window.now facts c.args.len ids now moved _ c.in_ok-fits_first.ensures ∙ c.if-branch.false

@@ -4,8 +4,8 @@ use Rattle.lru_evictor.proofs.Uses.{use-chosen}
 use Rattle.lru_evictor.proofs.index.Index.choose.Goals as goal
 
 pub returns : goal.returns
-returns c on id es found is =
-    let stands = c.stand.ensures.stands on id c.args.place.turn c.args.place.turn es found (ap (λ p. p.2) c.choose_use.ensures.uses ∙ is.residents) is.apart in
+returns c id es found is =
+    let stands = c.stand.ensures.stands id c.args.place.turn c.args.place.turn es found (ap (λ p. p.2) c.choose_use.ensures.uses ∙ is.residents) is.apart in
     record {
       uses =
           c.stand.ensures.same.0 ∙ ap (λ p. p.0) c.choose_use.ensures.uses ∙ ap (choose_use c.args.place.turn c.args.standing.choices) is.uses

@@ -1,4 +1,4 @@
-use Rattle.std.proofs.Common.{refl, ap, subst, ◌∙◌}
+use Rattle.std.proofs.Common.{ap, subst, ◌∙◌}
 use Rattle.use_tree.specs.Uses.{IsRising, take_use}
 use Rattle.lru_evictor.proofs.Spread.{spread-vacated, apart-removed}
 use Rattle.lru_evictor.proofs.Uses.{use-taken}
@@ -7,7 +7,7 @@ use Rattle.lru_evictor.proofs.index.Index.remove.Goals as goal
 pub returns : goal.returns
 returns c id es found is =
     let place = c.args.place in
-    let stands = c.stand.ensures.stands (c.stand.ensures.leaves refl) id place.turn place.turn es found is.residents is.apart in
+    let stands = c.stand.ensures.stands id place.turn place.turn es found is.residents is.apart in
     let uses = c.stand.ensures.same.0 ∙ is.uses in
     record {
       uses = ap (λ p. p.0) c.take_use.ensures.uses ∙ ap (take_use place.turn) uses ∙ use-taken id place es (subst IsRising uses c.take_use.ensures.rising) found;

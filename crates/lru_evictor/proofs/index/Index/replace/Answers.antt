@@ -1,17 +1,22 @@
-use Rattle.std.proofs.Common.{ap, subst, sym, ◌∙◌, ◌∷◌}
-use Rattle.use_tree.specs.Uses.{IsRising, take_use}
+use Rattle.std.proofs.Common.{ap, subst, sym, ◌∙◌, ◌∷◌, is_some}
+use Rattle.private_store.proofs.Tests.{true_false}
+use Rattle.use_tree.specs.Uses.{IsRising, take_use, has_use}
 use Rattle.lru_evictor.specs.Indexed.{use_of}
 use Rattle.lru_evictor.proofs.Spread.{spread-front, front-apart}
-use Rattle.lru_evictor.proofs.Uses.{use-taken}
+use Rattle.lru_evictor.proofs.Uses.{use-taken, use-there}
 use Rattle.lru_evictor.proofs.index.Index.replace.Goals as goal
 
+pub returns-in_default : goal.returns-in_default
+returns-in_default c es found is =
+    true_false (ap is_some (sym c.in_default.is) ∙ c.take_use.ensures.there ∙ ap (has_use c.args.before.turn) is.uses ∙ use-there c.args.id c.args.before es found)
+
 pub returns : goal.returns
-returns c on es found is =
+returns c es found is =
     let id = c.args.id in
     let before = c.args.before in
     let after = c.args.after in
     let taken = c.in-Some.ensures.uses in
-    let stands = c.stand.ensures.stands on id before.turn after.turn es found (ap (λ p. p.2) c.push_use.ensures ∙ ap (λ p. p.2) taken ∙ is.residents) is.apart in
+    let stands = c.stand.ensures.stands id before.turn after.turn es found (ap (λ p. p.2) c.push_use.ensures ∙ ap (λ p. p.2) taken ∙ is.residents) is.apart in
     record {
       uses =
           c.stand.ensures.same.0 ∙ ap (λ p. p.0) c.push_use.ensures

@@ -1,21 +1,25 @@
-use Rattle.std.proofs.Common.{sym, ap, subst, ◌∙◌, reverse}
+use Rattle.std.proofs.Common.{sym, ap, subst, ◌∙◌, reverse, length, arith, ◌<◌}
 use Rattle.std.specs.Map.{keys_of}
-use Rattle.lru_evictor.specs.Indexed.{IsIndexed, shown}
+use Rattle.lru_evictor.specs.Indexed.{IsOf, shown}
 use Rattle.lru_evictor.specs.Orders.{ids_of, without_id, AllPass, OthersPass}
 use Rattle.lru_evictor.proofs.CacheOrders.{order-removed}
-use Rattle.lru_evictor.proofs.Uses.{order-shown, none-removed, removed-passes}
+use Rattle.lru_evictor.proofs.Uses.{order-shown, none-removed, removed-passes, removed-length}
 use Rattle.lru_evictor.proofs.job_order.JobOrder.forget.Goals as goal
 
 pub invariant_of-self : goal.invariant_of-self
 invariant_of-self c =
     let same = none-removed c.args.id.now c.self.inside.cache.entries (sym c.pop.ensures.value ∙ c.in_default.is) in
-    (ap (λ a. a.cap) c.pop.ensures.entries ∙ c.self.invariant.0, subst (IsIndexed c.self.inside.index) (sym (ap (λ a. a.entries) c.pop.ensures.entries ∙ same)) c.self.invariant.1)
+    let is = ap (λ a. a.entries) c.pop.ensures.entries ∙ same in
+    (ap (λ a. a.cap) c.pop.ensures.entries ∙ c.self.invariant.0, subst (λ es. IsOf es c.self.inside.index) (sym is) c.self.invariant.1, subst (λ es. length es < 4611686018427387904) (sym is) c.self.invariant.2)
 
 pub invariant_of-self-2 : goal.invariant_of-self-2
-invariant_of-self-2 c = (
-  ap (λ a. a.cap) c.pop.ensures.entries ∙ c.self.invariant.0,
-  subst (IsIndexed c.remove.new.index) (sym (ap (λ a. a.entries) c.pop.ensures.entries)) (c.remove.ensures c.args.id.now c.self.inside.cache.entries (sym c.pop.ensures.value ∙ c.in-Some.is) c.self.invariant.1),
-)
+invariant_of-self-2 c =
+    let is = ap (λ a. a.entries) c.pop.ensures.entries in
+    let fewer = removed-length c.args.id.now c.self.inside.cache.entries in (
+      ap (λ a. a.cap) c.pop.ensures.entries ∙ c.self.invariant.0,
+      subst (λ es. IsOf es c.remove.new.self) (sym is) (c.remove.ensures c.args.id.now c.self.inside.cache.entries (sym c.pop.ensures.value ∙ c.in-Some.is) c.self.invariant.1),
+      subst (λ es. length es < 4611686018427387904) (sym is) (omega (arith, fewer, c.self.invariant.2)),
+    )
 
 pub returns-in_default-clause-ids : goal.returns-in_default-clause-ids
 returns-in_default-clause-ids c =
