@@ -193,7 +193,7 @@ impl Window {
         ensures memory { IsErrOf result NoMemory → place_check (record self.old { placed = without gone.now self.old.placed }) len ≡ None }
         ensures err { OnErr result (self.new ≡ self.old) }
         ensures fresh { IfOk result (λ e. lookup (nat_eq e.offset) (without gone.now self.old.placed) ≡ None) }
-        ensures small { IfOk result (λ e. e.offset + e.length < 2 ^ 32) }
+        ensures small { IfOk result (λ e. e.offset + e.length < 2 ^ 29) }
     {
         let need = rounded(len);
         if len == 0 || len > LONGEST_OBJECT || need > self.quota {
