@@ -125,12 +125,15 @@ module _ (task : TaskNo) where
       by None e f = none_some y f
       by (Some k) e f = (k, e, sym (some_value (ended q k) y f))
 
+  pub ended-place : (id : ObjectId) (k : Kept) → extent_of (ended id k).copy ≡ extent_of k.copy
+  ended-place id k = same_part (λ z. extent_of z.copy) (λ z. refl) (same_task task id.task) k
+
   pub ended_placed : (placed : List (ℕ × List ℕ)) (es : ById Kept) → ArePlaced placed (place_of es) → ArePlaced placed (place_of (hands_ended task es))
   ended_placed placed es h = same_places placed (place_of es) (place_of (hands_ended task es)) (λ q. ap (λ o. option_and_then (λ (k : Kept). extent_of k.copy) o) (at-ended es q) ∙ by q (at es q)) h
     where
       by : (q : ObjectId) (o : Option Kept) → option_and_then (λ (k : Kept). extent_of k.copy) (option_map (ended q) o) ≡ option_and_then (λ (k : Kept). extent_of k.copy) o
       by q None = refl
-      by q (Some k) = same_part (λ z. extent_of z.copy) (λ z. refl) (same_task task q.task) k
+      by q (Some k) = ended-place q k
 
 -- ---- the definition's walks
 

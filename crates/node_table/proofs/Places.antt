@@ -134,7 +134,7 @@ module _ (placed : List (ℕ × List ℕ)) (es : ById Kept) (h : ArePlaced place
   now_placed f lies id now is = subst (λ t. ArePlaced placed (place_of t)) (sym is) (changed_placed f lies id)
 
 -- and changes of several
-each_place : (f : Kept → Kept) → Lies f → (ids : List ObjectId) (es : ById Kept) (q : ObjectId) → place_of (each_changed f es ids) q ≡ place_of es q
+pub each_place : (f : Kept → Kept) → Lies f → (ids : List ObjectId) (es : ById Kept) (q : ObjectId) → place_of (each_changed f es ids) q ≡ place_of es q
 each_place f lies [] es q = refl
 each_place f lies (id ∷ ids) es q = each_place f lies ids (changed f es id) q ∙ places_changed f lies es id q
 

@@ -1,5 +1,5 @@
 -- Where the copies of a row lie after some of them went and a new one took a place.
-use Rattle.std.proofs.Common.{◌≡◌, ◌≢◌, ℕ, Bool, true, false, not, ◌||◌, cond, nat_eq, List, [], ◌∷◌, ◌++◌, length, replicate, Contains, ◌⊎◌, inl, inr, Option, Some, None, option_map, refl, sym, ap, subst, ◌∙◌, arith}
+use Rattle.std.proofs.Common.{◌≡◌, ◌≢◌, ℕ, ◌+◌, ◌^◌, ◌<◌, Bool, true, false, not, ◌||◌, cond, nat_eq, List, [], ◌∷◌, ◌++◌, length, replicate, Contains, ◌⊎◌, inl, inr, Option, Some, None, option_map, refl, sym, ap, subst, ◌∙◌, arith}
 use Rattle.std.specs.Prelude.{IsSomeAnd, nat_lt}
 use Rattle.std.specs.List.{cons_option}
 use Rattle.std.specs.List.Sorted.{IsPermutation}
@@ -24,6 +24,7 @@ use Rattle.lru_evictor.specs.Facts.{gone_of}
 use Rattle.lru_evictor.specs.Orders.{without_id, last_used}
 use Rattle.lru_evictor.proofs.Free.{goes, without-permuted}
 use Rattle.node_table.specs.Evicting.{all_evicted}
+use Rattle.node_table.specs.Followed.{LiesAlone}
 use Rattle.node_table.specs.Kept.{Kept, unplaced}
 use Rattle.node_table.specs.RoomPlans.{facts_of}
 use Rattle.node_table.specs.Row.{place_of, ArePlaced}
@@ -274,6 +275,10 @@ module _ (es : ById Kept) (placed : List (ℕ × List ℕ)) (h : ArePlaced place
 
   pub replaced_placed : ArePlaced placed_now (place_of es_now)
   replaced_placed = record { there = there_now; apart = apart_now; owned = owned_now }
+
+-- where copies are placed, one that lies there lies alone
+pub alone : (placed : List (ℕ × List ℕ)) (es : ById Kept) (id : ObjectId) (e : Extent) → ArePlaced placed (place_of es) → place_of es id ≡ Some e → e.offset + e.length < 2 ^ 29 → LiesAlone es id e
+alone placed es id e h lies small = record { lies = lies; apart = λ x f there same. h.apart x id f e there lies same; small = small }
 
 -- ---- what goes, in another order
 

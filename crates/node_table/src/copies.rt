@@ -19,7 +19,7 @@ ghost use Rattle.std.specs.Prelude.{◌≡◌, ◌≢◌, ◌<◌, ◌^◌, [], 
 ghost use Rattle.node_table.specs.Usages.{item_of, total, is_spilling, window_bytes as window_bytes_lem, device_bytes as device_bytes_lem, doomed_one};
 ghost use Rattle.private_store.specs.Kept.{is_fetching};
 ghost use Rattle.node_table.specs.Row.{copies_of};
-ghost use Rattle.node_table.specs.Followed.{facts_in, AreFollowed, NoneIsGone};
+ghost use Rattle.node_table.specs.Followed.{facts_in, AreFollowed, NoneIsGone, KeepPlaces};
 ghost use Rattle.lru_evictor.specs.Facts.{standing_at};
 ghost use Rattle.lru_evictor.specs.Orders.{ids_of};
 ghost use Rattle.node_table.specs.Arriving.{located, asks, fills, lacks_only, gap_closed, brought, unfetched};
@@ -144,7 +144,7 @@ impl Copies {
     /// follows. Takes a walk over them, and no memory.
     pub fn follow_all(&self, order: &mut UseOrder)
         ensures ids { ids_of order.new ≡ ids_of order.old }
-        ensures standings { (before : ById Kept) → NoneIsGone before self.now → AreFollowed before order.old → AreFollowed self.now order.new }
+        ensures standings { (before : ById Kept) → NoneIsGone before self.now → KeepPlaces before self.now → AreFollowed before order.old → AreFollowed self.now order.new }
     {
         for (id, _) in &self.by_id {
             order.choose(id, self.standing(id));

@@ -1,12 +1,11 @@
 //! The order of use follows what becomes of the copies: where they lie, and which walks for room choose them.
-ghost use Rattle.std.specs.Prelude.{◌≡◌, [], ◌∷◌, Some, List};
+ghost use Rattle.std.specs.Prelude.{◌≡◌, [], ◌∷◌, List};
 ghost use Rattle.obj_id.specs.declared.ids.ObjectId.{ObjectId};
 ghost use Rattle.private_store.specs.Tables.{ById};
 ghost use Rattle.lru_evictor.specs.Orders.{ids_of};
 ghost use Rattle.node_table.specs.Evicting.{all_evicted, without_missing};
 ghost use Rattle.node_table.specs.Kept.{Kept};
-ghost use Rattle.node_table.specs.Row.{place_of};
-ghost use Rattle.node_table.specs.Followed.{AreFollowed, AreFollowedBut, SameBut, SameButThese};
+ghost use Rattle.node_table.specs.Followed.{AreFollowed, AreFollowedBut, SameBut, SameButThese, KeepPlaces, LiesAlone};
 
 use crate::copies::Copies;
 use extent_tree::{Resident, Room};
@@ -16,16 +15,16 @@ use obj_id::{Extent, ObjectId};
 /// After a change of one copy at most, which lies where it lay, or nowhere any more. Takes no memory.
 pub(crate) fn follow(order: &mut UseOrder, copies: &Copies, id: &ObjectId)
     ensures ids { ids_of order.new ≡ ids_of order.old }
-    ensures standings { (before : ById Kept) → SameBut id.now before copies.now → AreFollowed before order.old → AreFollowed copies.now order.new }
+    ensures standings { (before : ById Kept) → SameBut id.now before copies.now → KeepPlaces before copies.now → AreFollowed before order.old → AreFollowed copies.now order.new }
 {
     order.choose(id, copies.standing(id));
 }
 
-/// After changes of these copies at most, each of which lies where it lay, or nowhere any more. Copies that the order was not
-/// told of yet may be spared. Takes no memory.
+/// After changes of these copies at most, each of which lies where it lay, or nowhere any more. Copies that lie nowhere as far as
+/// the order knows may be spared. Takes no memory.
 pub(crate) fn follow_each(order: &mut UseOrder, copies: &Copies, ids: &[ObjectId])
     ensures ids { ids_of order.new ≡ ids_of order.old }
-    ensures standings { (spared : List ObjectId) (before : ById Kept) → SameButThese ids.now before copies.now → AreFollowedBut spared before order.old → AreFollowedBut spared copies.now order.new }
+    ensures standings { (spared : List ObjectId) (before : ById Kept) → SameButThese ids.now before copies.now → KeepPlaces before copies.now → AreFollowedBut spared before order.old → AreFollowedBut spared copies.now order.new }
 {
     for id in ids {
         order.choose(id, copies.standing(id));
@@ -44,8 +43,8 @@ pub(crate) fn forget_missing(order: &mut UseOrder, copies: &Copies, ids: &[Objec
     }
 }
 
-/// The victims are evicted, and the copy of the id, which lay nowhere as far as the order knew, lies there. The order is told so
-/// of it last, so that no two copies lie at one offset meanwhile. Uses the room, and takes no memory.
+/// The victims are evicted, and the copy of the id, which lay nowhere as far as the order knew, lies there alone. The order is
+/// told so of it last, so that no two copies lie at one offset meanwhile. Uses the room, and takes no memory.
 pub(crate) fn evict_for(
     order: &mut UseOrder,
     copies: &mut Copies,
@@ -56,7 +55,7 @@ pub(crate) fn evict_for(
 )
     ensures copies { copies.new ≡ all_evicted victims.now copies.old }
     ensures ids { ids_of order.new ≡ without_missing copies.new victims.now (ids_of order.old) }
-    ensures standings { place_of copies.new id.now ≡ Some extent → AreFollowedBut (id.now ∷ []) copies.old order.old → AreFollowed copies.new order.new }
+    ensures standings { LiesAlone copies.new id.now extent → AreFollowedBut (id.now ∷ []) copies.old order.old → AreFollowed copies.new order.new }
 {
     copies.evict_all(victims);
     follow_each(order, copies, victims);

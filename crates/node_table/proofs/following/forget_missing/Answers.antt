@@ -1,11 +1,9 @@
-use Rattle.std.proofs.Common.{Bool, ◌∷◌, ◌+◌, ◌||◌, drop, sym, ap, subst, ◌∙◌}
+use Rattle.std.proofs.Common.{◌∷◌, ◌+◌, drop, sym, ap, subst, ◌∙◌}
 use Rattle.std.proofs.lemmas.List.{drop_all, drop_more}
-use Rattle.private_store.specs.Tables.{at, is_among}
-use Rattle.obj_id.specs.declared.ids.ObjectId.{ObjectId}
-use Rattle.lru_evictor.specs.declared.facts.Standing.{Standing}
+use Rattle.private_store.specs.Tables.{at}
 use Rattle.lru_evictor.specs.Orders.{ids_of}
 use Rattle.node_table.specs.Evicting.{without_missing}
-use Rattle.node_table.specs.Followed.{is_followed, AreFollowedBut}
+use Rattle.node_table.specs.Followed.{is_followed_but, AreFollowedBut}
 use Rattle.node_table.proofs.Evicting.{missing-more, missing-stays, missing-none, not_there, is_there}
 use Rattle.node_table.proofs.FollowsCopies.{all_others}
 use Rattle.node_table.proofs.following.forget_missing.Goals as goal
@@ -23,7 +21,7 @@ loop-id-preserved c =
             ∙ ap (without_missing c.args.copies.now rest) w.forget.ensures.ids
             ∙ missing-more c.args.copies.now c.id-item.result rest (ids_of c.loop-id.order) (not_there (at c.args.copies.now c.id-item.result) (sym c.has.ensures ∙ w.if-not-has.true)) ∙ whole;
         followed = λ spared h.
-            let test : ObjectId → Standing → Bool = λ x s. is_among spared x || is_followed c.args.copies.now x s in
+            let test = is_followed_but spared c.args.copies.now in
             subst (AreFollowedBut spared c.args.copies.now) (sym w.order-is) (w.forget.ensures.standings test (all_others c.id-item.result test c.loop-id.order (c.loop-id.invariant.followed spared h)));
       }
       | else-not-has w ↦ record {

@@ -1,7 +1,7 @@
 use Rattle.std.proofs.Common.{List}
 use Rattle.obj_id.specs.declared.ids.ObjectId.{ObjectId}
 use Rattle.node_table.specs.Arriving.{unfetched}
-use Rattle.std.proofs.Common.{sym, ap, subst, ◌∙◌}
+use Rattle.std.proofs.Common.{refl, sym, ap, subst, ◌∙◌}
 use Rattle.std.specs.Prelude.{option_to_list}
 use Rattle.private_store.specs.Tables.{ById}
 use Rattle.job_region.specs.Region.{Region, without}
@@ -10,7 +10,7 @@ use Rattle.node_table.specs.Kept.{Kept}
 use Rattle.node_table.specs.Row.{Row, place_of, ArePlaced}
 use Rattle.node_table.proofs.Dropping.{slice_is}
 use Rattle.node_table.proofs.Unfetching.{unfetched_placed}
-use Rattle.node_table.proofs.FollowsCopies.{changed_but}
+use Rattle.node_table.proofs.FollowsCopies.{one_changed}
 use Rattle.node_table.proofs.row.JobRow.fail_fetch.Goals as goal
 
 pub invariant_of-self : goal.invariant_of-self
@@ -20,7 +20,7 @@ invariant_of-self c =
       subst (λ (w : Region). ArePlaced w.placed (place_of c.fail_fetch.new.self)) (sym window)
           (subst (λ t. ArePlaced (without (option_to_list (place_of c.self.inside.copies c.args.id.now)) c.self.inside.window.placed) (place_of t)) (sym c.fail_fetch.ensures)
           (unfetched_placed c.self.inside.window.placed c.self.inside.copies c.self.invariant.0 c.args.id.now c.args.fault)),
-      c.follow.ensures.standings c.self.inside.copies (changed_but (unfetched c.args.fault) c.self.inside.copies c.fail_fetch.new.self c.args.id.now c.fail_fetch.ensures) c.self.invariant.1,
+      one_changed (unfetched c.args.fault) c.args.id.now c.self.inside.copies c.fail_fetch.new.self c.fail_fetch.ensures c.self.inside.order c.follow.new.order c.follow.ensures.standings (λ z. refl) c.self.invariant.1,
     )
 
 pub returns-clause-row : goal.returns-clause-row

@@ -1,10 +1,10 @@
 use Rattle.node_table.specs.Kept.{lost}
-use Rattle.std.proofs.Common.{sym, ap, subst, ◌∙◌}
+use Rattle.std.proofs.Common.{refl, sym, ap, subst, ◌∙◌}
 use Rattle.std.specs.Prelude.{option_to_list}
 use Rattle.job_region.specs.Region.{Region, without}
 use Rattle.node_table.specs.Row.{Row, place_of, ArePlaced}
 use Rattle.node_table.proofs.Dropping.{lost_placed, slice_is}
-use Rattle.node_table.proofs.FollowsCopies.{changed_but}
+use Rattle.node_table.proofs.FollowsCopies.{one_changed}
 use Rattle.node_table.proofs.row.JobRow.lose.Goals as goal
 
 pub invariant_of-self : goal.invariant_of-self
@@ -14,5 +14,5 @@ invariant_of-self c =
       subst (λ (w : Region). ArePlaced w.placed (place_of c.lose.new.self)) (sym window)
           (subst (λ t. ArePlaced (without (option_to_list (place_of c.self.inside.copies c.args.id.now)) c.self.inside.window.placed) (place_of t)) (sym c.lose.ensures)
           (lost_placed c.self.inside.window.placed c.self.inside.copies c.self.invariant.0 c.args.id.now c.args.fault)),
-      c.follow.ensures.standings c.self.inside.copies (changed_but (lost c.args.fault) c.self.inside.copies c.lose.new.self c.args.id.now c.lose.ensures) c.self.invariant.1,
+      one_changed (lost c.args.fault) c.args.id.now c.self.inside.copies c.lose.new.self c.lose.ensures c.self.inside.order c.follow.new.order c.follow.ensures.standings (λ z. refl) c.self.invariant.1,
     )

@@ -1,5 +1,5 @@
 use Rattle.lru_evictor.specs.Orders.{ids_of}
-use Rattle.std.proofs.Common.{ℕ, nat_eq, false, replicate, List, Some, None, sym, ap, subst, ◌∙◌}
+use Rattle.std.proofs.Common.{ℕ, nat_eq, false, replicate, List, Some, None, sym, ap, subst, ◌∙◌, arith}
 use Rattle.std.specs.Map.{lookup}
 use Rattle.std.specs.Option.{option_map_or}
 use Rattle.obj_id.specs.declared.ids.ObjectId.{ObjectId}
@@ -10,9 +10,9 @@ use Rattle.node_table.specs.Evicting.{all_evicted, placed_without, replaced, wit
 use Rattle.node_table.specs.Kept.{Kept, waits_for_place, placed_for}
 use Rattle.node_table.specs.Row.{Row, place_of, ArePlaced}
 use Rattle.node_table.proofs.Changes.{changed-found}
-use Rattle.node_table.proofs.Replacing.{left_sorted, new_lies, replaced_placed}
+use Rattle.node_table.proofs.Replacing.{left_sorted, new_lies, replaced_placed, alone}
 use Rattle.node_table.proofs.Pulling.{waiting, unused, placed_lies, stays_of}
-use Rattle.node_table.proofs.FollowsCopies.{changed_but, one_followed}
+use Rattle.node_table.proofs.FollowsCopies.{changed_but, placed_unknown}
 use Rattle.node_table.proofs.row.JobRow.place_copy.Goals as goal
 
 pub take_place-requires : goal.take_place-requires
@@ -28,12 +28,14 @@ invariant_of-self-in-Ok-1 c =
     let fresh = ap (lookup (nat_eq c.in-Ok.extent.offset)) (sym left) ∙ c.in-Ok.ensures.fresh in
     let stays = stays_of c.args.self.now c.args.id.now c.args.len c.args.victims.now c.requires.fits in
     let lies = placed_lies c.args.awaited c.in-Ok.extent.offset w.k c.args.len w.long in
-    let there = new_lies c.self.inside.copies c.self.inside.window.placed c.self.invariant.0 c.args.victims.now c.args.id.now (placed_for c.args.awaited c.in-Ok.extent.offset w.k) c.args.len c.in-Ok.extent.offset w.nowhere stays lies fresh in (
-      subst (λ t. ArePlaced c.replace.new.self.placed (place_of t)) (sym copies)
-          (subst (λ ps. ArePlaced ps (place_of (all_evicted c.args.victims.now (with_entry c.self.inside.copies c.args.id.now (placed_for c.args.awaited c.in-Ok.extent.offset w.k))))) (sym placed)
-          (replaced_placed c.self.inside.copies c.self.inside.window.placed c.self.invariant.0 c.args.victims.now c.args.id.now (placed_for c.args.awaited c.in-Ok.extent.offset w.k) c.args.len c.in-Ok.extent.offset w.nowhere stays lies fresh)),
-      c.evict_for.ensures.standings (ap (λ t. place_of t c.args.id.now) copies ∙ there ∙ (λ i. Some (record { offset = c.in-Ok.extent.offset; length = sym c.in-Ok.ensures.length i })))
-          (one_followed c.args.id.now c.self.inside.copies c.take_place.new.self (changed_but (placed_for c.args.awaited c.in-Ok.extent.offset) c.self.inside.copies c.take_place.new.self c.args.id.now c.take_place.ensures) c.self.inside.order c.self.invariant.1),
+    let there = new_lies c.self.inside.copies c.self.inside.window.placed c.self.invariant.0 c.args.victims.now c.args.id.now (placed_for c.args.awaited c.in-Ok.extent.offset w.k) c.args.len c.in-Ok.extent.offset w.nowhere stays lies fresh in
+    let now_lie : ArePlaced c.replace.new.self.placed (place_of c.evict_for.new.copies) = subst (λ t. ArePlaced c.replace.new.self.placed (place_of t)) (sym copies)
+    (subst (λ ps. ArePlaced ps (place_of (all_evicted c.args.victims.now (with_entry c.self.inside.copies c.args.id.now (placed_for c.args.awaited c.in-Ok.extent.offset w.k))))) (sym placed)
+    (replaced_placed c.self.inside.copies c.self.inside.window.placed c.self.invariant.0 c.args.victims.now c.args.id.now (placed_for c.args.awaited c.in-Ok.extent.offset w.k) c.args.len c.in-Ok.extent.offset w.nowhere stays lies fresh)) in (
+      now_lie,
+      c.evict_for.ensures.standings
+          (alone c.replace.new.self.placed c.evict_for.new.copies c.args.id.now c.in-Ok.extent now_lie (ap (λ t. place_of t c.args.id.now) copies ∙ there ∙ (λ i. Some (record { offset = c.in-Ok.extent.offset; length = sym c.in-Ok.ensures.length i }))) c.in-Ok.ensures.small)
+          (placed_unknown c.args.id.now c.self.inside.copies c.take_place.new.self (changed_but (placed_for c.args.awaited c.in-Ok.extent.offset) c.self.inside.copies c.take_place.new.self c.args.id.now c.take_place.ensures) w.nowhere c.self.inside.order c.self.invariant.1),
     )
 
 pub returns-in-Ok-clause-ok : goal.returns-in-Ok-clause-ok
@@ -49,7 +51,7 @@ returns-in-Ok-clause-ok c k found =
           ∙ ap (λ ps. first (extents_of ps) c.self.inside.window.quota c.args.len) (sym left) ∙ c.in-Ok.ensures.least;
       length = c.in-Ok.ensures.length;
       row = (λ i. row_of (window i) (copies i) (order i)) ∙ ap (λ (r : Row). replaced r None c.args.id.now (placed_for c.args.awaited c.in-Ok.extent.offset k) c.args.len c.in-Ok.extent.offset c.args.victims.now) c.self.view_is;
-      small = c.in-Ok.ensures.small;
+      small = omega (arith, c.in-Ok.ensures.small);
       fresh = ap (λ (r : Row). lookup (nat_eq c.in-Ok.extent.offset) (placed_without r c.args.victims.now)) (sym c.self.view_is) ∙ ap (lookup (nat_eq c.in-Ok.extent.offset)) (sym left) ∙ c.in-Ok.ensures.fresh;
     }
   where

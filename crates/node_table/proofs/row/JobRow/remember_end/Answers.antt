@@ -4,8 +4,8 @@ use Rattle.private_store.specs.Kept.{is_remembered}
 use Rattle.private_store.specs.Tables.{at}
 use Rattle.node_table.specs.EndingTasks.{task_row}
 use Rattle.node_table.specs.Row.{Row, place_of, ArePlaced}
-use Rattle.node_table.proofs.EndingTasks.{ended, at-ended, ended_placed}
-use Rattle.node_table.proofs.FollowsCopies.{none_gone}
+use Rattle.node_table.proofs.EndingTasks.{ended, at-ended, ended-place, ended_placed}
+use Rattle.node_table.proofs.FollowsCopies.{none_gone, lies_keeps, all_keep}
 use Rattle.node_table.proofs.row.JobRow.remember_end.Goals as goal
 
 pub invariant_of-self-2 : goal.invariant_of-self-2
@@ -13,7 +13,8 @@ invariant_of-self-2 c = (
   subst (λ t. ArePlaced c.self.inside.window.placed (place_of t)) (sym c.end_hands.ensures)
       (ended_placed c.args.task c.self.inside.window.placed c.self.inside.copies c.self.invariant.0),
   c.follow_all.ensures.standings c.self.inside.copies
-      (none_gone (ended c.args.task) c.self.inside.copies c.end_hands.new.self (λ x. ap (λ t. at t x) c.end_hands.ensures ∙ at-ended c.args.task c.self.inside.copies x)) c.self.invariant.1,
+      (none_gone (ended c.args.task) c.self.inside.copies c.end_hands.new.self (λ x. ap (λ t. at t x) c.end_hands.ensures ∙ at-ended c.args.task c.self.inside.copies x))
+      (all_keep (ended c.args.task) (λ x. lies_keeps (ended c.args.task x) (ended-place c.args.task x)) c.self.inside.copies c.end_hands.new.self (λ x. ap (λ t. at t x) c.end_hands.ensures ∙ at-ended c.args.task c.self.inside.copies x)) c.self.invariant.1,
 )
 
 pub returns-clause-ok : goal.returns-clause-ok

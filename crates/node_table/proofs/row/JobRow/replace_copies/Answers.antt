@@ -1,4 +1,4 @@
-use Rattle.std.proofs.Common.{◌≡◌, ℕ, nat_eq, false, replicate, List, [], Some, None, is_some, refl, sym, ap, subst, ◌∙◌}
+use Rattle.std.proofs.Common.{◌≡◌, ℕ, nat_eq, false, replicate, List, Some, None, is_some, refl, sym, ap, subst, ◌∙◌, arith}
 use Rattle.std.specs.Map.{lookup}
 use Rattle.std.specs.Option.{option_and_then}
 use Rattle.private_store.specs.Copies.{extent_of}
@@ -13,9 +13,9 @@ use Rattle.node_table.specs.Kept.{Kept, new_kept}
 use Rattle.node_table.specs.Row.{Row, place_of, ArePlaced}
 use Rattle.node_table.proofs.Changes.{put_back, of_err, of_ok}
 use Rattle.node_table.proofs.Pulling.{stays_of, place_there}
-use Rattle.node_table.proofs.Replacing.{left_sorted, forgotten, new_lies, replaced_placed}
+use Rattle.node_table.proofs.Replacing.{left_sorted, forgotten, new_lies, replaced_placed, alone}
 use Rattle.node_table.specs.Followed.{is_followed, AreFollowed}
-use Rattle.node_table.proofs.FollowsCopies.{put_but, removed_but, others_still, next_followed, entered_followed}
+use Rattle.node_table.proofs.FollowsCopies.{put_but, removed_but, others_still, one_spared, entered_unknown}
 use Rattle.node_table.proofs.row.JobRow.replace_copies.Goals as goal
 
 pub unreachable-requires : goal.unreachable-requires
@@ -53,8 +53,8 @@ invariant_of-self-in-Err c =
       subst (λ (w : Region). ArePlaced w.placed (place_of c.remove-in-Err.new.self)) (sym c.in-Err.ensures.err) (subst (λ t. ArePlaced c.self.inside.window.placed (place_of t)) (sym back) c.self.invariant.0),
       c.forget.ensures.standings (is_followed c.remove-in-Err.new.self)
           (others_still c.args.id.now c.insert.new.self c.remove-in-Err.new.self (removed_but c.insert.new.self c.remove-in-Err.new.self c.args.id.now c.remove-in-Err.ensures) c.enter.new.self
-          (next_followed c.args.id.now [] c.insert.new.self c.enter.new.self
-          (entered_followed c.args.id.now c.self.inside.copies c.insert.new.self (put_but c.self.inside.copies c.insert.new.self c.args.id.now _ c.in_ok-insert.ensures.ok) c.self.inside.order c.enter.new.self
+          (one_spared c.args.id.now c.insert.new.self c.enter.new.self
+          (entered_unknown c.args.id.now c.self.inside.copies c.insert.new.self (put_but c.self.inside.copies c.insert.new.self c.args.id.now _ c.in_ok-insert.ensures.ok) none c.self.inside.order c.enter.new.self
           (of_ok c.enter.result c.enter.ensures.standings (sym c.is_err.ensures.value ∙ c.if-is_err.false)) c.self.invariant.1))),
     )
 
@@ -83,12 +83,14 @@ invariant_of-self-in-Ok c =
     let fresh = ap (lookup (nat_eq c.in-Ok.extent.offset)) (sym left_then) ∙ c.in-Ok.ensures.fresh in
     let nowhere = ap (option_and_then (λ (k : Kept). extent_of k.copy)) none in
     let stays = stays_of c.args.self.now c.args.id.now c.args.len c.args.victims.now c.requires.fits in
-    let there = new_lies c.self.inside.copies c.self.inside.window.placed c.self.invariant.0 c.args.victims.now c.args.id.now (new_kept c.args.kind c.args.len c.in-Ok.extent.offset) c.args.len c.in-Ok.extent.offset nowhere stays refl fresh in (
-      subst (λ t. ArePlaced c.replace.new.self.placed (place_of t)) (sym copies)
-          (subst (λ ps. ArePlaced ps (place_of (all_evicted c.args.victims.now (with_entry c.self.inside.copies c.args.id.now (new_kept c.args.kind c.args.len c.in-Ok.extent.offset))))) (sym placed)
-          (replaced_placed c.self.inside.copies c.self.inside.window.placed c.self.invariant.0 c.args.victims.now c.args.id.now (new_kept c.args.kind c.args.len c.in-Ok.extent.offset) c.args.len c.in-Ok.extent.offset nowhere stays refl fresh)),
-      c.evict_for.ensures.standings (ap (λ t. place_of t c.args.id.now) copies ∙ there ∙ (λ i. Some (record { offset = c.in-Ok.extent.offset; length = sym c.in-Ok.ensures.length i })))
-          (entered_followed c.args.id.now c.self.inside.copies c.insert.new.self (put_but c.self.inside.copies c.insert.new.self c.args.id.now _ c.in_ok-insert.ensures.ok) c.self.inside.order c.enter.new.self
+    let there = new_lies c.self.inside.copies c.self.inside.window.placed c.self.invariant.0 c.args.victims.now c.args.id.now (new_kept c.args.kind c.args.len c.in-Ok.extent.offset) c.args.len c.in-Ok.extent.offset nowhere stays refl fresh in
+    let now_lie : ArePlaced c.replace.new.self.placed (place_of c.evict_for.new.copies) = subst (λ t. ArePlaced c.replace.new.self.placed (place_of t)) (sym copies)
+    (subst (λ ps. ArePlaced ps (place_of (all_evicted c.args.victims.now (with_entry c.self.inside.copies c.args.id.now (new_kept c.args.kind c.args.len c.in-Ok.extent.offset))))) (sym placed)
+    (replaced_placed c.self.inside.copies c.self.inside.window.placed c.self.invariant.0 c.args.victims.now c.args.id.now (new_kept c.args.kind c.args.len c.in-Ok.extent.offset) c.args.len c.in-Ok.extent.offset nowhere stays refl fresh)) in (
+      now_lie,
+      c.evict_for.ensures.standings
+          (alone c.replace.new.self.placed c.evict_for.new.copies c.args.id.now c.in-Ok.extent now_lie (ap (λ t. place_of t c.args.id.now) copies ∙ there ∙ (λ i. Some (record { offset = c.in-Ok.extent.offset; length = sym c.in-Ok.ensures.length i }))) c.in-Ok.ensures.small)
+          (entered_unknown c.args.id.now c.self.inside.copies c.insert.new.self (put_but c.self.inside.copies c.insert.new.self c.args.id.now _ c.in_ok-insert.ensures.ok) none c.self.inside.order c.enter.new.self
           (of_ok c.enter.result c.enter.ensures.standings (sym c.is_err.ensures.value ∙ c.if-is_err.false)) c.self.invariant.1),
     )
 
@@ -108,7 +110,7 @@ returns-clause-ok c =
           ∙ ap (λ ps. first (extents_of ps) c.self.inside.window.quota c.args.len) (sym left_then) ∙ c.in-Ok.ensures.least;
       length = c.in-Ok.ensures.length;
       row = (λ i. row_of (window i) (copies i) (order i)) ∙ ap (λ (r : Row). replaced r (Some c.args.id.now) c.args.id.now (new_kept c.args.kind c.args.len c.in-Ok.extent.offset) c.args.len c.in-Ok.extent.offset c.args.victims.now) c.self.view_is;
-      small = c.in-Ok.ensures.small;
+      small = omega (arith, c.in-Ok.ensures.small);
       fresh = ap (λ (r : Row). lookup (nat_eq c.in-Ok.extent.offset) (placed_without r c.args.victims.now)) (sym c.self.view_is) ∙ ap (lookup (nat_eq c.in-Ok.extent.offset)) (sym left_then) ∙ c.in-Ok.ensures.fresh;
     }
   where
