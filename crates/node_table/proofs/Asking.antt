@@ -130,7 +130,7 @@ append_one : {Y : Type 0} (xs : List Y) (y : Y) (ys : List Y) → (xs ++ y ∷ [
 append_one [] y ys = refl
 append_one (x ∷ xs) y ys = ap (λ zs. x ∷ zs) (append_one xs y ys)
 
-all_asked : (ids : List ObjectId) (store : Shape) → fold (asked true) store ids ≡ record store { works = store.works ++ numbered_works Write store.works_asked ids; works_asked = store.works_asked + length ids }
+pub all_asked : (ids : List ObjectId) (store : Shape) → fold (asked true) store ids ≡ record store { works = store.works ++ numbered_works Write store.works_asked ids; works_asked = store.works_asked + length ids }
 all_asked [] store = sym (λ i. record store { works = append_nil store.works i; works_asked = none store.works_asked i })
   where
     none : (a : ℕ) → a + 0 ≡ a

@@ -21,7 +21,7 @@ use Rattle.private_store.specs.Private.{key_of}
 use Rattle.private_store.specs.Step.{step}
 use Rattle.private_store.proofs.Checks.{checked-true, checked-false, checked-nil}
 use Rattle.private_store.proofs.Rows.{at-put_here}
-use Rattle.std.specs.Prelude.{IfOk, Ok, Err}
+use Rattle.std.specs.Prelude.{IfOk, OnErr, Ok, Err}
 use Rattle.std.specs.declared.result.Result.{Result}
 use Rattle.private_store.specs.Kept.{is_remembered}
 use Rattle.private_store.proofs.Tests.{some_value, true_false, both_left, both_right, not_true}
@@ -30,7 +30,7 @@ use Rattle.lru_evictor.proofs.Reorders.{reordered-used}
 use Rattle.node_table.specs.Entries.{changed}
 use Rattle.node_table.specs.Kept.{Kept, held, is_ready}
 use Rattle.node_table.specs.Row.{Row, Beside, copies_of, shape_of}
-use Rattle.node_table.specs.Checks.{hold_check_of, fetch_check, get_check_by, get_check_of, copy_check, visible_state}
+use Rattle.node_table.specs.Checks.{hold_check_of, visible_state}
 use Rattle.node_table.specs.Holding.{IsRowHeld, IsHoldRefusedAt}
 use Rattle.node_table.specs.Shown.{seen, IsShown, only, TakesStep}
 use Rattle.node_table.proofs.ByChecks.{unless_refused, first-check, called, own}
@@ -44,20 +44,25 @@ pub each_ok : {T E : Type 0} {P Q : T → Type 0} (r : Result T E) → ((t : T) 
 each_ok (Ok t) f h = f t h
 each_ok (Err e) f h = tt
 
-sealed_is : (state : CopyState) → is_sealed state ≡ true → state ≡ Sealed
+-- what is so anyhow is so of each answer, and of each error
+pub always_ok : {T E : Type 0} {P : T → Type 0} (r : Result T E) → ((t : T) → P t) → IfOk r P
+always_ok (Ok t) p = p t
+always_ok (Err e) p = tt
+
+pub always_err : {T E : Type 0} {P : Type 0} (r : Result T E) → P → OnErr r P
+always_err (Ok t) p = tt
+always_err (Err e) p = p
+
+pub each_err : {T E : Type 0} {P Q : Type 0} (r : Result T E) → (P → Q) → OnErr r P → OnErr r Q
+each_err (Ok t) f h = tt
+each_err (Err e) f h = f h
+
+pub sealed_is : (state : CopyState) → is_sealed state ≡ true → state ≡ Sealed
 sealed_is Created e = true_false e
 sealed_is Sealed e = refl
 sealed_is Restoring e = true_false e
 sealed_is Fetching e = true_false e
 sealed_is Away e = true_false e
-
--- where a hold was out of memory, nothing else stood against it
-pub held_late : (row new : Row) (id : ObjectId) (r : Refusal) → r ≡ NoMemory → IsHoldRefusedAt row.copies id r new.copies → copy_check row id ≡ None
-held_late row new id r e h =
-    ap (λ (o : Option Kept). elim o [ None ↦ fetch_check row.copies row.fetches_begun | Some kept ↦ get_check_of row.window.quota kept ]) h.found
-    ∙ ap (λ b. cond b (Some Absent) (get_check_by row.window.quota h.kept h.kept.copy.state)) (not_true h.kept.copy.doomed (both_right (is_sealed h.kept.copy.state) _ h.ready))
-    ∙ ap (get_check_by row.window.quota h.kept) (sealed_is h.kept.copy.state (both_left _ (not h.kept.copy.doomed) h.ready))
-    ∙ h.late e
 
 abbrev looked : Bool → Kept → Result (Option CopyState) Refusal
 looked doomed k = cond doomed (Err Absent) (Ok (Some k.copy.state))

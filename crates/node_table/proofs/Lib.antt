@@ -24,6 +24,7 @@ pub mod Sums
 pub mod Described
 pub mod Gathered
 pub mod Planning
+mod Growing
 pub mod Removing
 pub mod Evicting
 pub mod Counting

@@ -24,21 +24,20 @@ use Rattle.private_store.proofs.RefusingLemmas.{victims_make_room}
 use Rattle.private_store.proofs.Tests.{both, or_left, or_right, true_false}
 use Rattle.job_region.specs.Region.{Region, extents_of, place_for, place_check, without}
 use Rattle.lru_evictor.specs.declared.facts.DeviceRoom.{DeviceRoom}
-use Rattle.lru_evictor.specs.declared.facts.Plan.{Plan as Found}
 use Rattle.lru_evictor.specs.declared.facts.Standing.{Standing}
 use Rattle.lru_evictor.specs.Orders.{ids_of}
-use Rattle.lru_evictor.specs.Plans.{IsDescribed, IsOfCopies, shown}
+use Rattle.lru_evictor.specs.Plans.{IsDescribed, IsOfCopies}
 use Rattle.lru_evictor.proofs.Described.{fits-described}
 use Rattle.spill_work.specs.Line.{WorkLine, works_of, in_flight, used_by}
 use Rattle.node_table.specs.Kept.{Kept}
 use Rattle.node_table.specs.Row.{Row, Beside, shape_of, place_of, ArePlaced}
 use Rattle.node_table.specs.Shown.{IsShown}
 use Rattle.node_table.specs.Followed.{AreFollowed}
-use Rattle.node_table.specs.RoomPlans.{IsPlanned, MakesPlace, plan_by, facts_of}
+use Rattle.node_table.specs.RoomPlans.{IsPlanned, MakesPlace, plan_by, planned_by, listed, facts_of}
 use Rattle.node_table.specs.Usages.{total, device_bytes}
 use Rattle.node_table.proofs.Telling.{device_is}
 use Rattle.node_table.specs.declared.room.RoomPlan.{RoomPlan}
-use Rattle.node_table.specs.declared.room.RoomPlan.TheVariants.{Place, Ask, TellFailedSpill, Refuse}
+use Rattle.node_table.specs.declared.room.RoomPlan.TheVariants.{Fits, Ask, TellFailedSpill, Refuse}
 use Rattle.node_table.proofs.Described.{described, facts_at}
 
 -- what is so of each among the ids is so of all
@@ -56,7 +55,7 @@ at_once test (x ∷ xs) t = ap (λ b. elim b [ true ↦ Some [] | false ↦ shor
 module _ (order : List ObjectId) (once : IsOrderOfUse order) (store : Shape) (n : ℕ) where
   -- what a plan does is what is to be done
   abbrev IsDone : Plan → Type 0
-  IsDone p = IsPlanned (room_by store n p) store n (plan_by store.works_asked store.spill_failed p)
+  IsDone p = IsPlanned (room_by store n p) store n (plan_by store.works_asked store.spill_failed p) (listed p)
 
   evicts : (ids : List ObjectId) → victims order store n ≡ Some ids → MakesPlace (room_by store n (evict ids)) store n ids
   evicts ids e =
@@ -65,10 +64,10 @@ module _ (order : List ObjectId) (once : IsOrderOfUse order) (store : Shape) (n 
 
   spills : (ids : List ObjectId) → AreChosen store (is_spillable store) ids → 0 < length ids → length ids ≤ works_left store → IsDone (spill ids)
   spills ids chosen some few =
-      elim store.spill_failed as (λ f. store.spill_failed ≡ f → IsPlanned (room_by store n (spill ids)) store n (cond f TellFailedSpill (cond (has_numbers store.works_asked (length ids)) (Ask ids) (Refuse TooMany)))) [
+      elim store.spill_failed as (λ f. store.spill_failed ≡ f → IsPlanned (room_by store n (spill ids)) store n (cond f TellFailedSpill (cond (has_numbers store.works_asked (length ids)) (Ask (length ids)) (Refuse TooMany))) ids) [
         | true ↦ λ failed. spill_by true failed
         | false ↦ λ unfailed.
-            elim (has_numbers store.works_asked (length ids)) as (λ b. has_numbers store.works_asked (length ids) ≡ b → IsPlanned (room_by store n (spill ids)) store n (cond b (Ask ids) (Refuse TooMany))) [
+            elim (has_numbers store.works_asked (length ids)) as (λ b. has_numbers store.works_asked (length ids) ≡ b → IsPlanned (room_by store n (spill ids)) store n (cond b (Ask (length ids)) (Refuse TooMany)) ids) [
               | true ↦ λ t. record { room_is = spill_is unfailed true t; spillable = all_among _ ids chosen.pass; once = chosen.once; some = some; few = few; numbers = t }
               | false ↦ λ t. spill_is unfailed false t
             ] refl
@@ -115,10 +114,10 @@ module _ (order : List ObjectId) (once : IsOrderOfUse order) (store : Shape) (n 
       by (Some (id ∷ ids)) e = evicts (id ∷ ids) e
 
   -- nothing goes where the bytes fit as it is
-  pub place_done : is_some (offset_without store n []) ≡ true → IsPlanned (make_room order store n) store n (Place [])
-  place_done fit =
-      let none : victims order store n ≡ Some [] = at_once (λ out. is_some (offset_without store n out)) (in_order store order (is_evictable store)) fit in
-      subst (λ v. IsPlanned (room_by store n (elim v [ Some [] ↦ fits | Some (id ∷ ids) ↦ evict (id ∷ ids) | None ↦ then_spilled (spilled order store n) ])) store n (Place [])) (sym none) (evicts [] none)
+  pub fits_planned : is_some (offset_without store n []) ≡ true → planned_by order store n ≡ Fits
+  fits_planned fit =
+      ap (λ v. plan_by store.works_asked store.spill_failed (elim v [ Some [] ↦ fits | Some (id ∷ ids) ↦ evict (id ∷ ids) | None ↦ then_spilled (spilled order store n) ]))
+      (at_once (λ out. is_some (offset_without store n out)) (in_order store order (is_evictable store)) fit)
 
 -- ---- of a row
 
@@ -134,12 +133,20 @@ passes_check window n = by (is_size window.quota n) (is_some (place_for window n
     by true false e = absurd cc
     by false place e = absurd cc
 
+-- what room does is what is planned for it
+pub planned : (row : Row) (beside : Beside) (contents : Contents) → IsShown row beside contents → (n : ℕ)
+    → IsPlanned (make_room row.order (shape_of row beside) n) (shape_of row beside) n (planned_by row.order (shape_of row beside) n) (listed (plan row.order (shape_of row beside) n))
+planned row beside contents h n = plan_done row.order h.kept.order (shape_of row beside) n
+
+-- where the plan is known
+pub planned_as : (row : Row) (beside : Beside) (contents : Contents) → IsShown row beside contents → (n : ℕ) (p q : RoomPlan) → p ≡ planned_by row.order (shape_of row beside) n → p ≡ q
+    → IsPlanned (make_room row.order (shape_of row beside) n) (shape_of row beside) n q (listed (plan row.order (shape_of row beside) n))
+planned_as row beside contents h n p q own is =
+    subst (λ p. IsPlanned (make_room row.order (shape_of row beside) n) (shape_of row beside) n p (listed (plan row.order (shape_of row beside) n))) (sym own ∙ is) (planned row beside contents h n)
+
 module _ (row : Row) (beside : Beside) (contents : Contents) (h : IsShown row beside contents) (placed : ArePlaced row.window.placed (place_of row.copies)) (n : ℕ) where
   abbrev s : Shape
   s = shape_of row beside
-
-  pub planned : IsPlanned (make_room row.order s n) s n (plan_by s.works_asked s.spill_failed (plan row.order s n))
-  planned = plan_done row.order h.kept.order s n
 
   -- the order of use has each copy as it stands
   pub of_copies : (copies : ById Kept) → copies ≡ row.copies → (order : List (ObjectId × Standing)) → ids_of order ≡ row.order → AreFollowed row.copies order → IsOfCopies order (facts_at copies)
@@ -152,20 +159,18 @@ module _ (row : Row) (beside : Beside) (contents : Contents) (h : IsShown row be
       by id None found some = true_false some
       by id (Some k) found some = h.listed id k found
 
-  pub place_planned : place_check row.window n ≡ None → IsPlanned (make_room row.order s n) s n (Place [])
+  pub place_planned : place_check row.window n ≡ None → planned_by row.order s n ≡ Fits
   place_planned none =
       let device : DeviceRoom = record { quota = row.device; used = device_used s; works = length s.works } in
-      place_done row.order h.kept.order s n
+      fits_planned row.order h.kept.order s n
       (sym (fits-described s row.window device (facts_at row.copies) (described row beside contents h placed device refl refl refl) n [])
       ∙ ap (λ ps. is_some (first (extents_of ps) row.window.quota n)) (none_go row.window.placed)
       ∙ passes_check row.window n none)
 
   -- ---- the exits of the plan
 
-  pub place_exit : (window : Region) → window ≡ row.window → (check : Option Refusal) → check ≡ place_check window n → check ≡ None → (ids : List ObjectId) → ids ≡ []
-      → IsPlanned (make_room row.order s n) s n (Place ids)
-  place_exit window here check is none ids empty =
-      subst (λ ids. IsPlanned (make_room row.order s n) s n (Place ids)) (sym empty) (place_planned (ap (λ w. place_check w n) (sym here) ∙ sym is ∙ none))
+  pub place_exit : (window : Region) → window ≡ row.window → (check : Option Refusal) → check ≡ place_check window n → check ≡ None → planned_by row.order s n ≡ Fits
+  place_exit window here check is none = place_planned (ap (λ w. place_check w n) (sym here) ∙ sym is ∙ none)
 
   module _ (job : JobNo) (own : job ≡ record { 0 = row.job }) where
     module _ (window : Region) (here : window ≡ row.window) (copies : ById Kept) (same : copies ≡ row.copies) (quota used works : ℕ)
@@ -179,9 +184,8 @@ module _ (row : Row) (beside : Beside) (contents : Contents) (h : IsShown row be
           (described row beside contents h placed device of_job
           (walked ∙ ap (total device_bytes) same ∙ device_is row beside contents h) (counted ∙ ap (in_flight line) own ∙ ap length (sym works_are))))
 
-      pub plan_exit : (order : List ObjectId) → order ≡ row.order → (p : Found)
-          → ((store : Shape) → IsDescribed store window device (facts_at copies) → shown p ≡ plan order store n)
-          → (asked : ℕ) → asked ≡ used_by line job → (failed : Bool) → failed ≡ row.spill_failed → (told : RoomPlan) → told ≡ plan_by asked failed (shown p) → IsPlanned (make_room row.order s n) s n told
+      pub plan_exit : (order : List ObjectId) → order ≡ row.order → (p : Plan)
+          → ((store : Shape) → IsDescribed store window device (facts_at copies) → p ≡ plan order store n)
+          → (asked : ℕ) → asked ≡ used_by line job → (failed : Bool) → failed ≡ row.spill_failed → (told : RoomPlan) → told ≡ plan_by asked failed p → told ≡ planned_by row.order s n
       plan_exit order own_order p is_plan asked is_asked failed is_failed told is =
-          subst (IsPlanned (make_room row.order s n) s n)
-          (sym (is ∙ (λ i. plan_by ((is_asked ∙ ap (used_by line) own ∙ sym used_is) i) (is_failed i) ((is_plan s as_described ∙ ap (λ o. plan o s n) own_order) i)))) planned
+          is ∙ (λ i. plan_by ((is_asked ∙ ap (used_by line) own ∙ sym used_is) i) (is_failed i) ((is_plan s as_described ∙ ap (λ o. plan o s n) own_order) i))

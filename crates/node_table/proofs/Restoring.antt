@@ -1,5 +1,5 @@
 -- A copy that is away is read back, in a place that is made for it.
-use Rattle.std.proofs.Common.{◌≡◌, ℕ, Bool, true, false, not, ◌&&◌, ◌||◌, cond, ◌==◌, nat_eq, List, [], ◌∷◌, ◌++◌, ◌+◌, ◌-◌, ◌<◌, ◌≤◌, nat_le, Option, Some, None, is_some, option_map, Ok, Err, refl, sym, ap, subst, ◌∙◌, arith}
+use Rattle.std.proofs.Common.{◌≡◌, ℕ, Bool, true, false, not, ◌&&◌, ◌||◌, ◌⊎◌, cond, inl, inr, ◌==◌, nat_eq, List, [], ◌∷◌, ◌++◌, ◌+◌, ◌-◌, ◌<◌, ◌≤◌, nat_le, Option, Some, None, is_some, option_map, Ok, Err, refl, sym, ap, subst, ◌∙◌, arith}
 use Rattle.std.specs.Prelude.{is_ok}
 use Rattle.std.proofs.lemmas.Bool.Decides.{nat_tests}
 use Rattle.std.proofs.lemmas.List.{append-nil}
@@ -174,13 +174,14 @@ all_works line j job own many =
 pub no_number : (line : WorkLine) (j : JobNo) (job : ℕ) → j ≡ record { 0 = job } → used_by line j ≡ 18446744073709551615 → has_numbers (used_by line (record { 0 = job })) 1 ≡ false
 no_number line j job own last = ap (λ j. has_numbers (used_by line j) 1) (sym own) ∙ ap (λ m. has_numbers m 1) last
 
-pub has_number : (line : WorkLine) (j : JobNo) (job : ℕ) → j ≡ record { 0 = job } → ask_check line j ≡ None → has_numbers (used_by line (record { 0 = job })) 1 ≡ true
-has_number line j job own passed = ap (λ j. has_numbers (used_by line j) 1) (sym own) ∙ by (nat_le most_works (in_flight line j)) (has_numbers (used_by line j) 1) passed
+-- a number is left where the last one wasn't used and there is a place
+pub numbers_left : (place : Bool) (used : ℕ) → ((place ≡ true) × (used ≡ 18446744073709551615 → ⊥)) ⊎ (place ≡ false) → used < 18446744073709551616 → place ≡ true → has_numbers used 1 ≡ true
+numbers_left place used (inl more) fits t = left (has_numbers used 1) refl
   where
-    by : (b a : Bool) → cond b (Some Busy) (cond a None (Some TooMany)) ≡ None → a ≡ true
-    by true a e = none_some Busy (sym e)
-    by false true e = refl
-    by false false e = none_some TooMany (sym e)
+    left : (b : Bool) → has_numbers used 1 ≡ b → has_numbers used 1 ≡ true
+    left true e = e
+    left false e = absurd (more.1 (grind (arith, nat_tests, e, fits)))
+numbers_left place used (inr none) fits t = true_false (sym none ∙ t)
 
 pub has_asked : (old new : WorkLine) (j : JobNo) (number : ℕ) (id : ObjectId) → Asks old (record { job = j; number = number; id = id; kind = Read }) new → HasAsked old j new
 has_asked old new j number id asks = record {

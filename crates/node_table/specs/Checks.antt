@@ -80,33 +80,6 @@ fetch_check copies begun =
     if nat_le most_copies (length copies) then Some TooMany else
     (if has_numbers begun 1 then None else Some TooMany)
 
--- of a fetch in this phase, of an object of n bytes: what it came to if it failed, and a length that the window can't have
-abbrev pub phase_check : ℕ → ℕ → Phase → Option Refusal
-phase_check window n locating = None
-phase_check window n (sized source) = if is_size window n then None else Some BadSize
-phase_check window n (pulling source missing) = None
-phase_check window n (failed fault) = Some (fetch_refusal fault)
-
--- of an object that is asked for, by the state of its copy
-abbrev pub get_check_by : ℕ → Kept → CopyState → Option Refusal
-get_check_by window kept Created = Some NotSealed
-get_check_by window kept Sealed = hold_check_of kept
-get_check_by window kept Restoring = Some Pending
-get_check_by window kept Fetching = option_map_or (λ fetch. phase_check window kept.copy.length fetch.phase) kept.copy.fetch (Some Absent)
-get_check_by window kept Away = option_map refusal_of kept.copy.fault
-
--- of an object that is asked for
-abbrev pub get_check_of : ℕ → Kept → Option Refusal
-get_check_of window kept = if kept.copy.doomed then Some Absent else get_check_by window kept kept.copy.state
-
--- of an object whose task hasn't ended
-abbrev pub copy_check : Row → ObjectId → Option Refusal
-copy_check row id =
-    elim (at row.copies id) [ None ↦ fetch_check row.copies row.fetches_begun | Some kept ↦ get_check_of row.window.quota kept ]
-
-abbrev pub get_check : Row → ObjectId → Option Refusal
-get_check row id = if is_remembered row.ended_tasks id.task then Some Gone else copy_check row id
-
 -- ---- scope
 
 -- of a primary that its owner task is to keep no longer, where that task asks or another
@@ -161,11 +134,9 @@ create_check row id n =
     (if is_some (at row.copies id) then Some Exists else
     (if nat_le most_copies (length row.copies) then Some TooMany else None)))
 
--- why a command on the job's own object is refused before anything grows
+-- why a command on the job's own object that waits for no room is refused before anything grows
 abbrev pub early_check : Row → ℕ → Command (List ℕ) → Option Refusal
-early_check row session (command.Create id kind n) = create_check row id n
 early_check row session (command.Seal id) = seal_check row.copies id
-early_check row session (command.Get id) = get_check row id
 early_check row session (command.Read id offset n) = read_check row.copies session id offset n
 early_check row session (command.Unpin id task) = unpin_check row.copies id task
 early_check row session (command.Borrow id task) = row_borrow_check row id task

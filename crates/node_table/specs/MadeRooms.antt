@@ -1,5 +1,5 @@
 -- What making room came to, for whatever step waits for it.
-use Rattle.std.specs.Prelude.{◌≡◌, ℕ, Bool, true, false, None, is_ok}
+use Rattle.std.specs.Prelude.{◌≡◌, ℕ, Bool, true, false, List, None, is_ok}
 use Rattle.obj_id.specs.declared.ids.ObjectId.{ObjectId}
 use Rattle.obj_id.specs.declared.commands.Reply.{Reply}
 use Rattle.obj_id.specs.declared.commands.Reply.TheVariants as reply
@@ -7,14 +7,15 @@ use Rattle.obj_id.specs.declared.refusals.Refusal.{Refusal}
 use Rattle.private_store.specs.declared.inputs.Input.{Input}
 use Rattle.private_store.specs.Shape.{Shape, Change}
 use Rattle.private_store.specs.Contents.{Contents, View, judge, bytes_brought, digest_brought, bytes_received}
+use Rattle.private_store.specs.Hands.{Hand}
 use Rattle.private_store.specs.Room.{make_room}
 use Rattle.private_store.specs.Change.{erasing, in_room}
 use Rattle.private_store.specs.Step.{step}
 use Rattle.spill_work.specs.Line.{WorkLine}
 use Rattle.node_table.specs.Evicting.{fits_without}
-use Rattle.node_table.specs.Row.{Row, Beside, shape_of}
-use Rattle.node_table.specs.RoomPlans.{MakesPlace}
-use Rattle.node_table.specs.Shown.{seen, only, TakesStep}
+use Rattle.node_table.specs.Row.{Row, Beside, beside_of, shape_of}
+use Rattle.node_table.specs.RoomPlans.{MakesPlace, planned_by, refuses}
+use Rattle.node_table.specs.Shown.{seen, only, IsShown, TakesStep}
 use Rattle.node_table.specs.declared.room.MadeRoom.{MadeRoom}
 use Rattle.node_table.specs.declared.room.MadeRoom.TheVariants.{Place, Told}
 
@@ -40,6 +41,12 @@ IsMade (Told refusal) old before contents n new after = TellsRoom old before con
 abbrev pub WaitsForPlace : MadeRoom → Row → WorkLine → ObjectId → ℕ → Row → WorkLine → Type 0
 WaitsForPlace (Place victims) old before id n new after = (new ≡ old) × (after ≡ before) × (fits_without old id n victims ≡ true)
 WaitsForPlace (Told refusal) old before id n new after = Unit {0}
+
+-- the plan for room for n bytes in this row, beside this line of works, is no refusal
+abbrev pub IsPlannedFor : Row → WorkLine → ℕ → Type 0
+IsPlannedFor row line n =
+    (hands : List Hand) (bytes : ObjectId → List ℕ) (contents : Contents) → IsShown row (beside_of line hands bytes row.job) contents
+    → refuses (planned_by row.order (shape_of row (beside_of line hands bytes row.job)) n) ≡ false
 
 -- whether there is none
 abbrev pub is_told : MadeRoom → Bool

@@ -10,11 +10,11 @@ use Rattle.private_store.specs.Extents.{rounded}
 use Rattle.private_store.specs.Shape.{Copy, Shape}
 use Rattle.private_store.specs.Copies.{extent_of, is_held, may_evict, may_spill, may_pass, is_evictable, is_spillable}
 use Rattle.private_store.specs.Kept.{IsOrderOfUse}
-use Rattle.private_store.specs.Room.{Room, Plan, fits, wait, full, busy, evict, spill, works_left, offset_without, asked, evict_room, no_room}
+use Rattle.private_store.specs.Room.{Room, Plan, fits, wait, full, busy, evict, spill, works_left, offset_without, asked, evict_room, no_room, plan}
 use Rattle.lru_evictor.specs.declared.facts.CopyFacts.{CopyFacts}
 use Rattle.node_table.specs.Kept.{Kept}
 use Rattle.node_table.specs.declared.room.RoomPlan.{RoomPlan}
-use Rattle.node_table.specs.declared.room.RoomPlan.TheVariants.{Place, Ask, TellFailedSpill, Refuse}
+use Rattle.node_table.specs.declared.room.RoomPlan.TheVariants.{Fits, Evict, Ask, TellFailedSpill, Refuse}
 
 -- ---- what a plan reads
 
@@ -36,12 +36,36 @@ facts_of kept =
 
 -- what a plan is to a job whose works had numbers up to this one, and of which a spill failed or not
 abbrev pub plan_by : ℕ → Bool → Plan → RoomPlan
-plan_by used failed fits = Place []
-plan_by used failed (evict ids) = Place ids
+plan_by used failed fits = Fits
+plan_by used failed (evict ids) = Evict
 plan_by used failed wait = Refuse Pending
 plan_by used failed full = Refuse Full
 plan_by used failed busy = Refuse Busy
-plan_by used failed (spill ids) = if failed then TellFailedSpill else (if has_numbers used (length ids) then Ask ids else Refuse TooMany)
+plan_by used failed (spill ids) = if failed then TellFailedSpill else (if has_numbers used (length ids) then Ask (length ids) else Refuse TooMany)
+
+-- what is to be done for room for n bytes in this store
+abbrev pub planned_by : List ObjectId → Shape → ℕ → RoomPlan
+planned_by order store n = plan_by store.works_asked store.spill_failed (plan order store n)
+
+-- the copies that a plan names
+abbrev pub listed : Plan → List ObjectId
+listed (evict ids) = ids
+listed (spill ids) = ids
+listed _ = []
+
+-- whether it is that a refusal is told, and nothing grows
+abbrev pub refuses : RoomPlan → Bool
+refuses Fits = false
+refuses Evict = false
+refuses (Ask count) = false
+refuses TellFailedSpill = true
+refuses (Refuse refusal) = true
+
+-- whether it is that there is a place, at once or once copies were evicted
+abbrev pub makes_place : RoomPlan → Bool
+makes_place Fits = true
+makes_place Evict = true
+makes_place _ = false
 
 -- each id has a copy that passes the test
 abbrev pub all_pass : Shape → (ObjectId → Copy → Bool) → List ObjectId → Bool
@@ -63,9 +87,10 @@ pub record AsksWrites (room : Room) (store : Shape) (ids : List ObjectId) : Type
   pub few : length ids ≤ works_left store
   pub numbers : has_numbers store.works_asked (length ids) ≡ true
 
--- what room for n bytes does is what is to be done
-abbrev pub IsPlanned : Room → Shape → ℕ → RoomPlan → Type 0
-IsPlanned room store n (Place ids) = MakesPlace room store n ids
-IsPlanned room store n (Ask ids) = AsksWrites room store ids
-IsPlanned room store n TellFailedSpill = room ≡ no_room (record store { spill_failed = false }) DeviceFailed
-IsPlanned room store n (Refuse refusal) = room ≡ no_room store refusal
+-- what room for n bytes does is what is to be done, with these copies where the plan names some
+abbrev pub IsPlanned : Room → Shape → ℕ → RoomPlan → List ObjectId → Type 0
+IsPlanned room store n Fits ids = MakesPlace room store n []
+IsPlanned room store n Evict ids = MakesPlace room store n ids
+IsPlanned room store n (Ask count) ids = AsksWrites room store ids
+IsPlanned room store n TellFailedSpill ids = room ≡ no_room (record store { spill_failed = false }) DeviceFailed
+IsPlanned room store n (Refuse refusal) ids = room ≡ no_room store refusal

@@ -24,6 +24,7 @@ ghost use Rattle.private_store.specs.Private.{to_peer};
 ghost use Rattle.private_store.specs.Room.{make_room};
 ghost use Rattle.private_store.specs.Shape.{Fetch, sized};
 ghost use Rattle.node_table.specs.Kept.{Kept, is_unasked, waits_for_place};
+ghost use Rattle.node_table.specs.Late.{IsDueMore};
 ghost use Rattle.node_table.specs.RoomPlans.{MakesPlace};
 ghost use Rattle.node_table.specs.Row.{Beside, beside_of, shape_of};
 ghost use Rattle.node_table.specs.Shown.{IsShown, TakesStep};
@@ -42,7 +43,8 @@ use std::alloc::{AllocError, Global};
 impl JobRow {
     /// Get of an object whose source is known, and that the window may have: room is made for it, and then all its chunks
     /// are asked for at the source; the answer is `Pending`. If there is no room the answer is that of Create. The error
-    /// is out of memory, and then nothing has changed. The works that it asks for come last in the line.
+    /// is out of memory: no other refusal was due then, and nothing has changed. The works that it asks for come last in
+    /// the line.
     pub(crate) fn begin_pull(
         &mut self,
         alloc: Global,
@@ -57,6 +59,7 @@ impl JobRow {
             → TakesStep node self.old (beside_of works.old hands bytes self.old.job) contents (input.Call session (command.Get id.now)) (given_of o) self.new (beside_of works.new hands bytes self.old.job)) }
         ensures few { IfOk result (λ o. length o.messages ≤ length self.old.copies + 1) }
         ensures line { OnOk result (HasAsked works.old id.now.job works.new) }
+        ensures late { OnErr result ((id.now.job.0 == self.old.job) ≡ true → IsDueMore node self.old works.old (command.Get id.now)) }
         ensures others { (other : JobNo) → same_job id.now.job other ≡ false → IsSameFor other works.old works.new }
         ensures memory { (r : Refusal) → IsErrOf result r → r ≡ NoMemory }
         ensures err { OnErr result (self.new ≡ self.old) }

@@ -13,6 +13,7 @@ ghost use Rattle.node_table.specs.Asked.{HasAsked};
 ghost use Rattle.node_table.specs.Checks.{create_check as create_check_lem};
 ghost use Rattle.node_table.specs.Evicting.{fits_without, removals as removals_lem};
 ghost use Rattle.node_table.specs.Kept.{Kept};
+ghost use Rattle.node_table.specs.Late.{IsDueMore};
 ghost use Rattle.private_store.specs.Tables.{ById};
 ghost use Rattle.node_table.specs.Outcomes.{given_of};
 ghost use Rattle.node_table.specs.RoomPlans.{MakesPlace};
@@ -32,8 +33,9 @@ impl JobRow {
     /// Create: a copy of zeros to be written, of `len` bytes, if the window has room or room is made:
     /// by evicting the job's least recently used copies that may go, and otherwise by asking for the writes of
     /// those that may be spilled, which is answered `Pending`. `BadSize`, `Gone`, `Exists`, `TooMany`,
-    /// `Pending`, `Full`, `Busy`, and once after a spill failed `DeviceFailed`. The error is out of memory, and then nothing has changed. The works that it asks for come
-    /// last in the line, and those before them stay.
+    /// `Pending`, `Full`, `Busy`, and once after a spill failed `DeviceFailed`. The error is out
+    /// of memory: no other refusal was due then, and nothing has changed. The works that it asks for come last in the line,
+    /// and those before them stay.
     /// It sends no more messages than the job has copies.
     pub fn create(
         &mut self,
@@ -48,7 +50,7 @@ impl JobRow {
             → TakesStep node self.old (beside_of works.old hands bytes self.old.job) contents (input.Call session (command.Create id.now kind len)) (given_of o) self.new (beside_of works.new hands bytes self.old.job)) }
         ensures few { IfOk result (λ o. length o.messages ≤ length self.old.copies) }
         ensures line { OnOk result (HasAsked works.old id.now.job works.new) }
-        ensures late { OnErr result (create_check_lem self.old id.now len ≡ None) }
+        ensures late { OnErr result ((id.now.job.0 == self.old.job) ≡ true → IsDueMore node self.old works.old (command.Create id.now kind len)) }
         ensures others { (other : JobNo) → same_job id.now.job other ≡ false → IsSameFor other works.old works.new }
         ensures memory { (r : Refusal) → IsErrOf result r → r ≡ NoMemory }
         ensures err { OnErr result (self.new ≡ self.old) }

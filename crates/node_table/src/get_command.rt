@@ -13,11 +13,12 @@ ghost use Rattle.private_store.specs.Contents.{Contents};
 ghost use Rattle.private_store.specs.Private.{to_directory};
 ghost use Rattle.obj_id.specs.declared.messages.DirectoryMessage.TheVariants.{Locate};
 ghost use Rattle.private_store.specs.Hands.{Hand};
-ghost use Rattle.spill_work.specs.Line.{same_job, IsSameFor};
+ghost use Rattle.spill_work.specs.Line.{WorkLine, same_job, IsSameFor};
 ghost use Rattle.node_table.specs.Asked.{HasAsked};
 ghost use Rattle.node_table.specs.Row.{Beside, beside_of};
-ghost use Rattle.node_table.specs.Checks.{copy_check, get_check, fetch_check as fetch_check_lem};
+ghost use Rattle.node_table.specs.Checks.{fetch_check as fetch_check_lem};
 ghost use Rattle.node_table.specs.Kept.{is_ready};
+ghost use Rattle.node_table.specs.Late.{IsDueMore};
 ghost use Rattle.node_table.specs.Outcomes.{given_of};
 ghost use Rattle.node_table.specs.Shown.{IsShown, TakesStep, only};
 
@@ -38,7 +39,7 @@ impl JobRow {
         ensures none { IfOk result (λ o. IfNone o (option_map_or (λ k. is_ready k.copy) (at self.old.copies id.now) false ≡ false)) }
         ensures same { IfOk result (λ o. IfNone o (self.new ≡ self.old)) }
         ensures memory { (r : Refusal) → IsErrOf result r → r ≡ NoMemory }
-        ensures late { OnErr result (copy_check self.old id.now ≡ None) }
+        ensures late { OnErr result ((node : ℕ) (line : WorkLine) → (id.now.job.0 == self.old.job) ≡ true → IsDueMore node self.old line (command.Get id.now)) }
         ensures err { OnErr result (self.new ≡ self.old) }
     {
         match self.hold_copy(id, session) {
@@ -60,7 +61,7 @@ impl JobRow {
             → TakesStep node self.old beside contents (input.Call session (command.Get id.now)) (given_of o) self.new beside) }
         ensures few { IfOk result (λ o. length o.messages ≤ 1) }
         ensures memory { (r : Refusal) → IsErrOf result r → r ≡ NoMemory }
-        ensures late { OnErr result (copy_check self.old id.now ≡ None) }
+        ensures late { OnErr result ((line : WorkLine) → (id.now.job.0 == self.old.job) ≡ true → IsDueMore node self.old line (command.Get id.now)) }
         ensures err { OnErr result (self.new ≡ self.old) }
     {
         let begun = self.fetches_begun();
@@ -89,7 +90,7 @@ impl JobRow {
             → TakesStep node self.old (beside_of works.old hands bytes self.old.job) contents (input.Call session (command.Get id.now)) (given_of o) self.new (beside_of works.new hands bytes self.old.job)) }
         ensures few { IfOk result (λ o. length o.messages ≤ length self.old.copies + 1) }
         ensures line { OnOk result (HasAsked works.old id.now.job works.new) }
-        ensures late { OnErr result (copy_check self.old id.now ≡ None) }
+        ensures late { OnErr result ((id.now.job.0 == self.old.job) ≡ true → IsDueMore node self.old works.old (command.Get id.now)) }
         ensures others { (other : JobNo) → same_job id.now.job other ≡ false → IsSameFor other works.old works.new }
         ensures memory { (r : Refusal) → IsErrOf result r → r ≡ NoMemory }
         ensures err { OnErr result (self.new ≡ self.old) }
@@ -111,8 +112,9 @@ impl JobRow {
 
     /// Get: a hold on a copy that is here, and otherwise what brings it here. `Gone`, `Absent`, `NotSealed`, `Pending`,
     /// `TooMany`; `BadSize` of an object that the window can't have; once after its restore failed `DeviceFailed` or
-    /// `Damaged`, and after its fetch failed `Absent` or `Damaged`, and then it isn't here any more. The error is out of memory, and then nothing has changed. The works that it asks for come last in the
-    /// line, and those before them stay.
+    /// `Damaged`, and after its fetch failed `Absent` or `Damaged`, and then it isn't here any more. The error is out
+    /// of memory: no other refusal was due then, and nothing has changed. The works that it asks for come last in the line,
+    /// and those before them stay.
     /// It sends at most one message more than the job has copies.
     pub fn get(
         &mut self,
@@ -126,7 +128,7 @@ impl JobRow {
             → TakesStep node self.old (beside_of works.old hands bytes self.old.job) contents (input.Call session (command.Get id.now)) (given_of o) self.new (beside_of works.new hands bytes self.old.job)) }
         ensures few { IfOk result (λ o. length o.messages ≤ length self.old.copies + 1) }
         ensures line { OnOk result (HasAsked works.old id.now.job works.new) }
-        ensures late { OnErr result (get_check self.old id.now ≡ None) }
+        ensures late { OnErr result ((id.now.job.0 == self.old.job) ≡ true → IsDueMore node self.old works.old (command.Get id.now)) }
         ensures others { (other : JobNo) → same_job id.now.job other ≡ false → IsSameFor other works.old works.new }
         ensures memory { (r : Refusal) → IsErrOf result r → r ≡ NoMemory }
         ensures err { OnErr result (self.new ≡ self.old) }

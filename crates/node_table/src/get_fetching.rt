@@ -12,7 +12,8 @@ ghost use Rattle.private_store.specs.Hands.{Hand};
 ghost use Rattle.private_store.specs.Contents.{Contents};
 ghost use Rattle.spill_work.specs.Line.{same_job, IsSameFor};
 ghost use Rattle.node_table.specs.Asked.{HasAsked};
-ghost use Rattle.node_table.specs.Checks.{visible_state, copy_check, IsInPhase};
+ghost use Rattle.node_table.specs.Checks.{visible_state, IsInPhase};
+ghost use Rattle.node_table.specs.Late.{IsDueMore};
 ghost use Rattle.node_table.specs.Outcomes.{given_of};
 ghost use Rattle.node_table.specs.Row.{Beside, beside_of};
 ghost use Rattle.node_table.specs.Shown.{IsShown, TakesStep};
@@ -49,7 +50,7 @@ impl JobRow {
             → TakesStep node self.old (beside_of works.old hands bytes self.old.job) contents (input.Call session (command.Get id.now)) (given_of o) self.new (beside_of works.new hands bytes self.old.job)) }
         ensures few { IfOk result (λ o. length o.messages ≤ length self.old.copies + 1) }
         ensures line { OnOk result (HasAsked works.old id.now.job works.new) }
-        ensures late { OnErr result (copy_check self.old id.now ≡ None) }
+        ensures late { OnErr result ((id.now.job.0 == self.old.job) ≡ true → IsDueMore node self.old works.old (command.Get id.now)) }
         ensures others { (other : JobNo) → same_job id.now.job other ≡ false → IsSameFor other works.old works.new }
         ensures memory { (r : Refusal) → IsErrOf result r → r ≡ NoMemory }
         ensures err { OnErr result (self.new ≡ self.old) }
@@ -88,7 +89,7 @@ impl JobRow {
             → TakesStep node self.old (beside_of works.old hands bytes self.old.job) contents (input.Call session (command.Get id.now)) (given_of o) self.new (beside_of works.new hands bytes self.old.job)) }
         ensures few { IfOk result (λ o. length o.messages ≤ length self.old.copies + 1) }
         ensures line { OnOk result (HasAsked works.old id.now.job works.new) }
-        ensures late { OnErr result (copy_check self.old id.now ≡ None) }
+        ensures late { OnErr result ((id.now.job.0 == self.old.job) ≡ true → IsDueMore node self.old works.old (command.Get id.now)) }
         ensures others { (other : JobNo) → same_job id.now.job other ≡ false → IsSameFor other works.old works.new }
         ensures memory { (r : Refusal) → IsErrOf result r → r ≡ NoMemory }
         ensures err { OnErr result (self.new ≡ self.old) }

@@ -10,13 +10,15 @@ ghost use Rattle.private_store.specs.Tables.{at};
 ghost use Rattle.private_store.specs.Kept.{is_remembered};
 ghost use Rattle.private_store.specs.Hands.{Hand};
 ghost use Rattle.private_store.specs.Contents.{Contents};
-ghost use Rattle.spill_work.specs.Line.{same_job, in_flight, IsSameFor};
+ghost use Rattle.spill_work.specs.Line.{same_job, in_flight, used_by, IsSameFor};
+ghost use Rattle.std.specs.Map.{lookup};
 ghost use Rattle.std.specs.Option.{option_map_or};
-ghost use Rattle.private_store.specs.Limits.{most_works};
+ghost use Rattle.private_store.specs.Limits.{most_works, has_numbers};
 ghost use Rattle.private_store.specs.Room.{make_room};
 ghost use Rattle.node_table.specs.Evicting.{fits_without};
 ghost use Rattle.node_table.specs.Kept.{waits_for_place};
-ghost use Rattle.node_table.specs.RoomPlans.{MakesPlace};
+ghost use Rattle.node_table.specs.Late.{IsDueMore};
+ghost use Rattle.node_table.specs.RoomPlans.{MakesPlace, planned_by, refuses, makes_place};
 ghost use Rattle.node_table.specs.Asked.{HasAsked};
 ghost use Rattle.node_table.specs.Checks.{fault_at, visible_state};
 ghost use Rattle.node_table.specs.Outcomes.{given_of};
@@ -27,7 +29,7 @@ use crate::copy::Awaited;
 use crate::create_command::removals;
 use crate::get_command::{pending, told};
 use crate::outcome::Outcome;
-use crate::room::MadeRoom;
+use crate::room::{MadeRoom, RoomPlan};
 use crate::row::JobRow;
 use obj_id::limits::MOST_WORKS;
 use obj_id::{ObjectId, Refusal, WorkKind};
@@ -37,8 +39,8 @@ use std::alloc::Global;
 impl JobRow {
     /// Get of a copy that is away and has no fault to tell of: room is made for it, and its bytes are asked for at the
     /// device; the answer is `Pending`. `Busy` at 8 works in flight, `TooMany` if the job has no number of works left, and
-    /// if there is no room the answer is that of Create. The error is out of memory, and then nothing has changed. The
-    /// works that it asks for come last in the line.
+    /// if there is no room the answer is that of Create. The error is out of memory: no other refusal was due then, and
+    /// nothing has changed. The works that it asks for come last in the line.
     pub(crate) fn restore(
         &mut self,
         alloc: Global,
@@ -53,6 +55,7 @@ impl JobRow {
             → TakesStep node self.old (beside_of works.old hands bytes self.old.job) contents (input.Call session (command.Get id.now)) (given_of o) self.new (beside_of works.new hands bytes self.old.job)) }
         ensures few { IfOk result (λ o. length o.messages ≤ length self.old.copies + 1) }
         ensures line { OnOk result (HasAsked works.old id.now.job works.new) }
+        ensures late { OnErr result ((id.now.job.0 == self.old.job) ≡ true → IsDueMore node self.old works.old (command.Get id.now)) }
         ensures others { (other : JobNo) → same_job id.now.job other ≡ false → IsSameFor other works.old works.new }
         ensures memory { (r : Refusal) → IsErrOf result r → r ≡ NoMemory }
         ensures err { OnErr result (self.new ≡ self.old) }
@@ -67,7 +70,44 @@ impl JobRow {
         // that it has no place is what the proof needs
         let _place = copy.offset();
         let len = copy.length();
-        match self.room_for(alloc, works, id, len)? {
+        let plan = self.plan_room(works, len);
+        let asked = works.asked(id.job());
+        // before anything grows
+        if plan.makes_place() && asked == u64::MAX {
+            return told(alloc, Refusal::TooMany);
+        }
+        self.restore_by(alloc, node, works, id, len, plan)
+    }
+
+    /// The same by this plan, which is that of the row, where neither works nor numbers are too many.
+    fn restore_by(
+        &mut self,
+        alloc: Global,
+        node: u32,
+        works: &mut Works,
+        id: &ObjectId,
+        len: u32,
+        plan: RoomPlan,
+    ) -> Result<Outcome, Refusal>
+        requires alive { is_remembered self.old.ended_tasks id.now.task ≡ false }
+        requires visible { visible_state (at self.old.copies id.now) ≡ Ok (Some Away) }
+        requires sound { fault_at self.old.copies id.now ≡ None }
+        requires idle { in_flight works.old id.now.job < most_works }
+        requires waits { option_map_or (waits_for_place len) (at self.old.copies id.now) false ≡ true }
+        requires numbered { makes_place plan ≡ true → has_numbers (used_by works.old id.now.job) 1 ≡ true }
+        requires fresh { used_by works.old id.now.job ≡ 0 → lookup (same_job id.now.job) works.old.used ≡ None }
+        ensures ok { IfOk result (λ o. (session : ℕ) (hands : List Hand) (bytes : ObjectId → List ℕ) (contents : Contents) → (id.now.job.0 == self.old.job) ≡ true → IsShown self.old (beside_of works.old hands bytes self.old.job) contents
+            → plan ≡ planned_by self.old.order (shape_of self.old (beside_of works.old hands bytes self.old.job)) len
+            → TakesStep node self.old (beside_of works.old hands bytes self.old.job) contents (input.Call session (command.Get id.now)) (given_of o) self.new (beside_of works.new hands bytes self.old.job)) }
+        ensures few { IfOk result (λ o. length o.messages ≤ length self.old.copies + 1) }
+        ensures line { OnOk result (HasAsked works.old id.now.job works.new) }
+        ensures late { OnErr result (refuses plan ≡ false) }
+        ensures others { (other : JobNo) → same_job id.now.job other ≡ false → IsSameFor other works.old works.new }
+        ensures memory { (r : Refusal) → IsErrOf result r → r ≡ NoMemory }
+        ensures err { OnErr result (self.new ≡ self.old) }
+        ensures works { OnErr result (works.new ≡ works.old) }
+    {
+        match self.room_by(alloc, works, id, len, plan)? {
             MadeRoom::Place(victims) => {
                 self.restore_in_place(alloc, node, works, id, len, victims.as_slice())
             }
@@ -91,6 +131,8 @@ impl JobRow {
         requires idle { in_flight works.old id.now.job < most_works }
         requires waits { option_map_or (waits_for_place len) (at self.old.copies id.now) false ≡ true }
         requires fits { fits_without self.old id.now len victims.now ≡ true }
+        requires numbered { has_numbers (used_by works.old id.now.job) 1 ≡ true }
+        requires fresh { used_by works.old id.now.job ≡ 0 → lookup (same_job id.now.job) works.old.used ≡ None }
         ensures ok { IfOk result (λ o. (session : ℕ) (hands : List Hand) (bytes : ObjectId → List ℕ) (contents : Contents) → (id.now.job.0 == self.old.job) ≡ true → IsShown self.old (beside_of works.old hands bytes self.old.job) contents
             → MakesPlace (make_room self.old.order (shape_of self.old (beside_of works.old hands bytes self.old.job)) len) (shape_of self.old (beside_of works.old hands bytes self.old.job)) len victims.now
             → TakesStep node self.old (beside_of works.old hands bytes self.old.job) contents (input.Call session (command.Get id.now)) (given_of o) self.new (beside_of works.new hands bytes self.old.job)) }
@@ -101,10 +143,6 @@ impl JobRow {
         ensures err { OnErr result (self.new ≡ self.old) }
         ensures works { OnErr result (works.new ≡ works.old) }
     {
-        let asked = works.asked(id.job());
-        if asked == u64::MAX {
-            return told(alloc, Refusal::TooMany);
-        }
         let messages = removals(alloc, node, self.copies(), victims)?;
         let number = works.ask(id.job(), *id, WorkKind::Read)?;
         match self.place_copy(alloc, id, len, victims, Awaited::Device) {

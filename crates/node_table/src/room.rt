@@ -4,7 +4,7 @@ ghost use Rattle.obj_id.specs.declared.ids.JobNo.{JobNo};
 ghost use Rattle.obj_id.specs.declared.refusals.Refusal.TheVariants.{NoMemory};
 ghost use Rattle.spill_work.specs.Line.{same_job, IsSameFor, room_for as room_for_lem};
 ghost use Rattle.node_table.specs.Asked.{HasAsked};
-ghost use Rattle.node_table.specs.MadeRooms.{IsMade, WaitsForPlace, is_told};
+ghost use Rattle.node_table.specs.MadeRooms.{IsMade, IsPlannedFor, WaitsForPlace, is_told};
 ghost use Rattle.node_table.specs.Evicting.{fits_without as fits_without_lem};
 ghost use Rattle.node_table.specs.Kept.{is_sealed_at};
 ghost use Rattle.private_store.specs.Limits.{longest_object};
@@ -12,28 +12,31 @@ ghost use Rattle.private_store.specs.Extents.{is_size};
 ghost use Rattle.private_store.specs.Tables.{is_among as is_among_lem};
 ghost use Rattle.obj_id.specs.declared.refusals.Refusal.{Refusal};
 ghost use Rattle.obj_id.specs.declared.ids.ObjectId.{ObjectId};
-ghost use Rattle.private_store.specs.Room.{make_room};
+ghost use Rattle.private_store.specs.Room.{make_room, plan};
 ghost use Rattle.private_store.specs.Hands.{Hand};
 ghost use Rattle.private_store.specs.Contents.{Contents};
-ghost use Rattle.lru_evictor.specs.Plans.{shown};
-ghost use Rattle.node_table.specs.Row.{beside_of, shape_of, place_of, ArePlaced};
+ghost use Rattle.node_table.specs.Row.{Beside, beside_of, shape_of, place_of, ArePlaced};
 ghost use Rattle.node_table.specs.Shown.{IsShown};
-ghost use Rattle.node_table.specs.RoomPlans.{AsksWrites, IsPlanned, plan_by};
+ghost use Rattle.node_table.specs.RoomPlans.{AsksWrites, MakesPlace, planned_by, listed, refuses, makes_place as makes_place_lem};
+ghost use Rattle.node_table.specs.declared.room.RoomPlan.TheVariants.{Evict, Ask};
+ghost use Rattle.spill_work.specs.Line.{WorkLine};
 
 use crate::copies::Copies;
 use crate::row::JobRow;
 use lru_evictor::{CopyFacts, CopyLookup, DeviceRoom, Plan, extents_by_offset};
 use obj_id::{Items, JobNo, ObjectId, Refusal, WorkKind};
 use spill_work::Works;
-use std::alloc::Global;
+use std::alloc::{AllocError, Global};
 
 /// What is to be done for room in a window.
-#[derive(Drop)]
+#[derive(Clone, Copy, Debug)]
 pub(crate) enum RoomPlan {
-    /// These copies are to be evicted, in this order and perhaps none, and there is a place.
-    Place(Items<ObjectId>),
-    /// Writes of these copies are to be asked for, in this order, and the answer is `Pending`.
-    Ask(Items<ObjectId>),
+    /// Nothing: there is a place as it is.
+    Fits,
+    /// Copies are to be evicted, and then there is a place.
+    Evict,
+    /// Writes of so many copies are to be asked for, and the answer is `Pending`.
+    Ask(usize),
     /// Nothing: `DeviceFailed` is to be told, since a spill failed, and then forgotten.
     TellFailedSpill,
     /// Nothing: `Pending` if works that are in flight will make room, `Full` if nothing would,
@@ -51,6 +54,15 @@ pub(crate) enum MadeRoom {
     Told(Refusal),
 }
 
+impl RoomPlan {
+    /// Whether there is a place, at once or once copies were evicted.
+    pub(crate) fn makes_place(self) -> bool
+        ensures { result ≡ makes_place_lem self }
+    {
+        matches!(self, RoomPlan::Fits | RoomPlan::Evict)
+    }
+}
+
 impl CopyLookup for Copies {
     ghost use Rattle.std.specs.Option.{option_map};
     ghost use Rattle.private_store.specs.Tables.{at};
@@ -65,43 +77,41 @@ impl CopyLookup for Copies {
 }
 
 impl JobRow {
-    /// How room for an object of `len` bytes is made in the window, by the rule of room. `NoMemory` alone;
-    /// changes nothing.
+    /// How room for an object of `len` bytes is made in the window, by the rule of room. Takes no memory, and changes nothing
+    /// in the end.
     ///
-    /// If there is a place as it is, takes one descent of the window's tree of holes and no memory. Otherwise it
+    /// If there is a place as it is, takes one descent of the window's tree of holes. Otherwise it
     /// takes what `UseOrder::plan` does; what the copies take of the device is counted.
-    pub(crate) fn plan_room(
-        &self,
-        alloc: Global,
-        works: &Works,
-        len: u32,
-    ) -> Result<RoomPlan, Refusal>
-        ensures plan { IfOk result (λ p. (hands : List Hand) (bytes : ObjectId → List ℕ) (contents : Contents) → IsShown self.now (beside_of works.now hands bytes self.now.job) contents
-            → IsPlanned (make_room self.now.order (shape_of self.now (beside_of works.now hands bytes self.now.job)) len) (shape_of self.now (beside_of works.now hands bytes self.now.job)) len p) }
-        ensures memory { (r : Refusal) → result ≡ Err r → r ≡ Refusal.NoMemory }
+    pub(crate) fn plan_room(&mut self, works: &Works, len: u32) -> RoomPlan
+        ensures plan { (hands : List Hand) (bytes : ObjectId → List ℕ) (contents : Contents) → IsShown self.old (beside_of works.now hands bytes self.old.job) contents
+            → result ≡ planned_by self.old.order (shape_of self.old (beside_of works.now hands bytes self.old.job)) len }
+        ensures same { self.new ≡ self.old }
     {
-        let window = self.window();
-        let copies = self.copies();
-        if window.check(len).is_none() {
-            return Ok(RoomPlan::Place(Items::new(alloc)));
-        }
-        let job = self.job();
-        let device = DeviceRoom {
-            quota: self.device(),
-            used: copies.device_bytes(),
-            works: works.in_flight(job),
-        };
-        let order = self.use_order();
-        let plan = order.plan(alloc, len, device, window, copies)?;
-        Ok(room_plan(alloc, works.asked(job), self.spill_failed(), plan))
+        unreachable!()
+    }
+
+    /// The copies that are to be evicted for an object of `len` bytes, in this order, if that is the plan.
+    fn victims(&self, alloc: Global, len: u32) -> Result<Items<ObjectId>, AllocError>
+        ensures { IfOk result (λ victims. (line : WorkLine) (hands : List Hand) (bytes : ObjectId → List ℕ) (contents : Contents) → IsShown self.now (beside_of line hands bytes self.now.job) contents
+            → planned_by self.now.order (shape_of self.now (beside_of line hands bytes self.now.job)) len ≡ Evict → victims ≡ listed (plan self.now.order (shape_of self.now (beside_of line hands bytes self.now.job)) len)) }
+    {
+        unreachable!()
+    }
+
+    /// The first so many copies that may be spilled, the least recently used first.
+    fn spillable(&self, alloc: Global, count: usize) -> Result<Items<ObjectId>, AllocError>
+        ensures { IfOk result (λ written. (line : WorkLine) (hands : List Hand) (bytes : ObjectId → List ℕ) (contents : Contents) (n : ℕ) → IsShown self.now (beside_of line hands bytes self.now.job) contents
+            → planned_by self.now.order (shape_of self.now (beside_of line hands bytes self.now.job)) n ≡ Ask count → written ≡ listed (plan self.now.order (shape_of self.now (beside_of line hands bytes self.now.job)) n)) }
+    {
+        unreachable!()
     }
 }
 
 impl JobRow {
     /// Room for the object, of `len` bytes, in the window of the row's job, as far as it can be made without an eviction:
     /// the writes that it needs are asked for, and that a spill failed is told and forgotten. The error is out of
-    /// memory, and then nothing has changed. The works that it asks for come last in the line, and those before them
-    /// stay.
+    /// memory, and then the plan was no refusal, and nothing has changed. The works that it asks for come last in the
+    /// line, and those before them stay.
     pub(crate) fn room_for(
         &mut self,
         alloc: Global,
@@ -114,27 +124,77 @@ impl JobRow {
             → 0 < len → len ≤ longest_object
             → IsMade made self.old (beside_of works.old hands bytes self.old.job) contents len self.new (beside_of works.new hands bytes self.old.job)) }
         ensures place { IfOk result (λ made. WaitsForPlace made self.old works.old id.now len self.new works.new) }
+        ensures made { IfOk result (λ made. is_told made ≡ false → IsPlannedFor self.old works.old len) }
         ensures line { OnOk result (HasAsked works.old id.now.job works.new) }
         ensures others { (other : JobNo) → same_job id.now.job other ≡ false → IsSameFor other works.old works.new }
         ensures memory { (r : Refusal) → IsErrOf result r → r ≡ NoMemory }
+        ensures late { OnErr result (IsPlannedFor self.old works.old len) }
         ensures err { OnErr result (self.new ≡ self.old) }
         ensures works { OnErr result (works.new ≡ works.old) }
     {
-        match self.plan_room(alloc, works, len)? {
-            RoomPlan::Place(victims) => {
-                // the copies that go are others, and make room
-                if !self.fits_without(alloc, id, len, victims.as_slice())? {
-                    return Ok(MadeRoom::Told(Refusal::Full));
-                }
-                Ok(MadeRoom::Place(victims))
+        let plan = self.plan_room(works, len);
+        self.room_by(alloc, works, id, len, plan)
+    }
+
+    /// The same by this plan, which is that of the row.
+    pub(crate) fn room_by(
+        &mut self,
+        alloc: Global,
+        works: &mut Works,
+        id: &ObjectId,
+        len: u32,
+        plan: RoomPlan,
+    ) -> Result<MadeRoom, Refusal>
+        requires { is_sealed_at self.old.copies id.now ≡ false }
+        ensures ok { IfOk result (λ made. (hands : List Hand) (bytes : ObjectId → List ℕ) (contents : Contents) → id.now.job ≡ record { 0 = self.old.job } → IsShown self.old (beside_of works.old hands bytes self.old.job) contents
+            → 0 < len → len ≤ longest_object → plan ≡ planned_by self.old.order (shape_of self.old (beside_of works.old hands bytes self.old.job)) len
+            → IsMade made self.old (beside_of works.old hands bytes self.old.job) contents len self.new (beside_of works.new hands bytes self.old.job)) }
+        ensures place { IfOk result (λ made. WaitsForPlace made self.old works.old id.now len self.new works.new) }
+        ensures made { IfOk result (λ made. is_told made ≡ false → makes_place_lem plan ≡ true) }
+        ensures line { OnOk result (HasAsked works.old id.now.job works.new) }
+        ensures others { (other : JobNo) → same_job id.now.job other ≡ false → IsSameFor other works.old works.new }
+        ensures memory { (r : Refusal) → IsErrOf result r → r ≡ NoMemory }
+        ensures late { OnErr result (refuses plan ≡ false) }
+        ensures err { OnErr result (self.new ≡ self.old) }
+        ensures works { OnErr result (works.new ≡ works.old) }
+    {
+        match plan {
+            RoomPlan::Fits => self.place_without(alloc, id, len, Items::new(alloc)),
+            RoomPlan::Evict => {
+                let victims = self.victims(alloc, len)?;
+                self.place_without(alloc, id, len, victims)
             }
-            RoomPlan::Ask(ids) => self.ask_writes(alloc, id.job(), works, ids.as_slice()),
+            RoomPlan::Ask(count) => {
+                let ids = self.spillable(alloc, count)?;
+                self.ask_writes(alloc, id.job(), works, ids.as_slice())
+            }
             RoomPlan::TellFailedSpill => {
                 self.forget_failed_spill();
                 Ok(MadeRoom::Told(Refusal::DeviceFailed))
             }
             RoomPlan::Refuse(refusal) => Ok(MadeRoom::Told(refusal)),
         }
+    }
+
+    /// The place that there is once these copies, which are others, have gone.
+    fn place_without(
+        &self,
+        alloc: Global,
+        id: &ObjectId,
+        len: u32,
+        victims: Items<ObjectId>,
+    ) -> Result<MadeRoom, Refusal>
+        requires { is_sealed_at self.now.copies id.now ≡ false }
+        ensures ok { IfOk result (λ made. (beside : Beside) (contents : Contents) → IsShown self.now beside contents → 0 < len → len ≤ longest_object
+            → MakesPlace (make_room self.now.order (shape_of self.now beside) len) (shape_of self.now beside) len victims
+            → IsMade made self.now beside contents len self.now beside) }
+        ensures place { IfOk result (λ made. (line : WorkLine) → WaitsForPlace made self.now line id.now len self.now line) }
+        ensures memory { (r : Refusal) → IsErrOf result r → r ≡ NoMemory }
+    {
+        if !self.fits_without(alloc, id, len, victims.as_slice())? {
+            return Ok(MadeRoom::Told(Refusal::Full));
+        }
+        Ok(MadeRoom::Place(victims))
     }
 
     /// Whether the object, of `len` bytes, can take a place once these copies are evicted. The error is out of memory.
@@ -199,26 +259,4 @@ fn is_among(ids: &[ObjectId], id: &ObjectId) -> bool
     ensures { result ≡ is_among_lem ids.now id.now }
 {
     ids.contains(id)
-}
-
-/// What a plan is to a job whose works had numbers up to this one, and of which a spill failed or not.
-fn room_plan(alloc: Global, asked: u64, failed: bool, plan: Plan) -> RoomPlan
-    ensures { result ≡ plan_by asked failed (shown plan) }
-{
-    match plan {
-        Plan::Fits => RoomPlan::Place(Items::new(alloc)),
-        Plan::Evict(ids) => RoomPlan::Place(ids),
-        Plan::Wait => RoomPlan::Refuse(Refusal::Pending),
-        Plan::Full => RoomPlan::Refuse(Refusal::Full),
-        Plan::Busy => RoomPlan::Refuse(Refusal::Busy),
-        Plan::Spill(ids) => {
-            if failed {
-                return RoomPlan::TellFailedSpill;
-            }
-            if u64::MAX - asked < ids.as_slice().len() as u64 {
-                return RoomPlan::Refuse(Refusal::TooMany);
-            }
-            RoomPlan::Ask(ids)
-        }
-    }
 }

@@ -13,6 +13,8 @@ use Rattle.node_table.specs.Kept.{fetched_kept}
 use Rattle.node_table.specs.Row.{Row}
 use Rattle.node_table.specs.Shown.{TakesStep}
 use Rattle.node_table.proofs.Fetching.{fetch_refused, fetch_done}
+use Rattle.node_table.proofs.Getting.{always_err}
+use Rattle.node_table.proofs.Late.{fetch_due}
 use Rattle.node_table.proofs.row.JobRow.begin_fetch.Goals as goal
 
 pub returns-in-Some-clause-ok : goal.returns-in-Some-clause-ok
@@ -34,3 +36,15 @@ returns-clause-ok c session beside contents mine h =
   where
     entered : Row → ObjectId → ℕ → Row
     entered row id number = record row { copies = with_entry row.copies id (fetched_kept number); order = last_used id row.order; fetches_begun = number }
+
+pub returns-in_err-messages-clause-late : goal.returns-in_err-messages-clause-late
+returns-in_err-messages-clause-late c =
+    let begun = c.fetches_begun-begun.ensures in
+    let passed = ap (λ n. fetch_check c.args.self.now.copies n) (sym begun) ∙ ap (λ t. fetch_check t c.fetches_begun-begun.result) (sym c.copies.ensures.copies) ∙ sym c.fetch_check.ensures ∙ c.in_default.is in
+    always_err c.from_residual.result (λ line. fetch_due c.args.node c.args.self.now line c.args.id.now c.requires.alive c.requires.none passed)
+
+pub returns-in_err-enter_fetch-clause-late : goal.returns-in_err-enter_fetch-clause-late
+returns-in_err-enter_fetch-clause-late c =
+    let begun = c.fetches_begun-begun.ensures in
+    let passed = ap (λ n. fetch_check c.args.self.now.copies n) (sym begun) ∙ ap (λ t. fetch_check t c.fetches_begun-begun.result) (sym c.copies.ensures.copies) ∙ sym c.fetch_check.ensures ∙ c.in_default.is in
+    always_err c.from_residual-in_err-enter_fetch.result (λ line. fetch_due c.args.node c.args.self.now line c.args.id.now c.requires.alive c.requires.none passed)

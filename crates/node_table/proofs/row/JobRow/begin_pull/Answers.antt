@@ -11,13 +11,14 @@ use Rattle.private_store.specs.Tables.{at}
 use Rattle.node_table.specs.Checks.{can_pull_at, visible_state}
 use Rattle.node_table.specs.Evicting.{fits_without}
 use Rattle.node_table.specs.Kept.{waits_for_place}
-use Rattle.node_table.specs.MadeRooms.{IsMade, TellsRoom, WaitsForPlace}
+use Rattle.node_table.specs.MadeRooms.{IsMade, IsPlannedFor, TellsRoom, WaitsForPlace, is_told}
 use Rattle.node_table.specs.Outcomes.{given_of}
 use Rattle.node_table.specs.RoomPlans.{MakesPlace}
 use Rattle.node_table.specs.Row.{Row, beside_of, shape_of}
 use Rattle.node_table.specs.Shown.{IsShown, TakesStep}
 use Rattle.node_table.proofs.Fetching.{phase_is}
-use Rattle.node_table.proofs.Getting.{each_ok, seen_at}
+use Rattle.node_table.proofs.Getting.{each_ok, always_err, seen_at}
+use Rattle.node_table.proofs.Late.{pull_due}
 use Rattle.node_table.proofs.Pulling.{own_job, some_bytes, few_bytes, unsealed_visible, sized_at, unasked_at, waits, quiet_get, f, by_room}
 use Rattle.node_table.proofs.row.JobRow.begin_pull.Goals as goal
 
@@ -85,3 +86,21 @@ pub pull_in_place-requires-clause-fits : goal.pull_in_place-requires-clause-fits
 pull_in_place-requires-clause-fits c =
     let kept = subst (λ m. WaitsForPlace m c.args.self.now c.args.works.now c.args.id.now c.length-len.result c.room_for.new.self c.room_for.new.works) c.in-Place.is c.in_ok-victims.ensures.place in
     ap (λ (r : Row). fits_without r c.args.id.now c.length-len.result c.as_slice.result.now) kept.0 ∙ ap (fits_without c.args.self.now c.args.id.now c.length-len.result) c.as_slice.ensures ∙ kept.2
+
+pub returns-in_err-victims-clause-late : goal.returns-in_err-victims-clause-late
+returns-in_err-victims-clause-late c =
+    let k = c.in-Some.copy.now in
+    let found = ap (λ t. at t c.args.id.now) (sym c.copies.ensures.copies) ∙ sym c.get.ensures ∙ ap option_copied c.in-Some.is in
+    let st = seen_at c.args.self.now.copies c.args.id.now Fetching k found c.requires.visible in
+    let z = sized_at c.args.self.now c.args.id.now k found c.requires.sized in
+    always_err c.from_residual.result (pull_due c.args.node c.args.self.now c.args.works.now c.args.id.now c.requires.alive k found st.0 st.1 z
+    (subst (IsPlannedFor c.args.self.now c.args.works.now) c.length-len.ensures c.in_err-victims.ensures.late))
+
+pub returns-in-Place-clause-late : goal.returns-in-Place-clause-late
+returns-in-Place-clause-late c =
+    let k = c.in-Some.copy.now in
+    let found = ap (λ t. at t c.args.id.now) (sym c.copies.ensures.copies) ∙ sym c.get.ensures ∙ ap option_copied c.in-Some.is in
+    let st = seen_at c.args.self.now.copies c.args.id.now Fetching k found c.requires.visible in
+    let z = sized_at c.args.self.now c.args.id.now k found c.requires.sized in
+    always_err c.pull_in_place.result (pull_due c.args.node c.args.self.now c.args.works.now c.args.id.now c.requires.alive k found st.0 st.1 z
+    (subst (IsPlannedFor c.args.self.now c.args.works.now) c.length-len.ensures (c.in_ok-victims.ensures.made (ap is_told c.in-Place.is))))

@@ -9,12 +9,13 @@ use Rattle.private_store.specs.Room.{make_room}
 use Rattle.private_store.specs.Commands.{created}
 use Rattle.node_table.specs.Row.{Row, beside_of, shape_of}
 use Rattle.node_table.specs.RoomPlans.{MakesPlace}
-use Rattle.node_table.specs.MadeRooms.{IsMade, WaitsForPlace}
+use Rattle.node_table.specs.MadeRooms.{IsMade, WaitsForPlace, is_told}
 use Rattle.node_table.specs.Shown.{IsShown, TakesStep}
 use Rattle.node_table.specs.Outcomes.{given_of}
 use Rattle.node_table.proofs.Creating.{size_of, absent_of, x, quiet, by_room, create_refused}
 use Rattle.node_table.proofs.Pulling.{own_job, some_bytes, few_bytes}
-use Rattle.node_table.proofs.Getting.{each_ok}
+use Rattle.node_table.proofs.Getting.{each_ok, always_err}
+use Rattle.node_table.proofs.Late.{create_due}
 use Rattle.node_table.proofs.row.JobRow.create.Goals as goal
 
 pub returns-in-Some-clause-ok : goal.returns-in-Some-clause-ok
@@ -57,3 +58,12 @@ pub create_in_place-requires-clause-fits : goal.create_in_place-requires-clause-
 create_in_place-requires-clause-fits c =
     let kept = subst (λ m. WaitsForPlace m c.args.self.now c.args.works.now c.args.id.now c.args.len c.room_for.new.self c.room_for.new.works) c.in-Place.is c.in_ok-victims.ensures.place in
     ap (λ (r : Row). fits_without r c.args.id.now c.args.len c.as_slice.result.now) kept.0 ∙ ap (fits_without c.args.self.now c.args.id.now c.args.len) c.as_slice.ensures ∙ kept.2
+
+pub returns-in_err-victims-clause-late : goal.returns-in_err-victims-clause-late
+returns-in_err-victims-clause-late c =
+    always_err c.from_residual.result (create_due c.args.node c.args.self.now c.args.works.now c.args.id.now c.args.kind c.args.len (sym c.create_check.ensures ∙ c.in_default.is) c.in_err-victims.ensures.late)
+
+pub returns-in-Place-clause-late : goal.returns-in-Place-clause-late
+returns-in-Place-clause-late c =
+    always_err c.create_in_place.result (create_due c.args.node c.args.self.now c.args.works.now c.args.id.now c.args.kind c.args.len (sym c.create_check.ensures ∙ c.in_default.is)
+    (c.in_ok-victims.ensures.made (ap is_told c.in-Place.is)))

@@ -1,12 +1,13 @@
-use Rattle.std.proofs.Common.{◌≡◌, true, ◌==◌, sym, ap, subst, ◌∙◌}
+use Rattle.std.proofs.Common.{◌≡◌, true, ◌==◌, OnErr, sym, ap, subst, ◌∙◌}
 use Rattle.obj_id.specs.declared.commands.Command.TheVariants as command
 use Rattle.private_store.specs.declared.inputs.Input.TheVariants as input
 use Rattle.private_store.specs.Contents.{Contents}
 use Rattle.private_store.specs.Kept.{is_remembered}
 use Rattle.node_table.specs.Row.{Row, beside_of}
+use Rattle.node_table.specs.Late.{IsDueMore}
 use Rattle.node_table.specs.Outcomes.{given_of}
 use Rattle.node_table.specs.Shown.{IsShown, TakesStep}
-use Rattle.node_table.proofs.Getting.{each_ok, gone_told}
+use Rattle.node_table.proofs.Getting.{each_ok, always_err, gone_told}
 use Rattle.node_table.proofs.row.JobRow.get.Goals as goal
 
 pub returns-in-Some-clause-ok : goal.returns-in-Some-clause-ok
@@ -28,3 +29,11 @@ returns-then-has_ended-clause-ok c =
     subst (λ t. TakesStep c.args.node c.args.self.now beside contents (input.Call c.args.session (command.Get c.args.id.now)) t c.args.self.now beside) (sym said)
     (gone_told c.args.node c.args.self.now beside contents c.args.session c.args.id.now mine h
     (ap (is_remembered c.args.self.now.ended_tasks) (sym c.task.ensures) ∙ sym c.has_ended.ensures ∙ c.if-has_ended.true))) c.told.ensures.ok
+
+pub returns-in_err-reply-clause-late : goal.returns-in_err-reply-clause-late
+returns-in_err-reply-clause-late c = always_err c.from_residual.result (c.in_err-reply.ensures.late c.args.node c.args.works.now)
+
+pub returns-clause-late : goal.returns-clause-late
+returns-clause-late c =
+    subst (λ (row : Row). OnErr c.get_unsealed.result ((c.args.id.now.job.0 == row.job) ≡ true → IsDueMore c.args.node row c.args.works.now (command.Get c.args.id.now)))
+    (rw c.in_default.is at c.in_ok-reply.ensures.same) c.get_unsealed.ensures.late

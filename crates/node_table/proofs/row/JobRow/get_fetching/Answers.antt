@@ -1,4 +1,4 @@
-use Rattle.std.proofs.Common.{option_map, sym, ap, subst, ◌∙◌}
+use Rattle.std.proofs.Common.{option_map, refl, sym, ap, subst, ◌∙◌}
 use Rattle.std.specs.Option.{option_copied}
 use Rattle.obj_id.specs.declared.messages.DirectoryMessage.TheVariants.{Locate}
 use Rattle.obj_id.specs.declared.commands.CopyState.TheVariants.{Fetching}
@@ -8,13 +8,14 @@ use Rattle.private_store.specs.Tables.{at}
 use Rattle.private_store.specs.Private.{to_directory}
 use Rattle.fetch_core.specs.Fetching.{missing_of}
 use Rattle.fetch_core.specs.Stages.{phase_of}
-use Rattle.private_store.specs.Shape.{sized, failed}
+use Rattle.private_store.specs.Shape.{locating, sized, pulling, failed}
 use Rattle.private_store.proofs.Tests.{some_value}
 use Rattle.node_table.specs.Checks.{IsInPhase}
 use Rattle.node_table.specs.Kept.{Kept, fetch_of}
 use Rattle.node_table.specs.Row.{beside_of}
 use Rattle.node_table.specs.Shown.{TakesStep}
-use Rattle.node_table.proofs.Getting.{each_ok, seen_at}
+use Rattle.node_table.proofs.Getting.{each_ok, always_err, seen_at}
+use Rattle.node_table.proofs.Late.{again_due}
 use Rattle.node_table.proofs.Fetching.{unfetched_told, located_again, pulled_again}
 use Rattle.node_table.proofs.row.JobRow.get_fetching.Goals as goal
 
@@ -70,3 +71,21 @@ tell_failed-requires-clause-failed c k found =
 
 pub returns-in-Failed-clause-ok : goal.returns-in-Failed-clause-ok
 returns-in-Failed-clause-ok c session hands bytes contents mine h = c.tell_failed.ensures.step c.args.node session (beside_of c.args.works.now hands bytes c.args.self.now.job) contents mine h
+
+pub returns-in_err-locate-in-Locating-clause-late : goal.returns-in_err-locate-in-Locating-clause-late
+returns-in_err-locate-in-Locating-clause-late c =
+    let k = c.in-Some.copy.now in
+    let found = ap (λ t. at t c.args.id.now) (sym c.copies.ensures.copies) ∙ sym c.get.ensures ∙ ap option_copied c.in-Some.is in
+    let st = seen_at c.args.self.now.copies c.args.id.now Fetching k found c.requires.visible in
+    let fetched = sym c.fetch.ensures ∙ ap (λ o. option_map fetch_of (option_copied o)) c.in-Some-fetch.is in
+    always_err c.from_residual.result (again_due c.args.node c.args.self.now c.args.works.now c.args.id.now c.requires.alive k found st.0 st.1 (fetch_of c.in-Some-fetch.fetch.now) fetched
+    locating (sym c.stage.ensures ∙ ap (λ stage. phase_of stage (missing_of c.in-Some-fetch.fetch.now.phase)) c.in-Locating.is) refl)
+
+pub returns-in_err-pull-in-Pulling-clause-late : goal.returns-in_err-pull-in-Pulling-clause-late
+returns-in_err-pull-in-Pulling-clause-late c =
+    let k = c.in-Some.copy.now in
+    let found = ap (λ t. at t c.args.id.now) (sym c.copies.ensures.copies) ∙ sym c.get.ensures ∙ ap option_copied c.in-Some.is in
+    let st = seen_at c.args.self.now.copies c.args.id.now Fetching k found c.requires.visible in
+    let fetched = sym c.fetch.ensures ∙ ap (λ o. option_map fetch_of (option_copied o)) c.in-Some-fetch.is in
+    always_err c.from_residual-in_err-pull-in-Pulling.result (again_due c.args.node c.args.self.now c.args.works.now c.args.id.now c.requires.alive k found st.0 st.1 (fetch_of c.in-Some-fetch.fetch.now) fetched
+    (pulling c.in-Pulling.source (missing_of c.in-Some-fetch.fetch.now.phase)) (sym c.stage.ensures ∙ ap (λ stage. phase_of stage (missing_of c.in-Some-fetch.fetch.now.phase)) c.in-Pulling.is) refl)

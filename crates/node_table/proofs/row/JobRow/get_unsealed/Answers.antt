@@ -6,7 +6,7 @@ use Rattle.private_store.specs.Tables.{at}
 use Rattle.node_table.specs.Checks.{visible_state}
 use Rattle.node_table.specs.Row.{beside_of}
 use Rattle.node_table.specs.Shown.{only, TakesStep}
-use Rattle.node_table.proofs.Getting.{each_ok, some_at, doomed_at, created_told, restoring_told, doomed_told}
+use Rattle.node_table.proofs.Getting.{each_ok, each_err, some_at, doomed_at, created_told, restoring_told, doomed_told}
 use Rattle.node_table.proofs.row.JobRow.get_unsealed.Goals as goal
 
 pub returns-in-Err-clause-ok : goal.returns-in-Err-clause-ok
@@ -36,3 +36,6 @@ returns-in-Restoring-clause-ok c =
     let beside = beside_of c.args.works.now hands bytes c.args.self.now.job in
     subst (λ t. TakesStep c.args.node c.args.self.now beside contents (input.Call session (command.Get c.args.id.now)) t c.args.self.now beside) (sym said)
     (restoring_told c.args.node c.args.self.now beside contents session c.args.id.now mine c.requires.alive h v.k v.found v.stays (v.is ∙ c.in-Restoring.is))) c.told-in-Restoring.ensures.ok
+
+pub returns-in-Ok-None-clause-late : goal.returns-in-Ok-None-clause-late
+returns-in-Ok-None-clause-late c = each_err c.begin_fetch.result (λ due. due c.args.works.now) c.begin_fetch.ensures.late

@@ -8,10 +8,11 @@ use Rattle.obj_id.specs.declared.works.WorkKind.TheVariants.{Read}
 use Rattle.job_region.specs.Region.{extents_of}
 use Rattle.private_store.specs.declared.inputs.Input.TheVariants as input
 use Rattle.private_store.specs.Extents.{first}
+use Rattle.private_store.specs.Limits.{has_numbers}
 use Rattle.private_store.specs.Private.{Post}
 use Rattle.private_store.specs.Room.{make_room}
 use Rattle.private_store.proofs.Tests.{some_value}
-use Rattle.spill_work.specs.Line.{Asks, used_by}
+use Rattle.spill_work.specs.Line.{Asks, TakesBack, used_by}
 use Rattle.node_table.specs.Evicting.{IsReplaced, placed_without, fits_without, replaced, removals}
 use Rattle.node_table.specs.Kept.{Kept, restoring}
 use Rattle.node_table.specs.RoomPlans.{MakesPlace}
@@ -20,22 +21,8 @@ use Rattle.node_table.specs.Shown.{Given, TakesStep}
 use Rattle.node_table.proofs.Evicting.{length-removals}
 use Rattle.node_table.proofs.Getting.{each_ok, some_at}
 use Rattle.node_table.proofs.Pulling.{own_job, waiting, stays_of, few_of}
-use Rattle.node_table.proofs.Restoring.{few_works, no_number, has_number, has_asked, asked_beside, too_many_told, restore_done}
+use Rattle.node_table.proofs.Restoring.{few_works, has_asked, asked_beside, restore_done}
 use Rattle.node_table.proofs.row.JobRow.restore_in_place.Goals as goal
-
-pub returns-then-asked-clause-ok : goal.returns-then-asked-clause-ok
-returns-then-asked-clause-ok c =
-    let v = some_at c.args.self.now.copies c.args.id.now Away c.requires.visible in
-    let sound = sym (ap (option_and_then (λ (k : Kept). k.copy.fault)) v.found) ∙ c.requires.sound in
-    let w = waiting c.args.self.now.copies c.args.id.now c.args.len c.requires.waits in
-    let long : c.args.len ≡ v.k.copy.length = sym w.long ∙ ap (λ (y : Kept). y.copy.length) (some_value w.k v.k (sym w.found ∙ v.found)) in
-    each_ok c.told.result (λ o said session hands bytes contents mine h makes.
-    let own = own_job c.args.id.now.job c.args.self.now.job mine in
-    let beside : Beside = beside_of c.args.works.now hands bytes c.args.self.now.job in
-    subst (λ g. TakesStep c.args.node c.args.self.now beside contents (input.Call session (command.Get c.args.id.now)) g c.args.self.now beside) (sym said)
-    (too_many_told c.args.node c.args.self.now beside contents session c.args.id.now mine c.requires.alive h v.k v.found v.stays v.is sound
-    (few_works c.args.works.now c.args.id.now.job c.args.self.now.job own c.requires.idle) c.args.victims.now (subst (λ n. MakesPlace (make_room c.args.self.now.order (shape_of c.args.self.now beside) n) (shape_of c.args.self.now beside) n c.args.victims.now) long makes)
-    (no_number c.args.works.now c.args.id.now.job c.args.self.now.job own (ap (used_by c.args.works.now) (sym c.job.ensures.value) ∙ sym c.asked-asked.ensures.last ∙ c.if-asked.true)))) c.told.ensures.ok
 
 pub returns-in-Ok-clause-ok : goal.returns-in-Ok-clause-ok
 returns-in-Ok-clause-ok c session hands bytes contents mine h makes =
@@ -47,7 +34,7 @@ returns-in-Ok-clause-ok c session hands bytes contents mine h makes =
     let beside : Beside = beside_of c.args.works.now hands bytes c.args.self.now.job in
     let e = c.in-Ok.field-0 in
     let r : IsReplaced c.args.self.now None c.args.id.now (λ offset. restoring offset v.k) c.args.len c.args.victims.now e c.place_copy.new.self = c.in-Ok.ensures.ok v.k v.found in
-    let asks = subst (λ j. Asks c.args.works.now (record { job = j; number = c.in_ok-number.number; id = c.args.id.now; kind = Read }) c.ask.new.self) (c.job-2.ensures.value ∙ own) c.in_ok-number.ensures.ok in
+    let asks = subst (λ j. Asks c.args.works.now (record { job = j; number = c.in_ok-number.number; id = c.args.id.now; kind = Read }) c.ask.new.self) (c.job.ensures.value ∙ own) c.in_ok-number.ensures.ok in
     subst (λ g. TakesStep c.args.node c.args.self.now beside contents (input.Call session (command.Get c.args.id.now)) g c.place_copy.new.self (beside_of c.ask.new.self hands bytes c.args.self.now.job)) (sym c.pending.ensures)
     (subst (λ b. TakesStep c.args.node c.args.self.now beside contents (input.Call session (command.Get c.args.id.now)) (record { reply = reply.Refused Pending; posts = c.in_ok-messages.messages; erased = [] }) c.place_copy.new.self b) (sym (asked_beside c.args.works.now c.ask.new.self c.args.self.now.job c.in_ok-number.number c.args.id.now hands bytes asks))
     (subst (λ row. TakesStep c.args.node c.args.self.now beside contents (input.Call session (command.Get c.args.id.now)) (record { reply = reply.Refused Pending; posts = c.in_ok-messages.messages; erased = [] }) row
@@ -56,7 +43,7 @@ returns-in-Ok-clause-ok c session hands bytes contents mine h makes =
     (record beside { works = beside.works ++ record { number = beside.used + 1; id = c.args.id.now; writes = false } ∷ []; used = beside.used + 1 })) (sym (c.in_ok-messages.ensures ∙ ap (λ t. removals c.args.node t c.args.victims.now) c.copies.ensures.copies))
     (restore_done c.args.node c.args.self.now beside contents session c.args.id.now mine c.requires.alive h v.k v.found v.stays v.is sound (few_works c.args.works.now c.args.id.now.job c.args.self.now.job own c.requires.idle)
     c.args.victims.now (subst (λ n. MakesPlace (make_room c.args.self.now.order (shape_of c.args.self.now beside) n) (shape_of c.args.self.now beside) n c.args.victims.now) long makes)
-    (has_number c.args.works.now c.job-2.result c.args.self.now.job (c.job-2.ensures.value ∙ own) (c.in_ok-number.ensures.passed refl)) c.place_copy.ensures.placed w.nowhere
+    (ap (λ j. has_numbers (used_by c.args.works.now j) 1) (sym own) ∙ c.requires.numbered) c.place_copy.ensures.placed w.nowhere
     (stays_of c.args.self.now c.args.id.now v.k.copy.length c.args.victims.now (ap (λ n. fits_without c.args.self.now c.args.id.now n c.args.victims.now) (sym long) ∙ c.requires.fits)) e.offset
     (ap (λ n. first (extents_of (placed_without c.args.self.now c.args.victims.now)) c.args.self.now.window.quota n) (sym long) ∙ r.least) r.fresh))))
 
@@ -71,4 +58,12 @@ returns-in-Ok-clause-few c =
 pub returns-in-Ok-clause-line : goal.returns-in-Ok-clause-line
 returns-in-Ok-clause-line c =
     has_asked c.args.works.now c.ask.new.self c.args.id.now.job c.in_ok-number.number c.args.id.now
-    (subst (λ j. Asks c.args.works.now (record { job = j; number = c.in_ok-number.number; id = c.args.id.now; kind = Read }) c.ask.new.self) c.job-2.ensures.value c.in_ok-number.ensures.ok)
+    (subst (λ j. Asks c.args.works.now (record { job = j; number = c.in_ok-number.number; id = c.args.id.now; kind = Read }) c.ask.new.self) c.job.ensures.value c.in_ok-number.ensures.ok)
+
+pub returns-in-Err-clause-works : goal.returns-in-Err-clause-works
+returns-in-Err-clause-works c =
+    let asks : Asks c.args.works.now (record { job = c.args.id.now.job; number = c.in_ok-number.number; id = c.args.id.now; kind = Read }) c.ask.new.self =
+    subst (λ j. Asks c.args.works.now (record { job = j; number = c.in_ok-number.number; id = c.args.id.now; kind = Read }) c.ask.new.self) c.job.ensures.value c.in_ok-number.ensures.ok in
+    let back = subst (λ j. TakesBack c.ask.new.self j c.in_ok-number.number c.take_back.new.self) c.job-in-Err.ensures.value c.take_back.ensures in
+    let next = asks.number in
+    back.undone c.args.works.now c.args.id.now Read asks (λ one. c.requires.fresh (omega (arith, next, one)))

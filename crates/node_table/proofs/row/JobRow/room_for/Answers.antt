@@ -1,35 +1,34 @@
-use Rattle.std.proofs.Common.{sym, ap, subst, ◌∙◌}
-use Rattle.private_store.proofs.Tests.{true_false}
-use Rattle.private_store.specs.Room.{make_room}
-use Rattle.node_table.specs.Evicting.{fits_without}
-use Rattle.node_table.specs.Row.{beside_of, shape_of}
-use Rattle.node_table.specs.RoomPlans.{IsPlanned, AsksWrites}
-use Rattle.node_table.proofs.Getting.{each_ok}
-use Rattle.node_table.proofs.Rooms.{fits_there, refusal_told, failure_told}
+use Rattle.std.proofs.Common.{◌≡◌, ◌<◌, ◌≤◌, sym, ap, subst, ◌∙◌}
+use Rattle.private_store.specs.Limits.{longest_object}
+use Rattle.node_table.specs.Kept.{is_sealed_at}
+use Rattle.node_table.specs.MadeRooms.{IsMade, WaitsForPlace}
+use Rattle.node_table.specs.RoomPlans.{planned_by, refuses}
+use Rattle.node_table.specs.Row.{Row, beside_of, shape_of}
+use Rattle.node_table.specs.Shown.{IsShown}
+use Rattle.node_table.proofs.Getting.{each_ok, each_err}
+use Rattle.node_table.proofs.Growing.{placed_unrefused}
 use Rattle.node_table.proofs.row.JobRow.room_for.Goals as goal
 
-pub returns-in-Ask-clause-ok : goal.returns-in-Ask-clause-ok
-returns-in-Ask-clause-ok c = each_ok c.ask_writes.result (λ made asked hands bytes contents own h some small.
-    asked hands bytes contents c.args.len (c.job.ensures.value ∙ own) h
-    (subst (AsksWrites (make_room c.args.self.now.order (shape_of c.args.self.now (beside_of c.args.works.now hands bytes c.args.self.now.job)) c.args.len) (shape_of c.args.self.now (beside_of c.args.works.now hands bytes c.args.self.now.job))) (sym c.as_slice-in-Ask.ensures)
-    (subst (IsPlanned (make_room c.args.self.now.order (shape_of c.args.self.now (beside_of c.args.works.now hands bytes c.args.self.now.job)) c.args.len) (shape_of c.args.self.now (beside_of c.args.works.now hands bytes c.args.self.now.job)) c.args.len) c.in-Ask.is (c.in_ok-victims.ensures.plan hands bytes contents h)))) c.ask_writes.ensures.ok
+pub room_by-requires : goal.room_by-requires
+room_by-requires c = ap (λ (r : Row). is_sealed_at r.copies c.args.id.now) c.plan_room-plan.ensures.same ∙ c.requires
 
-pub returns-in-Refuse-clause-ok : goal.returns-in-Refuse-clause-ok
-returns-in-Refuse-clause-ok c hands bytes contents own h some small =
-    refusal_told c.args.self.now (beside_of c.args.works.now hands bytes c.args.self.now.job) contents h c.args.len c.in-Refuse.refusal
-    (subst (IsPlanned (make_room c.args.self.now.order (shape_of c.args.self.now (beside_of c.args.works.now hands bytes c.args.self.now.job)) c.args.len) (shape_of c.args.self.now (beside_of c.args.works.now hands bytes c.args.self.now.job)) c.args.len) c.in-Refuse.is (c.in_ok-victims.ensures.plan hands bytes contents h))
+pub returns-clause-ok : goal.returns-clause-ok
+returns-clause-ok c = each_ok c.room_by.result (λ made told hands bytes contents own h some small.
+    subst (λ (r : Row). c.args.id.now.job ≡ record { 0 = r.job } → IsShown r (beside_of c.args.works.now hands bytes r.job) contents → 0 < c.args.len → c.args.len ≤ longest_object
+    → c.plan_room-plan.result ≡ planned_by r.order (shape_of r (beside_of c.args.works.now hands bytes r.job)) c.args.len
+    → IsMade made r (beside_of c.args.works.now hands bytes r.job) contents c.args.len c.room_by.new.self (beside_of c.room_by.new.works hands bytes r.job)) c.plan_room-plan.ensures.same
+    (told hands bytes contents) own h some small (c.plan_room-plan.ensures.plan hands bytes contents h)) c.room_by.ensures.ok
 
-pub returns-in-TellFailedSpill-clause-ok : goal.returns-in-TellFailedSpill-clause-ok
-returns-in-TellFailedSpill-clause-ok c hands bytes contents own h some small =
-    failure_told c.args.self.now (beside_of c.args.works.now hands bytes c.args.self.now.job) contents h c.args.len
-    (subst (IsPlanned (make_room c.args.self.now.order (shape_of c.args.self.now (beside_of c.args.works.now hands bytes c.args.self.now.job)) c.args.len) (shape_of c.args.self.now (beside_of c.args.works.now hands bytes c.args.self.now.job)) c.args.len) c.in-TellFailedSpill.is (c.in_ok-victims.ensures.plan hands bytes contents h)) c.forget_failed_spill.new.self c.forget_failed_spill.ensures
+pub returns-clause-place : goal.returns-clause-place
+returns-clause-place c = each_ok c.room_by.result (λ made waits.
+    subst (λ (r : Row). WaitsForPlace made r c.args.works.now c.args.id.now c.args.len c.room_by.new.self c.room_by.new.works) c.plan_room-plan.ensures.same waits) c.room_by.ensures.place
 
-pub returns-then-not-branch-clause-ok : goal.returns-then-not-branch-clause-ok
-returns-then-not-branch-clause-ok c hands bytes contents own h some small =
-    let made = subst (IsPlanned (make_room c.args.self.now.order (shape_of c.args.self.now (beside_of c.args.works.now hands bytes c.args.self.now.job)) c.args.len) (shape_of c.args.self.now (beside_of c.args.works.now hands bytes c.args.self.now.job)) c.args.len) c.in-Place.is (c.in_ok-victims.ensures.plan hands bytes contents h) in
-    let fits = fits_there c.args.self.now (beside_of c.args.works.now hands bytes c.args.self.now.job) contents h c.args.len c.in-Place.victims made c.fits_without.ensures.placed c.args.id.now c.requires some small in
-    true_false (sym c.if-not-branch.true ∙ c.in_ok-fits_without-in-Place.ensures.ok ∙ ap (fits_without c.args.self.now c.args.id.now c.args.len) c.as_slice.ensures ∙ fits)
+pub returns-clause-made : goal.returns-clause-made
+returns-clause-made c = each_ok c.room_by.result (λ made makes untold hands bytes contents h.
+    ap refuses (sym (c.plan_room-plan.ensures.plan hands bytes contents h)) ∙ placed_unrefused c.plan_room-plan.result (makes untold)) c.room_by.ensures.made
 
-pub returns-else-not-branch-clause-ok : goal.returns-else-not-branch-clause-ok
-returns-else-not-branch-clause-ok c hands bytes contents own h some small =
-    subst (IsPlanned (make_room c.args.self.now.order (shape_of c.args.self.now (beside_of c.args.works.now hands bytes c.args.self.now.job)) c.args.len) (shape_of c.args.self.now (beside_of c.args.works.now hands bytes c.args.self.now.job)) c.args.len) c.in-Place.is (c.in_ok-victims.ensures.plan hands bytes contents h)
+pub returns-clause-late : goal.returns-clause-late
+returns-clause-late c = each_err c.room_by.result (λ may hands bytes contents h. ap refuses (sym (c.plan_room-plan.ensures.plan hands bytes contents h)) ∙ may) c.room_by.ensures.late
+
+pub returns-clause-err : goal.returns-clause-err
+returns-clause-err c = each_err c.room_by.result (λ same. same ∙ c.plan_room-plan.ensures.same) c.room_by.ensures.err
