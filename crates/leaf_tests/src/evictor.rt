@@ -5,7 +5,7 @@ use extent_tree::{Resident, Room};
 use indexmap::IndexMap;
 use job_region::Window;
 use lru_evictor::{CopyFacts, CopyLookup, DeviceRoom, Plan, UseOrder};
-use obj_id::{JobNo, ObjectId, Refusal, TaskNo};
+use obj_id::{Items, JobNo, ObjectId, Refusal, TaskNo};
 use std::alloc::Global;
 use std::test::Fail;
 
@@ -100,10 +100,23 @@ impl Store {
         Ok(())
     }
 
-    fn plan(&self, alloc: Global, len: u32, device: DeviceRoom) -> Result<Plan, Refusal> {
-        self.order
-            .plan(alloc, len, device, &self.window, &self.copies)
+    /// The plan for so many bytes, and the copies that are to go.
+    fn plan(&mut self, alloc: Global, len: u32, device: DeviceRoom) -> Result<Planned, Refusal> {
+        let plan = self.order.plan(len, device, &self.window, &self.copies);
+        let ids = match plan {
+            Plan::Evict => self.order.victims(alloc, len, &self.window, &self.copies)?,
+            Plan::Spill(count) => self.order.spillable(alloc, count)?,
+            _ => Items::new(alloc),
+        };
+        Ok(Planned { plan, ids })
     }
+}
+
+/// A plan, and the copies that are to go.
+#[derive(Drop)]
+struct Planned {
+    plan: Plan,
+    ids: Items<ObjectId>,
 }
 
 fn object(index: u32) -> Result<ObjectId, Refusal> {
@@ -119,18 +132,12 @@ fn are(ids: &[ObjectId], indexes: &[u32]) -> bool {
             .all(|(id, index)| id.index() == *index)
 }
 
-fn evicts(plan: &Plan, indexes: &[u32]) -> bool {
-    match plan {
-        Plan::Evict(ids) => are(ids.as_slice(), indexes),
-        _ => false,
-    }
+fn evicts(planned: &Planned, indexes: &[u32]) -> bool {
+    matches!(planned.plan, Plan::Evict) && are(planned.ids.as_slice(), indexes)
 }
 
-fn spills(plan: &Plan, indexes: &[u32]) -> bool {
-    match plan {
-        Plan::Spill(ids) => are(ids.as_slice(), indexes),
-        _ => false,
-    }
+fn spills(planned: &Planned, indexes: &[u32]) -> bool {
+    matches!(planned.plan, Plan::Spill(_)) && are(planned.ids.as_slice(), indexes)
 }
 
 /// Whether the ids, from the least recently used on, have these indexes.
@@ -179,13 +186,13 @@ fn ids_stand_in_the_order_of_their_use(rt: HostRuntime) -> Result<(), Fail> {
 }
 
 /// The plan for so many bytes in a window of so many, with these copies by rising use.
-fn planned(
+fn plan_once(
     alloc: Global,
     window: u64,
     copies: &[(u32, CopyFacts)],
     len: u32,
     device: DeviceRoom,
-) -> Result<Plan, Refusal> {
+) -> Result<Planned, Refusal> {
     let mut store = Store::new(alloc, window)?;
     let mut index = 1;
     for (bytes, facts) in copies {
@@ -202,9 +209,9 @@ fn plan(
     copies: &[(u32, CopyFacts)],
     len: u32,
     device: DeviceRoom,
-) -> Result<Plan, Refusal> {
-    match planned(alloc, window, copies, len, device) {
-        Err(Refusal::NoMemory) => planned(alloc, window, copies, len, device),
+) -> Result<Planned, Refusal> {
+    match plan_once(alloc, window, copies, len, device) {
+        Err(Refusal::NoMemory) => plan_once(alloc, window, copies, len, device),
         answer => answer,
     }
 }

@@ -1,5 +1,5 @@
 //! The order of use of a job that has copies.
-ghost use Rattle.std.specs.Prelude.{◌≡◌, ◌<◌, Bool, [], ◌∷◌, true, false, IfOk, OnOk, OnErr, IsOk, length};
+ghost use Rattle.std.specs.Prelude.{◌≡◌, ◌≢◌, ◌<◌, Bool, [], ◌∷◌, true, false, IfOk, OnOk, OnErr, IsOk, length};
 ghost use Rattle.obj_id.specs.declared.ids.ObjectId.{ObjectId};
 ghost use Rattle.private_store.specs.Tables.{is_among};
 ghost use Rattle.lru_evictor.specs.declared.facts.Standing.{Standing};
@@ -8,6 +8,7 @@ ghost use Rattle.private_store.specs.Room.{plan as room_plan};
 ghost use Rattle.lru_evictor.specs.Facts.{nowhere, fits_without as is_room_without};
 ghost use Rattle.lru_evictor.specs.Indexed.{HasIndex};
 ghost use Rattle.lru_evictor.specs.Orders.{ids_of, without_id, last_used, touched, standing_in, stood as stood_lem, settled, AllPass, OthersPass};
+ghost use Rattle.lru_evictor.specs.declared.facts.Plan.TheVariants as found;
 ghost use Rattle.lru_evictor.specs.Plans.{IsDescribed, IsOfCopies, kind_of};
 
 use crate::facts::{CopyLookup, DeviceRoom, Plan, Standing, are_same, stood};
@@ -216,6 +217,7 @@ impl JobOrder {
     ) -> Plan
         ensures plan { (store : Shape) → 0 < len → is_room_without window.now (C.facts copies.now) len [] ≡ false → IsOfCopies self.old (C.facts copies.now) → IsDescribed store window.now device (C.facts copies.now)
             → result ≡ kind_of (room_plan (ids_of self.old) store len) }
+        ensures needed { result ≢ found.Fits }
         ensures same { self.new ≡ self.old }
     {
         plan_over(&mut self.index, len, device, window, copies)

@@ -1,5 +1,5 @@
 //! The plan for room.
-ghost use Rattle.std.specs.Prelude.{◌≡◌, ◌+◌, ◌<◌, ◌≤◌, ℕ, List, [], take, length, false, nat_lt, IfOk, IfSome};
+ghost use Rattle.std.specs.Prelude.{◌≡◌, ◌≢◌, ◌+◌, ◌<◌, ◌≤◌, ℕ, List, [], take, length, true, false, nat_lt, IfOk, IfSome};
 ghost use Rattle.std.specs.Option.{option_map};
 ghost use Rattle.use_tree.specs.declared.choices.Choice.TheVariants.{Spillable};
 ghost use Rattle.augmented_tree.specs.Lists.{AllOf};
@@ -47,6 +47,7 @@ impl UseOrder {
     ) -> Plan
         ensures plan { (store : Shape) → IsOfCopies self.old (C.facts copies.now) → IsDescribed store window.now device (C.facts copies.now)
             → result ≡ kind_of (room_plan (ids_of self.old) store len) }
+        ensures room { result ≡ found.Fits → is_room_without window.now (C.facts copies.now) len [] ≡ true }
         ensures same { self.new ≡ self.old }
     {
         if window.search(len).0.is_some() {
@@ -70,8 +71,9 @@ impl UseOrder {
         window: &Window,
         copies: &C,
     ) -> Result<Items<ObjectId>, AllocError>
-        ensures { IfOk result (λ ids. (store : Shape) (device : DeviceRoom) → IsOfCopies self.now (C.facts copies.now) → IsDescribed store window.now device (C.facts copies.now)
+        ensures plan { IfOk result (λ ids. (store : Shape) (device : DeviceRoom) → IsOfCopies self.now (C.facts copies.now) → IsDescribed store window.now device (C.facts copies.now)
             → kind_of (room_plan (ids_of self.now) store len) ≡ found.Evict → ids ≡ listed (room_plan (ids_of self.now) store len)) }
+        ensures room { IfOk result (λ ids. 0 < length ids → is_room_without window.now (C.facts copies.now) len ids ≡ true) }
     {
         let Some(order) = &self.cache else {
             return Ok(Items::new(alloc));
@@ -103,6 +105,7 @@ pub(crate) fn plan_over<C: CopyLookup>(
     requires { length index.old.0 < 4611686018427387904 }
     ensures plan { (store : Shape) (order : List (ObjectId × Standing)) → 0 < len → is_room_without window.now (C.facts copies.now) len [] ≡ false → HasIndex index.old order → IsOfCopies order (C.facts copies.now) → IsDescribed store window.now device (C.facts copies.now)
         → result ≡ kind_of (room_plan (ids_of order) store len) }
+    ensures needed { result ≢ found.Fits }
     ensures same { index.new ≡ index.old }
 {
     if leaves_room(index, Choice::Evictable, window, len) {
@@ -129,7 +132,8 @@ fn spilling<C: CopyLookup>(
     count: Option<usize>,
 ) -> Plan
     requires within { IfSome count (λ k. k ≤ length (chosen_ids Spillable 4611686018427387904 index.now.0)) }
-    ensures { result ≡ kind_of (spills_here device (C.facts copies.now) (option_map (λ k. take k (chosen_ids Spillable 4611686018427387904 index.now.0)) count)) }
+    ensures plan { result ≡ kind_of (spills_here device (C.facts copies.now) (option_map (λ k. take k (chosen_ids Spillable 4611686018427387904 index.now.0)) count)) }
+    ensures needed { result ≢ found.Fits }
 {
     let Some(count) = count else {
         return Plan::Full;
@@ -201,8 +205,9 @@ fn victims<C: CopyLookup>(
     window: &Window,
     copies: &C,
 ) -> Result<Items<ObjectId>, AllocError>
-    ensures { IfOk result (λ ids. (store : Shape) (order : List (ObjectId × Standing)) (device : DeviceRoom) → HasIndex index.now order → IsOfCopies order (C.facts copies.now) → IsDescribed store window.now device (C.facts copies.now)
+    ensures plan { IfOk result (λ ids. (store : Shape) (order : List (ObjectId × Standing)) (device : DeviceRoom) → HasIndex index.now order → IsOfCopies order (C.facts copies.now) → IsDescribed store window.now device (C.facts copies.now)
         → kind_of (room_plan (ids_of order) store len) ≡ found.Evict → ids ≡ listed (room_plan (ids_of order) store len)) }
+    ensures room { IfOk result (λ ids. 0 < length ids → is_room_without window.now (C.facts copies.now) len ids ≡ true) }
 {
     let candidates = index.candidates(Choice::Evictable);
     match shortest(alloc, candidates, window, copies, len)? {

@@ -19,7 +19,7 @@ pub returns-clause-plan : goal.returns-clause-plan
 returns-clause-plan g c store order some bad of known described =
     let facts = g.C.CopyLookup.facts c.args.copies.now in
     let may = chosen_ids Spillable 4611686018427387904 c.args.index.now.0 in
-    c.spilling.ensures
+    c.spilling.ensures.plan
     ∙ ap (λ i. kind_of (spills_here c.args.device facts (option_map (λ k. take k (chosen_ids Spillable 4611686018427387904 i.0)) c.count_spills-count.result))) c.count_spills-count.ensures.same
     ∙ ap kind_of (plan-counted store c.args.window.now c.args.device facts described c.args.index.now order of known c.leaves_room.ensures.laid c.args.len some
     c.leaves_room.result c.leaves_room.ensures.gap c.if-leaves_room.false may (λ i. may) c.count_spills-count.ensures.all (record { quota = c.quota.result; need = c.rounded.result }) c.quota.ensures.quota c.rounded.ensures

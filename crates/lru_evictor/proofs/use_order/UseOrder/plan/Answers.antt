@@ -1,7 +1,8 @@
-use Rattle.std.proofs.Common.{[], sym, ap, subst, ◌∙◌, is_some}
+use Rattle.std.proofs.Common.{◌≡◌, [], sym, ap, subst, ◌∙◌, is_some}
 use Rattle.std.specs.Option.{unwrap_or}
 use Rattle.private_store.specs.Room.{plan}
 use Rattle.lru_evictor.specs.Orders.{ids_of}
+use Rattle.lru_evictor.specs.declared.facts.Plan.TheVariants as found
 use Rattle.lru_evictor.specs.Plans.{IsOfCopies, kind_of}
 use Rattle.lru_evictor.proofs.Planned.{fits-now, has-bytes, plan-fits, plan-nothing}
 use Rattle.lru_evictor.proofs.use_order.UseOrder.plan.Goals as goal
@@ -29,3 +30,16 @@ returns-clause-plan g c store known described =
           ∙ w.plan.ensures.plan store some bad (subst (λ o. IsOfCopies o facts) (sym here) known) described
           ∙ ap (λ o. kind_of (plan (ids_of o) store c.args.len)) here
     ]
+
+pub returns-then-is_some-clause-room : goal.returns-then-is_some-clause-room
+returns-then-is_some-clause-room g c fits =
+    sym (c.is_some.ensures ∙ ap is_some c.search.ensures.offset ∙ fits-now c.args.window.now (g.C.CopyLookup.facts c.args.copies.now) c.args.len) ∙ c.if-is_some.true
+
+pub returns-clause-room : goal.returns-clause-room
+returns-clause-room g c fits = elim c.match-self.branch [
+  | in-None w ↦ absurd (differ (sym w.result-is ∙ fits))
+  | in-Some w ↦ absurd (w.plan.ensures.needed (sym w.result-is ∙ fits))
+]
+  where
+    differ : found.Full ≡ found.Fits → ⊥
+    differ d = cc
