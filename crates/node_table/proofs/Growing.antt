@@ -12,7 +12,8 @@ use Rattle.private_store.specs.Shape.{Copy, Shape}
 use Rattle.private_store.specs.Contents.{Contents}
 use Rattle.private_store.specs.Room.{Room, make_room, set_copy, drop_copy, evicted, asked, offset_without, plan}
 use Rattle.private_store.proofs.Tests.{true_false, false_true}
-use Rattle.node_table.specs.RoomPlans.{IsPlanned, MakesPlace, AsksWrites, planned_by, listed, refuses, makes_place}
+use Rattle.lru_evictor.specs.Plans.{listed}
+use Rattle.node_table.specs.RoomPlans.{IsPlanned, MakesPlace, AsksWrites, planned_by, refuses, makes_place}
 use Rattle.node_table.specs.Row.{Row, Beside, shape_of}
 use Rattle.node_table.specs.Shown.{IsShown}
 use Rattle.node_table.specs.declared.room.RoomPlan.{RoomPlan}

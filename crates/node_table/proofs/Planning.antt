@@ -33,7 +33,11 @@ use Rattle.node_table.specs.Kept.{Kept}
 use Rattle.node_table.specs.Row.{Row, Beside, shape_of, place_of, ArePlaced}
 use Rattle.node_table.specs.Shown.{IsShown}
 use Rattle.node_table.specs.Followed.{AreFollowed}
-use Rattle.node_table.specs.RoomPlans.{IsPlanned, MakesPlace, plan_by, planned_by, listed, facts_of}
+use Rattle.lru_evictor.specs.declared.facts.Plan.{Plan as Kind}
+use Rattle.lru_evictor.specs.declared.facts.Plan.TheVariants as kind
+use Rattle.lru_evictor.specs.Plans.{kind_of, listed}
+use Rattle.node_table.specs.Followed.{AreListed}
+use Rattle.node_table.specs.RoomPlans.{IsPlanned, MakesPlace, by_kind, plan_by, planned_by, facts_of}
 use Rattle.node_table.specs.Usages.{total, device_bytes}
 use Rattle.node_table.proofs.Telling.{device_is}
 use Rattle.node_table.specs.declared.room.RoomPlan.{RoomPlan}
@@ -133,6 +137,40 @@ passes_check window n = by (is_size window.quota n) (is_some (place_for window n
     by true false e = absurd cc
     by false place e = absurd cc
 
+-- which kind of plan it is that evicts, or asks for so many writes
+pub evicts-kind : (used : ℕ) (failed : Bool) (k : Kind) → by_kind used failed k ≡ Evict → k ≡ kind.Evict
+evicts-kind used failed kind.Fits e = absurd cc
+evicts-kind used failed kind.Evict e = refl
+evicts-kind used failed kind.Wait e = absurd cc
+evicts-kind used failed kind.Full e = absurd cc
+evicts-kind used failed kind.Busy e = absurd cc
+evicts-kind used failed (kind.Spill count) e = by failed (has_numbers used count) e
+  where
+    by : (f fine : Bool) → cond f TellFailedSpill (cond fine (Ask count) (Refuse TooMany)) ≡ Evict → kind.Spill count ≡ kind.Evict
+    by true fine e = absurd cc
+    by false true e = absurd cc
+    by false false e = absurd cc
+
+pub asks-kind : (used : ℕ) (failed : Bool) (k : Kind) (n : ℕ) → by_kind used failed k ≡ Ask n → k ≡ kind.Spill n
+asks-kind used failed kind.Fits n e = absurd cc
+asks-kind used failed kind.Evict n e = absurd cc
+asks-kind used failed kind.Wait n e = absurd cc
+asks-kind used failed kind.Full n e = absurd cc
+asks-kind used failed kind.Busy n e = absurd cc
+asks-kind used failed (kind.Spill count) n e = by failed (has_numbers used count) e
+  where
+    count_of : RoomPlan → ℕ
+    count_of (Ask c) = c
+    count_of Fits = count
+    count_of Evict = count
+    count_of TellFailedSpill = count
+    count_of (Refuse r) = count
+
+    by : (f fine : Bool) → cond f TellFailedSpill (cond fine (Ask count) (Refuse TooMany)) ≡ Ask n → kind.Spill count ≡ kind.Spill n
+    by true fine e = absurd cc
+    by false true e = ap (λ p. kind.Spill (count_of p)) e
+    by false false e = absurd cc
+
 -- what room does is what is planned for it
 pub planned : (row : Row) (beside : Beside) (contents : Contents) → IsShown row beside contents → (n : ℕ)
     → IsPlanned (make_room row.order (shape_of row beside) n) (shape_of row beside) n (planned_by row.order (shape_of row beside) n) (listed (plan row.order (shape_of row beside) n))
@@ -148,6 +186,14 @@ module _ (row : Row) (beside : Beside) (contents : Contents) (h : IsShown row be
   abbrev s : Shape
   s = shape_of row beside
 
+  -- each copy is in the order of use
+  pub all_listed : AreListed row.copies row.order
+  all_listed id some = by id (at row.copies id) refl some
+    where
+      by : (id : ObjectId) (o : Option Kept) → at row.copies id ≡ o → is_some (option_map facts_of o) ≡ true → is_among row.order id ≡ true
+      by id None found some = true_false some
+      by id (Some k) found some = h.listed id k found
+
   -- the order of use has each copy as it stands
   pub of_copies : (copies : ById Kept) → copies ≡ row.copies → (order : List (ObjectId × Standing)) → ids_of order ≡ row.order → AreFollowed row.copies order → IsOfCopies order (facts_at copies)
   of_copies copies same order own followed = record {
@@ -159,11 +205,19 @@ module _ (row : Row) (beside : Beside) (contents : Contents) (h : IsShown row be
       by id None found some = true_false some
       by id (Some k) found some = h.listed id k found
 
+  -- the row's device
+  abbrev pub device_here : DeviceRoom
+  device_here = record { quota = row.device; used = device_used s; works = length s.works }
+
+  -- the row as its window and its copies have it
+  pub described_as : (window : Region) → window ≡ row.window → (copies : ById Kept) → copies ≡ row.copies → IsDescribed s window device_here (facts_at copies)
+  described_as window here copies same =
+      subst (λ w. IsDescribed s w device_here (facts_at copies)) (sym here) (subst (λ t. IsDescribed s row.window device_here (facts_at t)) (sym same) (described row beside contents h placed device_here refl refl refl))
+
   pub place_planned : place_check row.window n ≡ None → planned_by row.order s n ≡ Fits
   place_planned none =
-      let device : DeviceRoom = record { quota = row.device; used = device_used s; works = length s.works } in
       fits_planned row.order h.kept.order s n
-      (sym (fits-described s row.window device (facts_at row.copies) (described row beside contents h placed device refl refl refl) n [])
+      (sym (fits-described s row.window device_here (facts_at row.copies) (described row beside contents h placed device_here refl refl refl) n [])
       ∙ ap (λ ps. is_some (first (extents_of ps) row.window.quota n)) (none_go row.window.placed)
       ∙ passes_check row.window n none)
 
@@ -184,8 +238,7 @@ module _ (row : Row) (beside : Beside) (contents : Contents) (h : IsShown row be
           (described row beside contents h placed device of_job
           (walked ∙ ap (total device_bytes) same ∙ device_is row beside contents h) (counted ∙ ap (in_flight line) own ∙ ap length (sym works_are))))
 
-      pub plan_exit : (order : List ObjectId) → order ≡ row.order → (p : Plan)
-          → ((store : Shape) → IsDescribed store window device (facts_at copies) → p ≡ plan order store n)
-          → (asked : ℕ) → asked ≡ used_by line job → (failed : Bool) → failed ≡ row.spill_failed → (told : RoomPlan) → told ≡ plan_by asked failed p → told ≡ planned_by row.order s n
-      plan_exit order own_order p is_plan asked is_asked failed is_failed told is =
-          is ∙ (λ i. plan_by ((is_asked ∙ ap (used_by line) own ∙ sym used_is) i) (is_failed i) ((is_plan s as_described ∙ ap (λ o. plan o s n) own_order) i))
+      pub plan_exit : (p : Kind) → ((store : Shape) → IsDescribed store window device (facts_at copies) → p ≡ kind_of (plan row.order store n))
+          → (asked : ℕ) → asked ≡ used_by line job → (failed : Bool) → failed ≡ row.spill_failed → (told : RoomPlan) → told ≡ by_kind asked failed p → told ≡ planned_by row.order s n
+      plan_exit p is_plan asked is_asked failed is_failed told is =
+          is ∙ (λ i. by_kind ((is_asked ∙ ap (used_by line) own ∙ sym used_is) i) (is_failed i) (is_plan s as_described i))

@@ -1,5 +1,5 @@
 -- An order of use that follows what becomes of the copies.
-use Rattle.std.specs.Prelude.{◌≡◌, ◌+◌, ◌^◌, ◌<◌, Bool, true, false, if◌then◌else◌, List, Option, Some, None, is_none}
+use Rattle.std.specs.Prelude.{◌≡◌, ◌+◌, ◌^◌, ◌<◌, Bool, true, false, if◌then◌else◌, List, Option, Some, None, is_some, is_none}
 use Rattle.std.specs.Option.{option_map}
 use Rattle.obj_id.specs.declared.ids.ObjectId.{ObjectId}
 use Rattle.obj_id.specs.declared.works.Extent.{Extent}
@@ -42,6 +42,10 @@ pub record LiesAlone (copies : ById Kept) (id : ObjectId) (e : Extent) : Type 0 
   pub small : e.offset + e.length < 2 ^ 29
 
 -- ---- the order
+
+-- each copy is in an order
+abbrev pub AreListed : ById Kept → List ObjectId → Type 0
+AreListed copies order = (id : ObjectId) → is_some (facts_in copies id) ≡ true → is_among order id ≡ true
 
 -- whether the copy of an id stands so
 abbrev pub is_followed : ById Kept → ObjectId → Standing → Bool

@@ -12,6 +12,9 @@ use Rattle.private_store.specs.Copies.{extent_of, is_held, may_evict, may_spill,
 use Rattle.private_store.specs.Kept.{IsOrderOfUse}
 use Rattle.private_store.specs.Room.{Room, Plan, fits, wait, full, busy, evict, spill, works_left, offset_without, asked, evict_room, no_room, plan}
 use Rattle.lru_evictor.specs.declared.facts.CopyFacts.{CopyFacts}
+use Rattle.lru_evictor.specs.declared.facts.Plan.{Plan as Kind}
+use Rattle.lru_evictor.specs.declared.facts.Plan.TheVariants as kind
+use Rattle.lru_evictor.specs.Plans.{kind_of}
 use Rattle.node_table.specs.Kept.{Kept}
 use Rattle.node_table.specs.declared.room.RoomPlan.{RoomPlan}
 use Rattle.node_table.specs.declared.room.RoomPlan.TheVariants.{Fits, Evict, Ask, TellFailedSpill, Refuse}
@@ -34,24 +37,22 @@ facts_of kept =
 
 -- ---- what is to be done
 
--- what a plan is to a job whose works had numbers up to this one, and of which a spill failed or not
+-- what a kind of plan is to a job whose works had numbers up to this one, and of which a spill failed or not
+abbrev pub by_kind : ℕ → Bool → Kind → RoomPlan
+by_kind used failed kind.Fits = Fits
+by_kind used failed kind.Evict = Evict
+by_kind used failed kind.Wait = Refuse Pending
+by_kind used failed kind.Full = Refuse Full
+by_kind used failed kind.Busy = Refuse Busy
+by_kind used failed (kind.Spill count) = if failed then TellFailedSpill else (if has_numbers used count then Ask count else Refuse TooMany)
+
+-- and a plan
 abbrev pub plan_by : ℕ → Bool → Plan → RoomPlan
-plan_by used failed fits = Fits
-plan_by used failed (evict ids) = Evict
-plan_by used failed wait = Refuse Pending
-plan_by used failed full = Refuse Full
-plan_by used failed busy = Refuse Busy
-plan_by used failed (spill ids) = if failed then TellFailedSpill else (if has_numbers used (length ids) then Ask (length ids) else Refuse TooMany)
+plan_by used failed plan = by_kind used failed (kind_of plan)
 
 -- what is to be done for room for n bytes in this store
 abbrev pub planned_by : List ObjectId → Shape → ℕ → RoomPlan
 planned_by order store n = plan_by store.works_asked store.spill_failed (plan order store n)
-
--- the copies that a plan names
-abbrev pub listed : Plan → List ObjectId
-listed (evict ids) = ids
-listed (spill ids) = ids
-listed _ = []
 
 -- whether it is that a refusal is told, and nothing grows
 abbrev pub refuses : RoomPlan → Bool

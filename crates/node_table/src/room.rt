@@ -17,7 +17,8 @@ ghost use Rattle.private_store.specs.Hands.{Hand};
 ghost use Rattle.private_store.specs.Contents.{Contents};
 ghost use Rattle.node_table.specs.Row.{Beside, beside_of, shape_of, place_of, ArePlaced};
 ghost use Rattle.node_table.specs.Shown.{IsShown};
-ghost use Rattle.node_table.specs.RoomPlans.{AsksWrites, MakesPlace, planned_by, listed, refuses, makes_place as makes_place_lem};
+ghost use Rattle.node_table.specs.RoomPlans.{AsksWrites, MakesPlace, by_kind, planned_by, refuses, makes_place as makes_place_lem};
+ghost use Rattle.lru_evictor.specs.Plans.{listed};
 ghost use Rattle.node_table.specs.declared.room.RoomPlan.TheVariants.{Evict, Ask};
 ghost use Rattle.spill_work.specs.Line.{WorkLine};
 
@@ -87,7 +88,18 @@ impl JobRow {
             → result ≡ planned_by self.old.order (shape_of self.old (beside_of works.now hands bytes self.old.job)) len }
         ensures same { self.new ≡ self.old }
     {
-        unreachable!()
+        let job = self.job();
+        let device = DeviceRoom {
+            quota: self.device(),
+            used: self.copies().device_bytes(),
+            works: works.in_flight(job),
+        };
+        if self.window().check(len).is_none() {
+            return RoomPlan::Fits;
+        }
+        let failed = self.spill_failed();
+        let plan = self.plan(len, device);
+        room_plan(works.asked(job), failed, plan)
     }
 
     /// The copies that are to be evicted for an object of `len` bytes, in this order, if that is the plan.
@@ -259,4 +271,22 @@ fn is_among(ids: &[ObjectId], id: &ObjectId) -> bool
     ensures { result ≡ is_among_lem ids.now id.now }
 {
     ids.contains(id)
+}
+
+/// What a plan is to a job whose works had numbers up to this one, and of which a spill failed or not.
+fn room_plan(asked: u64, failed: bool, plan: Plan) -> RoomPlan
+    ensures { result ≡ by_kind asked failed plan }
+{
+    match plan {
+        Plan::Fits => RoomPlan::Fits,
+        Plan::Evict => RoomPlan::Evict,
+        Plan::Wait => RoomPlan::Refuse(Refusal::Pending),
+        Plan::Full => RoomPlan::Refuse(Refusal::Full),
+        Plan::Busy => RoomPlan::Refuse(Refusal::Busy),
+        Plan::Spill(_) if failed => RoomPlan::TellFailedSpill,
+        Plan::Spill(count) if u64::MAX - asked < count as u64 => {
+            RoomPlan::Refuse(Refusal::TooMany)
+        }
+        Plan::Spill(count) => RoomPlan::Ask(count),
+    }
 }

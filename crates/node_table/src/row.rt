@@ -15,7 +15,10 @@ ghost use Rattle.private_store.specs.Kept.{is_remembered, is_restoring};
 ghost use Rattle.node_table.specs.Usages.{is_spilling};
 ghost use Rattle.node_table.specs.Answering.{written_row, refilled, lost_row};
 ghost use Rattle.lru_evictor.specs.Orders.{touched, last_used, ids_of};
-ghost use Rattle.node_table.specs.Followed.{AreFollowed};
+ghost use Rattle.node_table.specs.Followed.{AreFollowed, AreListed, facts_in};
+ghost use Rattle.private_store.specs.Shape.{Shape};
+ghost use Rattle.private_store.specs.Room.{plan as room_plan};
+ghost use Rattle.lru_evictor.specs.Plans.{IsDescribed, kind_of};
 ghost use Rattle.node_table.specs.Entries.{changed, all_changed, each_changed};
 ghost use Rattle.node_table.specs.Kept.{Kept, sealed, held, released, left, spilling_if, fetched_kept, unpinned, borrowed, given_up, doomed, marked, fault_told, new_kept, waits_for_place, placed_for, CanAwait};
 ghost use Rattle.node_table.specs.Checks.{release_check, borrow_check};
@@ -35,7 +38,7 @@ use crate::following::{evict_for, follow, follow_each};
 use extent_tree::Room;
 use indexmap::IndexSet;
 use job_region::Window;
-use lru_evictor::{UseOrder, extents_by_offset};
+use lru_evictor::{DeviceRoom, Plan, UseOrder, extents_by_offset};
 use obj_id::{
     DeviceKey, Digest, Extent, Items, JobNo, Kind, Location, ObjectId, Quota, Refusal, TaskNo,
 };
@@ -177,8 +180,20 @@ impl JobRow {
     pub(crate) fn use_order(&self) -> &UseOrder
         ensures ids { ids_of result.now ≡ self.now.order }
         ensures standings { AreFollowed self.now.copies result.now }
+        ensures placed { ArePlaced self.now.window.placed (place_of self.now.copies) }
     {
         &self.order
+    }
+
+    /// How room for an object of `len` bytes is made in the window by the rule of room, if the device has this of the job. Takes no
+    /// memory, and changes nothing in the end.
+    pub(crate) fn plan(&mut self, len: u32, device: DeviceRoom) -> Plan
+        ensures plan { (store : Shape) → AreListed self.old.copies self.old.order → IsDescribed store self.old.window device (facts_in self.old.copies)
+            → result ≡ kind_of (room_plan self.old.order store len) }
+        ensures same { self.new ≡ self.old }
+        ensures placed { ArePlaced self.old.window.placed (place_of self.old.copies) }
+    {
+        self.order.plan(len, device, &self.window, &self.copies)
     }
 
     /// Whether the id is in the order of use.

@@ -1,0 +1,11 @@
+use Rattle.std.proofs.Common.{sym, ap, subst, ◌∙◌}
+use Rattle.private_store.specs.Room.{plan}
+use Rattle.lru_evictor.specs.Plans.{IsDescribed, kind_of}
+use Rattle.node_table.specs.Followed.{AreListed, facts_in}
+use Rattle.node_table.proofs.row.JobRow.plan.Goals as goal
+
+pub returns-clause-plan : goal.returns-clause-plan
+returns-clause-plan c store listed described =
+    c.plan.ensures.plan store (record { standings = c.self.invariant.1; listed = subst (λ r. AreListed r.copies r.order) (sym c.self.view_is) listed })
+    (subst (λ r. IsDescribed store r.window c.args.device (facts_in r.copies)) (sym c.self.view_is) described)
+    ∙ ap (λ r. kind_of (plan r.order store c.args.len)) c.self.view_is
