@@ -27,6 +27,7 @@ use Rattle.lru_evictor.specs.Plans.{IsDescribed, extents_in, facts_of as store_f
 use Rattle.node_table.specs.Kept.{Kept}
 use Rattle.node_table.specs.Row.{Row, Beside, copies_of, shape_of, place_of, ArePlaced}
 use Rattle.node_table.specs.Shown.{IsShown, work_on}
+use Rattle.node_table.specs.Followed.{facts_in}
 use Rattle.node_table.specs.RoomPlans.{facts_of}
 use Rattle.node_table.proofs.CopyTables.{at-first, at-rest, at-copies, at-copies_found}
 use Rattle.node_table.proofs.Passed.{place_found}
@@ -132,7 +133,7 @@ placed_in (p ∷ placed) x h = by (nat_eq x.offset p.0) refl (placed_in placed x
 -- ---- all of it
 
 abbrev pub facts_at : ById Kept → Looked
-facts_at copies id = option_map facts_of (at copies id)
+facts_at = facts_in
 
 module _ (row : Row) (beside : Beside) (contents : Contents) (h : IsShown row beside contents) (placed : ArePlaced row.window.placed (place_of row.copies)) where
   abbrev s : Shape

@@ -41,7 +41,7 @@ use Rattle.node_table.specs.RoomPlans.{IsPlanned, MakesPlace, by_kind, plan_by, 
 use Rattle.node_table.specs.Usages.{total, device_bytes}
 use Rattle.node_table.proofs.Telling.{device_is}
 use Rattle.node_table.specs.declared.room.RoomPlan.{RoomPlan}
-use Rattle.node_table.specs.declared.room.RoomPlan.TheVariants.{Fits, Ask, TellFailedSpill, Refuse}
+use Rattle.node_table.specs.declared.room.RoomPlan.TheVariants.{Fits, Evict, Ask, TellFailedSpill, Refuse}
 use Rattle.node_table.proofs.Described.{described, facts_at}
 
 -- what is so of each among the ids is so of all

@@ -107,7 +107,8 @@ impl JobRow {
         ensures { IfOk result (λ victims. (line : WorkLine) (hands : List Hand) (bytes : ObjectId → List ℕ) (contents : Contents) → IsShown self.now (beside_of line hands bytes self.now.job) contents
             → planned_by self.now.order (shape_of self.now (beside_of line hands bytes self.now.job)) len ≡ Evict → victims ≡ listed (plan self.now.order (shape_of self.now (beside_of line hands bytes self.now.job)) len)) }
     {
-        unreachable!()
+        let order = self.use_order();
+        order.victims(alloc, len, self.window(), self.copies())
     }
 
     /// The first so many copies that may be spilled, the least recently used first.
@@ -115,7 +116,7 @@ impl JobRow {
         ensures { IfOk result (λ written. (line : WorkLine) (hands : List Hand) (bytes : ObjectId → List ℕ) (contents : Contents) (n : ℕ) → IsShown self.now (beside_of line hands bytes self.now.job) contents
             → planned_by self.now.order (shape_of self.now (beside_of line hands bytes self.now.job)) n ≡ Ask count → written ≡ listed (plan self.now.order (shape_of self.now (beside_of line hands bytes self.now.job)) n)) }
     {
-        unreachable!()
+        self.use_order().spillable(alloc, count)
     }
 }
 

@@ -1,4 +1,5 @@
-use Rattle.std.proofs.Common.{refl, sym, ◌∙◌}
+use Rattle.std.proofs.Common.{refl, sym, ap, ◌∙◌}
+use Rattle.node_table.specs.Usages.{total, device_bytes}
 use Rattle.private_store.proofs.Tests.{none_here}
 use Rattle.node_table.specs.Row.{beside_of}
 use Rattle.node_table.proofs.Planning.{all_listed, place_exit, plan_exit}
@@ -12,6 +13,6 @@ pub returns-clause-plan : goal.returns-clause-plan
 returns-clause-plan c hands bytes contents h =
     let beside = beside_of c.args.works.now hands bytes c.args.self.now.job in
     plan_exit c.args.self.now beside contents h c.copies.ensures.placed c.args.len c.job-job.result c.job-job.ensures
-    c.args.self.now.window refl c.copies.result.now c.copies.ensures.copies c.device.result c.device_bytes.result c.in_flight.result
-    c.device.ensures c.device_bytes.ensures c.args.works.now refl refl c.in_flight.ensures
+    c.args.self.now.window refl c.args.self.now.copies refl c.device.result c.device_bytes.result c.in_flight.result
+    c.device.ensures (c.device_bytes.ensures ∙ ap (total device_bytes) c.copies.ensures.copies) c.args.works.now refl refl c.in_flight.ensures
     c.plan-plan.result (λ store described. c.plan-plan.ensures.plan store (all_listed c.args.self.now beside contents h c.copies.ensures.placed c.args.len) described) c.asked.result c.asked.ensures.last c.spill_failed-failed.result c.spill_failed-failed.ensures c.room_plan.result c.room_plan.ensures

@@ -17,4 +17,4 @@ returns c = each_ok c.victims.result (λ ids found line hands bytes contents h e
     (of_copies row beside contents h placed c.args.len c.copies.result.now c.copies.ensures.copies c.use_order-order.result.now own c.use_order-order.ensures.standings)
     (described_as row beside contents h placed c.args.len c.window.result.now c.window.ensures c.copies.result.now c.copies.ensures.copies)
     (ap (λ o. kind_of (plan o s c.args.len)) own ∙ evicts-kind s.works_asked s.spill_failed (kind_of (plan row.order s c.args.len)) evicts)
-    ∙ ap (λ o. listed (plan o s c.args.len)) own) c.victims.ensures
+    ∙ ap (λ o. listed (plan o s c.args.len)) own) c.victims.ensures.plan
