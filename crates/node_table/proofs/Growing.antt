@@ -1,5 +1,5 @@
 -- A plan for room that is no refusal gives a place, or asks for writes.
-use Rattle.std.proofs.Common.{◌≡◌, ◌⊎◌, ℕ, ◌+◌, ◌<◌, Bool, true, false, cond, inl, inr, List, [], ◌∷◌, fold, length, Option, Some, None, is_some, Ok, Err, refl, sym, ap, ◌∙◌, arith}
+use Rattle.std.proofs.Common.{◌≡◌, ◌⊎◌, ℕ, ◌+◌, ◌<◌, Bool, true, false, cond, inl, inr, List, [], ◌∷◌, fold, length, Option, Some, None, is_some, Ok, Err, refl, ap, ◌∙◌, arith}
 use Rattle.std.specs.Prelude.{nat_lt}
 use Rattle.std.specs.Option.{option_map_or}
 use Rattle.std.proofs.lemmas.Bool.Decides.{nat_tests}
@@ -10,7 +10,7 @@ use Rattle.obj_id.specs.Kinds.{is_primary}
 use Rattle.private_store.specs.Tables.{at}
 use Rattle.private_store.specs.Shape.{Copy, Shape}
 use Rattle.private_store.specs.Contents.{Contents}
-use Rattle.private_store.specs.Room.{Room, make_room, set_copy, drop_copy, evicted, asked, offset_without, plan}
+use Rattle.private_store.specs.Room.{Room, make_room, set_copy, drop_copy, evicted, offset_without, plan}
 use Rattle.private_store.proofs.Tests.{true_false, false_true}
 use Rattle.lru_evictor.specs.Plans.{listed}
 use Rattle.node_table.specs.RoomPlans.{IsPlanned, MakesPlace, AsksWrites, planned_by, refuses, makes_place}

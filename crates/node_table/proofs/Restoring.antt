@@ -1,5 +1,5 @@
 -- A copy that is away is read back, in a place that is made for it.
-use Rattle.std.proofs.Common.{◌≡◌, ℕ, Bool, true, false, not, ◌&&◌, ◌||◌, ◌⊎◌, cond, inl, inr, ◌==◌, nat_eq, List, [], ◌∷◌, ◌++◌, ◌+◌, ◌-◌, ◌<◌, ◌≤◌, nat_le, Option, Some, None, is_some, option_map, Ok, Err, refl, sym, ap, subst, ◌∙◌, arith}
+use Rattle.std.proofs.Common.{◌≡◌, ℕ, Bool, true, false, not, ◌&&◌, ◌||◌, ◌⊎◌, cond, inl, inr, ◌==◌, nat_eq, List, [], ◌∷◌, ◌++◌, ◌+◌, ◌-◌, ◌<◌, ◌≤◌, Option, Some, None, is_some, option_map, Ok, Err, refl, sym, ap, subst, ◌∙◌, arith}
 use Rattle.std.specs.Prelude.{is_ok}
 use Rattle.std.proofs.lemmas.Bool.Decides.{nat_tests}
 use Rattle.std.proofs.lemmas.List.{append-nil}
@@ -31,7 +31,7 @@ use Rattle.private_store.specs.Tables.{at, is_among}
 use Rattle.private_store.proofs.KeptCopy.{has_work-split}
 use Rattle.private_store.proofs.Checks.{checked-nil, checked-true, checked-false}
 use Rattle.private_store.proofs.Tests.{both, none_some, none_here, true_false}
-use Rattle.spill_work.specs.Line.{WorkLine, Asks, used_by, works_of, in_flight, ask_check}
+use Rattle.spill_work.specs.Line.{WorkLine, Asks, used_by, works_of, in_flight}
 use Rattle.node_table.specs.Asked.{HasAsked}
 use Rattle.job_region.specs.Region.{extents_of}
 use Rattle.node_table.specs.Evicting.{placed_without, replaced, removals}

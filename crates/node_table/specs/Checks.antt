@@ -1,22 +1,21 @@
 -- Why a command can't be carried out, in the order of its checks; its own job's object is meant.
-use Rattle.std.specs.Prelude.{ℕ, ◌+◌, ◌==◌, nat_lt, nat_le, Bool, not, ◌&&◌, ◌||◌, length, if◌then◌else◌, List, Option, Some, None, is_some, Result, Ok, Err, ◌≡◌, false, option_map}
+use Rattle.std.specs.Prelude.{ℕ, ◌+◌, ◌==◌, nat_lt, nat_le, Bool, not, ◌&&◌, ◌||◌, length, if◌then◌else◌, List, Option, Some, None, is_some, Result, Ok, Err, ◌≡◌, false}
 use Rattle.std.specs.Option.{option_map_or, option_and_then}
 use Rattle.obj_id.specs.declared.ids.ObjectId.{ObjectId}
 use Rattle.obj_id.specs.declared.commands.Command.{Command}
 use Rattle.obj_id.specs.declared.commands.Command.TheVariants as command
 use Rattle.obj_id.specs.declared.commands.CopyState.{CopyState}
-use Rattle.obj_id.specs.declared.commands.CopyState.TheVariants.{Created, Sealed, Restoring, Fetching, Away}
 use Rattle.obj_id.specs.declared.refusals.Refusal.{Refusal}
-use Rattle.obj_id.specs.declared.refusals.Refusal.TheVariants.{BadSize, Gone, Exists, Absent, AlreadySealed, NotSealed, NotHeld, OutOfBounds, TooMany, NotOwner, Granted, Pending}
+use Rattle.obj_id.specs.declared.refusals.Refusal.TheVariants.{BadSize, Gone, Exists, Absent, AlreadySealed, NotSealed, NotHeld, OutOfBounds, TooMany, NotOwner, Granted}
 use Rattle.obj_id.specs.declared.ids.TaskNo.{TaskNo}
 use Rattle.obj_id.specs.Ids.{same_task}
 use Rattle.obj_id.specs.Kinds.{is_primary}
 use Rattle.private_store.specs.Limits.{most_bytes, most_holds, most_copies, most_borrowers, most_ended_tasks, has_numbers}
 use Rattle.private_store.specs.Tables.{ById, at}
 use Rattle.private_store.specs.Extents.{is_size}
-use Rattle.private_store.specs.Shape.{Copy, Fetch, Phase, locating, sized, pulling, failed}
+use Rattle.private_store.specs.Shape.{Copy, Fetch, Phase, sized}
 use Rattle.private_store.specs.Copies.{is_created}
-use Rattle.private_store.specs.Commands.{holds_of, all_holds, has_borrower, is_unsealed, refusal_of, fetch_refusal}
+use Rattle.private_store.specs.Commands.{holds_of, all_holds, has_borrower, is_unsealed}
 use Rattle.private_store.specs.declared.faults.Fault.{Fault}
 use Rattle.private_store.specs.Kept.{is_remembered}
 use Rattle.node_table.specs.Kept.{Kept}

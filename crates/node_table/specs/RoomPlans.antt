@@ -10,7 +10,7 @@ use Rattle.private_store.specs.Extents.{rounded}
 use Rattle.private_store.specs.Shape.{Copy, Shape}
 use Rattle.private_store.specs.Copies.{extent_of, is_held, may_evict, may_spill, may_pass, is_evictable, is_spillable}
 use Rattle.private_store.specs.Kept.{IsOrderOfUse}
-use Rattle.private_store.specs.Room.{Room, Plan, fits, wait, full, busy, evict, spill, works_left, offset_without, asked, evict_room, no_room, plan}
+use Rattle.private_store.specs.Room.{Room, Plan, works_left, offset_without, asked, evict_room, no_room, plan}
 use Rattle.lru_evictor.specs.declared.facts.CopyFacts.{CopyFacts}
 use Rattle.lru_evictor.specs.declared.facts.Plan.{Plan as Kind}
 use Rattle.lru_evictor.specs.declared.facts.Plan.TheVariants as kind

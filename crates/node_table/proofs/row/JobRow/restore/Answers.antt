@@ -1,4 +1,4 @@
-use Rattle.std.proofs.Common.{◌≡◌, ◌==◌, None, ◌<◌, true, false, ◌≤◌, ◌+◌, length, IfOk, refl, sym, ap, subst, ◌∙◌}
+use Rattle.std.proofs.Common.{◌≡◌, ◌==◌, None, ◌<◌, true, false, ◌≤◌, ◌+◌, length, IfOk, sym, ap, subst, ◌∙◌}
 use Rattle.std.specs.Map.{lookup}
 use Rattle.std.specs.Option.{option_copied, option_map_or, option_and_then}
 use Rattle.obj_id.specs.declared.commands.Command.TheVariants as command

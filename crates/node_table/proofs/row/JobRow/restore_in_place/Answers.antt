@@ -1,4 +1,4 @@
-use Rattle.std.proofs.Common.{◌≡◌, false, None, List, [], ◌∷◌, ◌++◌, ◌+◌, length, refl, sym, ap, subst, ◌∙◌, arith}
+use Rattle.std.proofs.Common.{◌≡◌, false, None, List, [], ◌∷◌, ◌++◌, ◌+◌, length, sym, ap, subst, ◌∙◌, arith}
 use Rattle.std.specs.Option.{option_and_then}
 use Rattle.obj_id.specs.declared.commands.Command.TheVariants as command
 use Rattle.obj_id.specs.declared.commands.CopyState.TheVariants.{Away}
@@ -19,7 +19,7 @@ use Rattle.node_table.specs.RoomPlans.{MakesPlace}
 use Rattle.node_table.specs.Row.{Beside, beside_of, shape_of}
 use Rattle.node_table.specs.Shown.{Given, TakesStep}
 use Rattle.node_table.proofs.Evicting.{length-removals}
-use Rattle.node_table.proofs.Getting.{each_ok, some_at}
+use Rattle.node_table.proofs.Getting.{some_at}
 use Rattle.node_table.proofs.Pulling.{own_job, waiting, stays_of, few_of}
 use Rattle.node_table.proofs.Restoring.{few_works, has_asked, asked_beside, restore_done}
 use Rattle.node_table.proofs.row.JobRow.restore_in_place.Goals as goal

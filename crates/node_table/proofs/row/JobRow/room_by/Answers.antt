@@ -1,11 +1,9 @@
-use Rattle.std.proofs.Common.{false, sym, ap, subst, ◌∙◌}
-use Rattle.private_store.proofs.Tests.{false_true}
+use Rattle.std.proofs.Common.{sym, subst, ◌∙◌}
 use Rattle.private_store.specs.Room.{make_room}
-use Rattle.node_table.specs.MadeRooms.{is_told}
 use Rattle.node_table.specs.Row.{beside_of, shape_of}
-use Rattle.node_table.specs.RoomPlans.{MakesPlace, AsksWrites, refuses, makes_place}
+use Rattle.node_table.specs.RoomPlans.{MakesPlace, AsksWrites}
 use Rattle.node_table.specs.declared.room.RoomPlan.TheVariants.{Fits, Evict, Ask, TellFailedSpill, Refuse}
-use Rattle.node_table.proofs.Getting.{each_ok, always_ok, always_err}
+use Rattle.node_table.proofs.Getting.{each_ok}
 use Rattle.node_table.proofs.Planning.{planned_as}
 use Rattle.node_table.proofs.Rooms.{refusal_told, failure_told}
 use Rattle.node_table.proofs.row.JobRow.room_by.Goals as goal

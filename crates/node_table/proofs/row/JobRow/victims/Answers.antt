@@ -1,4 +1,4 @@
-use Rattle.std.proofs.Common.{refl, sym, ap, ◌∙◌, subst}
+use Rattle.std.proofs.Common.{ap, ◌∙◌}
 use Rattle.private_store.specs.Room.{plan}
 use Rattle.lru_evictor.specs.Plans.{kind_of, listed}
 use Rattle.node_table.specs.Row.{beside_of, shape_of}
