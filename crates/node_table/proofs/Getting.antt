@@ -44,11 +44,7 @@ pub each_ok : {T E : Type 0} {P Q : T → Type 0} (r : Result T E) → ((t : T) 
 each_ok (Ok t) f h = f t h
 each_ok (Err e) f h = tt
 
--- what is so anyhow is so of each answer, and of each error
-pub always_ok : {T E : Type 0} {P : T → Type 0} (r : Result T E) → ((t : T) → P t) → IfOk r P
-always_ok (Ok t) p = p t
-always_ok (Err e) p = tt
-
+-- what is so of each error
 pub always_err : {T E : Type 0} {P : Type 0} (r : Result T E) → P → OnErr r P
 always_err (Ok t) p = tt
 always_err (Err e) p = p
