@@ -1,5 +1,5 @@
 -- A command on the row of its job: what its answer says, and that another job's object is refused.
-use Rattle.std.proofs.Common.{◌≡◌, ℕ, ◌==◌, false, List, Ok, Err, refl, ap, ◌∙◌}
+use Rattle.std.proofs.Common.{◌≡◌, ℕ, ◌==◌, true, false, List, None, Ok, Err, refl, ap, ◌∙◌}
 use Rattle.std.specs.Prelude.{IfOk, IfErr, OnOk, OnErr, IsOk}
 use Rattle.std.specs.declared.result.Result.{Result}
 use Rattle.obj_id.specs.declared.ids.ObjectId.{ObjectId}
@@ -16,7 +16,11 @@ use Rattle.node_table.specs.Row.{Row, Beside, shape_of}
 use Rattle.node_table.specs.Shown.{IsShown, only, TakesStep}
 use Rattle.node_table.proofs.Stepping.{stays, change}
 use Rattle.node_table.proofs.ByChecks.{called, foreign}
-use Rattle.node_core.specs.Calls.{is_own}
+use Rattle.private_store.proofs.Tests.{true_false}
+use Rattle.spill_work.specs.Line.{WorkLine}
+use Rattle.node_core.specs.Calls.{is_of_row, is_own, is_plain}
+use Rattle.node_core.specs.Hosted.{Hosted}
+use Rattle.node_core.specs.Late.{hands_check, IsRoomDue}
 
 module _ (node job : ℕ) (row : Row) (beside : Beside) (session : ℕ) (contents : Contents) (own : row.job ≡ job) (h : IsShown row beside contents) where
   foreign_is : (id : ObjectId) (c : Command (List ℕ)) (d : Change) → (id.job.0 == job) ≡ false → commanded row.order (shape_of row beside) session (brief c) ≡ owned (shape_of row beside) id d
@@ -43,6 +47,19 @@ module _ (node job : ℕ) (row : Row) (beside : Beside) (session : ℕ) (content
   not_granted (command.Grant id target) other = absurd cc
   not_granted (command.Withdraw id target) other = absurd cc
   not_granted (command.Peek id offset n) other = absurd cc
+
+-- a command that asks for no work waits for no room
+pub plain_waits_not : (node : ℕ) (row : Row) (line : WorkLine) (c : Command (List ℕ)) → is_plain c ≡ true → IsRoomDue node row line c
+plain_waits_not node row line (command.Create id kind n) plain = true_false plain
+plain_waits_not node row line (command.Get id) plain = true_false plain
+plain_waits_not node row line _ plain = tt
+
+-- no hand stands against a command that a row carries out
+pub row_by_hands : (node : Hosted) (row : Row) (job : ℕ) (c : Command (List ℕ)) → is_of_row c ≡ true → hands_check node row job c ≡ None
+row_by_hands node row job (command.Grant id target) of_row = true_false of_row
+row_by_hands node row job (command.Withdraw id target) of_row = true_false of_row
+row_by_hands node row job (command.Peek id offset n) of_row = true_false of_row
+row_by_hands node row job _ of_row = refl
 
 -- what follows from a result follows where there is one
 pub if_ok : {X : Type 0} {E : Type 0} {P Q : X → Type 0} (r : Result X E) → IfOk r P → ((x : X) → P x → Q x) → IfOk r Q

@@ -42,7 +42,7 @@ use Rattle.node_table.proofs.Notes.{lengths, same_given, others_stand, row_recei
 use Rattle.node_table.proofs.Passed.{past}
 use Rattle.node_core.specs.Granting.{grant_refusal, TakesGrant}
 use Rattle.node_core.specs.Hosted.{Hosted, IsRowView, IsViewBy, Shows, ShowsAll, bytes_here, beside_at}
-use Rattle.node_core.specs.Late.{hands_check, IsCallUnrefused, IsUnrefused}
+use Rattle.node_core.specs.Late.{hands_check, IsCallUnrefused, IsRoomDue, IsUnrefused}
 use Rattle.node_core.specs.Outcomes.{with_given, with_no_notes, received_noted}
 use Rattle.node_core.specs.Steps.{queued, IsStepOf, Steps, StepsFrom}
 use Rattle.node_core.proofs.AllJobs.{all_steps, asks_nothing, refused_still}
@@ -326,5 +326,5 @@ module _ (number : ℕ) (a : Admissions) (line : WorkLine) (hands : List Hand) (
 
   -- of one that nothing refuses
   pub unrefused : (rows : List (JobNo × Row)) (row : Row) (node : Hosted) → node_of number a line hands rows ≡ node → lookup (same_job job) rows ≡ Some row → IsUnrefused row job.0 session c
-      → hands_check (node_of number a line hands rows) row job.0 c ≡ None → IsCallUnrefused node job session c
-  unrefused rows row node is found passes by_hands = subst (λ n. IsCallUnrefused n job session c) is (record { row = row; found = found; unrefused = passes; by_hands = by_hands })
+      → hands_check (node_of number a line hands rows) row job.0 c ≡ None → (row.job ≡ job.0 → IsRoomDue number row line c) → IsCallUnrefused node job session c
+  unrefused rows row node is found passes by_hands by_room = subst (λ n. IsCallUnrefused n job session c) is (record { row = row; found = found; unrefused = passes; by_hands = by_hands; by_room = by_room })

@@ -4,6 +4,7 @@ use Rattle.std.specs.List.{list_any}
 use Rattle.std.proofs.lemmas.Bool.{eqb-true}
 use Rattle.obj_id.specs.declared.ids.JobNo.{JobNo}
 use Rattle.obj_id.specs.declared.ids.ObjectId.{ObjectId}
+use Rattle.obj_id.specs.declared.commands.Command.{Command}
 use Rattle.obj_id.specs.declared.commands.Command.TheVariants as command
 use Rattle.obj_id.specs.declared.commands.Reply.TheVariants as reply
 use Rattle.obj_id.specs.declared.refusals.Refusal.{Refusal}
@@ -25,7 +26,7 @@ use Rattle.grants.specs.Table.{AreHands, is_first, is_no_taker, grant_check as t
 use Rattle.grants.proofs.Private.{refuses_alike}
 use Rattle.spill_work.specs.Line.{WorkLine}
 use Rattle.node_table.specs.Granting.{grant_check, grant_check_of, hands_granted}
-use Rattle.node_table.specs.Late.{may_grow}
+use Rattle.node_table.specs.Late.{is_more, has_begun, may_grow}
 use Rattle.node_table.specs.Notes.{beside_rest}
 use Rattle.node_table.specs.Row.{Row, Beside, beside_of, shape_of}
 use Rattle.node_table.specs.Shown.{seen, IsShown, Given, only, TakesStep}
@@ -115,6 +116,13 @@ module _ (row : Row) (job : JobNo) (session : ℕ) (id : ObjectId) (target : Job
 
 -- ---- refusals, and what is due where there is none
 
+-- a command of which more than a refusal comes
+abbrev pub IsGrowing : ℕ → Row → Beside → Contents → ℕ → Command (List ℕ) → Type 0
+IsGrowing node row beside contents session c = may_grow (seen row beside contents) (view_step node (seen row beside contents) (input.Call session c)) ≡ true
+
+answers_more : (node : ℕ) (row : Row) (beside : Beside) (contents : Contents) (session : ℕ) (c : Command (List ℕ)) → (view_step node (seen row beside contents) (input.Call session c)).reply ≡ reply.Ok → IsGrowing node row beside contents session c
+answers_more node row beside contents session c is = ap (is_more (has_begun (seen row beside contents) (view_step node (seen row beside contents) (input.Call session c)))) is
+
 module _ (node : ℕ) (line : WorkLine) (hands : List Hand) (bytes : ObjectId → List ℕ) (row : Row) (contents : Contents) (session : ℕ) (id : ObjectId) (target : JobNo)
     (h : IsShown row (beside_of line hands bytes row.job) contents) where
   abbrev beside : Beside
@@ -176,15 +184,15 @@ module _ (node : ℕ) (line : WorkLine) (hands : List Hand) (bytes : ObjectId �
 
   -- such a one may want memory
   pub grant_late : grant_refusal row job.0 id target.0 (table_check hands job.0 id target.0) ≡ None
-      → may_grow (shape_of row (beside_of line hands bytes job.0)) (view_step node (seen row (beside_of line hands bytes job.0) contents) (input.Call session (command.Grant id target))).reply ≡ true
+      → IsGrowing node row (beside_of line hands bytes job.0) contents session (command.Grant id target)
   grant_late e =
-      subst (λ n. may_grow (shape_of row (beside_of line hands bytes n)) (view_step node (seen row (beside_of line hands bytes n) contents) (input.Call session (command.Grant id target))).reply ≡ true) own
-      (ap (may_grow (shape_of row (beside_of line hands bytes row.job)))
+      subst (λ n. IsGrowing node row (beside_of line hands bytes n) contents session (command.Grant id target)) own
+      (answers_more node row (beside_of line hands bytes row.job) contents session (command.Grant id target)
       (grant_due node line hands bytes row contents session id target at_home (ap (λ n. grant_refusal row n id target.0 (table_check hands n id target.0)) own ∙ e)))
 
   pub withdraw_late : withdraw_check hands job.0 id target.0 ≡ None
-      → may_grow (shape_of row (beside_of line hands bytes job.0)) (view_step node (seen row (beside_of line hands bytes job.0) contents) (input.Call session (command.Withdraw id target))).reply ≡ true
+      → IsGrowing node row (beside_of line hands bytes job.0) contents session (command.Withdraw id target)
   withdraw_late e =
-      subst (λ n. may_grow (shape_of row (beside_of line hands bytes n)) (view_step node (seen row (beside_of line hands bytes n) contents) (input.Call session (command.Withdraw id target))).reply ≡ true) own
-      (ap (may_grow (shape_of row (beside_of line hands bytes row.job)))
+      subst (λ n. IsGrowing node row (beside_of line hands bytes n) contents session (command.Withdraw id target)) own
+      (answers_more node row (beside_of line hands bytes row.job) contents session (command.Withdraw id target)
       (withdraw_due node line hands bytes row contents session id target at_home (ap (λ n. withdraw_check hands n id target.0) own ∙ e)))

@@ -49,4 +49,4 @@ module _ (number : ℕ) (a : Admissions) (line : WorkLine) (hands : List Hand) (
 pub list_late : (number : ℕ) (a : Admissions) (line : WorkLine) (hands : List Hand) (rows : List (JobNo × Row)) (job : JobNo) (session : ℕ) (row : Row) → lookup (same_job job) rows ≡ Some row
     → (node : Hosted) → node_of number a line hands rows ≡ node → IsCallUnrefused node job session command.List
 list_late number a line hands rows job session row found node is =
-    subst (λ n. IsCallUnrefused n job session command.List) is (record { row = row; found = found; unrefused = record { own = refl; passed = refl; grows = refl }; by_hands = refl })
+    subst (λ n. IsCallUnrefused n job session command.List) is (record { row = row; found = found; unrefused = record { own = refl; passed = refl; grows = refl }; by_hands = refl; by_room = λ own. tt })

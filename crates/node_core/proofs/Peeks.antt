@@ -63,4 +63,5 @@ module _ (node : Hosted) (number : ℕ) (a : Admissions) (line : WorkLine) (hand
     found = ap (λ (m : Hosted). row_at m job) (sym is) ∙ found;
     unrefused = record { own = refl; passed = refl; grows = refl };
     by_hands = ap (λ bs. peek_check node.hands job.0 id (length bs) offset n) (sym same) ∙ sym check ∙ passed;
+    by_room = λ own. tt;
   }

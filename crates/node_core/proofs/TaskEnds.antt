@@ -26,7 +26,7 @@ use Rattle.private_store.specs.Kept.{has_hand}
 use Rattle.private_store.specs.Private.{Post, view_step}
 use Rattle.private_store.specs.Shape.{HandGiven}
 use Rattle.private_store.proofs.OwnJob.{step_keeps_job}
-use Rattle.private_store.proofs.Tests.{both_left, some_value}
+use Rattle.private_store.proofs.Tests.{both_left, none_some, some_value}
 use Rattle.spill_work.specs.Line.{WorkLine, works_of, used_by}
 use Rattle.grants.specs.Table.{AreHands}
 use Rattle.grants.proofs.Alike.{any_filtered}
@@ -41,8 +41,8 @@ use Rattle.node_table.specs.Shown.{seen, IsShown, Given as RowGiven, only, Takes
 use Rattle.node_table.proofs.Besides.{is_of}
 use Rattle.node_table.proofs.EndingTasks.{end_task_refused}
 use Rattle.node_table.proofs.Notes.{rest_of_task, first_left}
-use Rattle.node_core.specs.Hosted.{Hosted, IsRowView, IsViewBy, Shows, bytes_here, beside_at}
-use Rattle.node_core.specs.Late.{task_refusal}
+use Rattle.node_core.specs.Hosted.{Hosted, row_at, IsRowView, IsViewBy, Shows, bytes_here, beside_at}
+use Rattle.node_core.specs.Late.{task_refusal, IsCallUnrefused}
 use Rattle.node_core.specs.OneJob.{IsStepOf}
 use Rattle.node_core.specs.Outcomes.{with_no_notes, with_ends}
 use Rattle.node_core.specs.Steps.{queued, Steps}
@@ -53,7 +53,15 @@ use Rattle.node_core.proofs.Lines.{above, above-used, asked_nothing}
 use Rattle.node_core.proofs.Listed.{row_stays}
 use Rattle.node_core.proofs.Views.{itself, view_is, node_of, call_steps, refused_steps}
 
--- ---- it is refused
+-- ---- it is refused, or it isn't
+
+-- a task that nothing keeps from ending
+pub task_unrefused : (node : Hosted) (job : JobNo) (session : ℕ) (task : TaskNo) → task_refusal (row_at node job) task ≡ None → IsCallUnrefused node job session (command.EndTask task)
+task_unrefused node job session task = by (row_at node job) refl
+  where
+    by : (o : Option Row) → row_at node job ≡ o → task_refusal o task ≡ None → IsCallUnrefused node job session (command.EndTask task)
+    by None none e = none_some NotAdmitted (sym e)
+    by (Some row) found e = record { row = row; found = found; unrefused = record { own = refl; passed = e; grows = refl }; by_hands = refl; by_room = λ own. tt }
 
 module _ (number : ℕ) (a : Admissions) (line : WorkLine) (hands : List Hand) (table : AreHands hands) (job : JobNo) (session : ℕ) (task : TaskNo) (rows : List (JobNo × Row)) where
   abbrev at_node : Hosted

@@ -1,4 +1,4 @@
--- When a step may want memory: not if there is nothing to do, and not if it is refused before anything grows.
+-- When a step may want memory: not if there is nothing to do, and not if a refusal is all that it comes to.
 use Rattle.std.specs.Prelude.{◌≡◌, ℕ, Bool, true, false, List, length, Option, Some, None, is_some}
 use Rattle.obj_id.specs.declared.commands.Command.{Command}
 use Rattle.obj_id.specs.declared.commands.Command.TheVariants as command
@@ -18,12 +18,12 @@ use Rattle.obj_id.specs.declared.ids.JobNo.{JobNo}
 use Rattle.obj_id.specs.declared.ids.TaskNo.{TaskNo}
 use Rattle.job_admission.specs.Admissions.{live_at, admit_check}
 use Rattle.spill_work.specs.declared.queue.Asked.{Asked}
-use Rattle.spill_work.specs.Line.{front_of}
+use Rattle.spill_work.specs.Line.{WorkLine, front_of}
 use Rattle.grants.specs.Table.{grant_check, withdraw_check}
 use Rattle.node_table.specs.Row.{Row}
 use Rattle.node_table.specs.Checks.{early_check, end_task_check}
 use Rattle.node_table.specs.Granting.{peek_check}
-use Rattle.node_table.specs.Late.{may_grow}
+use Rattle.node_table.specs.Late.{may_grow, IsDueMore}
 use Rattle.node_core.specs.Hosted.{Hosted, row_at, Shows, ShowsAll, bytes_here}
 use Rattle.node_core.specs.Calls.{is_own, takes_no_memory}
 use Rattle.node_core.specs.Granting.{grant_refusal}
@@ -47,10 +47,10 @@ is_accepted _ = true
 
 -- whether an event may want memory
 abbrev pub may_want : Hosted → (ℕ → View) → NodeEvent → Bool
-may_want node v (Own (event.Call job session c)) = may_grow (v job.0).shape (told_by node v (Own (event.Call job session c)))
+may_want node v (Own (event.Call job session c)) = may_grow (v job.0) (view_step node.number (v job.0) (input.Call session c))
 may_want node v e = is_accepted (told_by node v e)
 
--- what an error is: the answer that was due is none that comes before anything grows
+-- what an error is: no other refusal was all that was due
 abbrev pub IsLate : Hosted → NodeEvent → Type 0
 IsLate old e = (v : ℕ → View) → ShowsAll old v → may_want old v e ≡ true
 
@@ -66,6 +66,12 @@ pub record IsUnrefused (row : Row) (job session : ℕ) (c : Command (List ℕ)) 
 pub record IsLateOnRow (row : Row) (session : ℕ) (c : Command (List ℕ)) : Type 0 where
   pub passed : early_check row session c ≡ None
   pub grows : takes_no_memory (Some row) c ≡ false
+
+-- of a command that waits for room: that it is due more than a refusal
+abbrev pub IsRoomDue : ℕ → Row → WorkLine → Command (List ℕ) → Type 0
+IsRoomDue node row line (command.Create id kind n) = IsDueMore node row line (command.Create id kind n)
+IsRoomDue node row line (command.Get id) = IsDueMore node row line (command.Get id)
+IsRoomDue node row line _ = Unit {0}
 
 -- why a command of the job with this row is refused by the hands that stand
 abbrev pub hands_check : Hosted → Row → ℕ → Command (List ℕ) → Option Refusal
@@ -84,6 +90,7 @@ pub record IsCallUnrefused (node : Hosted) (job : JobNo) (session : ℕ) (c : Co
   pub found : row_at node job ≡ Some row
   pub unrefused : IsUnrefused row job.0 session c
   pub by_hands : hands_check node row job.0 c ≡ None
+  pub by_room : row.job ≡ job.0 → IsRoomDue node.number row node.works c
 
 -- a work that nobody has taken, of a job that has a row
 pub record IsFront (node : Hosted) : Type 0 where

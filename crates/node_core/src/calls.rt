@@ -9,7 +9,7 @@ ghost use Rattle.node_table.specs.Outcomes.{given_of};
 ghost use Rattle.node_table.specs.Shown.{only};
 ghost use Rattle.node_core.specs.Calls.{is_of_row, is_plain, is_answered, is_own as is_own_lem, takes_no_memory, Obeys};
 ghost use Rattle.node_core.specs.Foreseen.{most_by_command};
-ghost use Rattle.node_core.specs.Late.{IsLateOnRow, IsUnrefused};
+ghost use Rattle.node_core.specs.Late.{IsLateOnRow, IsRoomDue, IsUnrefused};
 
 use bytes::Bytes;
 use node_table::{JobRow, Outcome};
@@ -18,8 +18,8 @@ use spill_work::Works;
 use std::alloc::{AllocError, Global};
 
 /// Carries out a command on the row of the session's job. `NotGranted` for another job's object. The error
-/// is out of memory, and then nothing has changed; Write, Release and Usage take none, and Leave takes some only if a
-/// copy is doomed. Works that it asks for
+/// is out of memory: no other refusal was due then, and nothing has changed; Write, Release and Usage take none, and Leave
+/// takes some only if a copy is doomed. Works that it asks for
 /// come last in the line, and those before them stay.
 pub(crate) fn carry_out(
     alloc: Global,
@@ -37,6 +37,7 @@ pub(crate) fn carry_out(
     ensures others { (other : JobNo) → same_job job other ≡ false → IsSameFor other works.old works.new }
     ensures memory { (r : Refusal) → IsErrOf result r → r ≡ NoMemory }
     ensures late { OnErr result (IsUnrefused row.old job.0 session command.now) }
+    ensures room { OnErr result (row.old.job ≡ job.0 → IsRoomDue node row.old works.old command.now) }
     ensures frugal { takes_no_memory (Some row.old) command.now ≡ true → IsOk result }
     ensures err { OnErr result (row.new ≡ row.old) }
     ensures works { OnErr result (works.new ≡ works.old) }

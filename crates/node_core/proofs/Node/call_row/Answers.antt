@@ -8,7 +8,8 @@ use Rattle.node_table.specs.Outcomes.{given_of}
 use Rattle.node_core.specs.Calls.{takes_no_memory}
 use Rattle.node_core.specs.Hosted.{row_at, bytes_here}
 use Rattle.node_core.specs.OneJob.{StepsOne}
-use Rattle.node_core.proofs.Calling.{if_ok_on, both_err}
+use Rattle.node_core.proofs.Calling.{if_ok_on, both_err, row_by_hands}
+use Rattle.node_core.proofs.Giving.{unrefused}
 use Rattle.node_core.proofs.Views.{node_of, call_steps, refused_steps}
 use Rattle.node_core.proofs.Node.call_row.Goals as goal
 
@@ -46,3 +47,10 @@ pub returns-clause-frugal : goal.returns-clause-frugal
 returns-clause-frugal c frugal =
     let found = sym c.get_mut.ensures.value ∙ ap option_copied_mut c.in-Some.is in
     c.carry_out.ensures.frugal (ap (λ o. takes_no_memory o c.args.command.now) (sym (ap (λ n. row_at n c.args.job) (sym c.self.view_is) ∙ found)) ∙ frugal)
+
+pub returns-clause-late : goal.returns-clause-late
+returns-clause-late c =
+    both_err c.carry_out.result c.carry_out.ensures.late c.carry_out.ensures.room (λ late room.
+    unrefused c.self.inside.number c.self.inside.admission c.self.inside.works c.self.inside.hands c.self.invariant.table c.args.job c.args.session c.args.command.now
+    c.self.inside.rows.entries c.in-Some.row.now c.args.self.now c.self.view_is (sym c.get_mut.ensures.value ∙ ap option_copied_mut c.in-Some.is) late
+    (row_by_hands (node_of c.self.inside.number c.self.inside.admission c.self.inside.works c.self.inside.hands c.self.inside.rows.entries) c.in-Some.row.now c.args.job.0 c.args.command.now c.requires) room)

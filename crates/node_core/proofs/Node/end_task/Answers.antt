@@ -26,7 +26,7 @@ use Rattle.node_core.specs.Outcomes.{with_no_notes, with_ends}
 use Rattle.node_core.specs.Steps.{Given, Steps}
 use Rattle.node_core.proofs.Calling.{always_err}
 use Rattle.node_core.proofs.Small.{takers_noted}
-use Rattle.node_core.proofs.TaskEnds.{task_refused, task_steps}
+use Rattle.node_core.proofs.TaskEnds.{task_refused, task_unrefused, task_steps}
 use Rattle.node_core.proofs.Views.{node_of}
 use Rattle.node_core.proofs.Node.end_task.Goals as goal
 
@@ -100,3 +100,15 @@ returns-clause-takers c =
     subst (λ told. AreTakers c.args.self.now.hands (event.Call job c.args.session (command.EndTask task)) told (map (λ (note : Note). note.job) c.with_ends.result.notes)) (sym ok)
     (takers_noted c.with_ends.result.notes c.hands-2.result.now (ap (λ g. g.notes) c.with_ends.ensures.given)
     ∙ ap takers_told (c.hands-2.ensures ∙ ap hands_sorted c.in_ok-ends.ensures.found ∙ ap (λ (n : Hosted). hands_ended (is_of_task job.0 task) n.hands) c.self.view_is))
+
+pub returns-in_err-ends-clause-late : goal.returns-in_err-ends-clause-late
+returns-in_err-ends-clause-late c =
+    always_err c.from_residual.result (task_unrefused c.args.self.now c.args.job c.args.session c.args.task (sym c.task_refusal.ensures ∙ c.in_default.is))
+
+pub returns-in_err-notes-clause-late : goal.returns-in_err-notes-clause-late
+returns-in_err-notes-clause-late c =
+    always_err c.from_residual-in_err-notes.result (task_unrefused c.args.self.now c.args.job c.args.session c.args.task (sym c.task_refusal.ensures ∙ c.in_default.is))
+
+pub returns-in_err-outcome-clause-late : goal.returns-in_err-outcome-clause-late
+returns-in_err-outcome-clause-late c =
+    always_err c.from_residual-in_err-outcome.result (task_unrefused c.args.self.now c.args.job c.args.session c.args.task (sym c.task_refusal.ensures ∙ c.in_default.is))

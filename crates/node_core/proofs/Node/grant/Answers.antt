@@ -59,7 +59,7 @@ returns-in_err-notes-clause-late c =
     let passed = ap (grant_refusal row c.args.job.0 c.args.id.now c.args.target.0) (sym c.grant_check-table.ensures) ∙ sym c.grant_refusal.ensures ∙ c.in_default-grant_refusal.is in
     always_err c.from_residual.result
     (unrefused c.self.inside.number c.self.inside.admission c.self.inside.works c.self.inside.hands c.self.invariant.table c.args.job c.args.session (command.Grant c.args.id.now c.args.target)
-    c.self.inside.rows.entries row c.args.self.now c.self.view_is (sym c.get_mut.ensures.value ∙ ap option_copied_mut c.in-Some.is) (record { own = refl; passed = refl; grows = refl }) passed)
+    c.self.inside.rows.entries row c.args.self.now c.self.view_is (sym c.get_mut.ensures.value ∙ ap option_copied_mut c.in-Some.is) (record { own = refl; passed = refl; grows = refl }) passed (λ own. tt))
 
 pub returns-in_err-notes-clause-err : goal.returns-in_err-notes-clause-err
 returns-in_err-notes-clause-err c =
@@ -74,7 +74,7 @@ returns-in_default-grant-clause-late c =
     let row = c.in-Some.row.now in
     let passed = ap (grant_refusal row c.args.job.0 c.args.id.now c.args.target.0) (sym c.grant_check-table.ensures) ∙ sym c.grant_refusal.ensures ∙ c.in_default-grant_refusal.is in
     unrefused c.self.inside.number c.self.inside.admission c.self.inside.works c.self.inside.hands c.self.invariant.table c.args.job c.args.session (command.Grant c.args.id.now c.args.target)
-    c.self.inside.rows.entries row c.args.self.now c.self.view_is (sym c.get_mut.ensures.value ∙ ap option_copied_mut c.in-Some.is) (record { own = refl; passed = refl; grows = refl }) passed
+    c.self.inside.rows.entries row c.args.self.now c.self.view_is (sym c.get_mut.ensures.value ∙ ap option_copied_mut c.in-Some.is) (record { own = refl; passed = refl; grows = refl }) passed (λ own. tt)
 
 pub returns-in_default-grant-clause-err : goal.returns-in_default-grant-clause-err
 returns-in_default-grant-clause-err c =

@@ -59,7 +59,7 @@ returns-in_err-notes-clause-late c =
     let stands = ap (λ b. cond b None (Some NotGranted)) (sym c.has_given.ensures ∙ c.if-not-has_given.false) in
     always_err c.from_residual.result
     (unrefused c.self.inside.number c.self.inside.admission c.self.inside.works c.self.inside.hands c.self.invariant.table c.args.job c.args.session (command.Withdraw c.args.id.now c.args.target)
-    c.self.inside.rows.entries c.in-Some.row.now c.args.self.now c.self.view_is (sym c.get_mut.ensures.value ∙ ap option_copied_mut c.in-Some.is) (record { own = refl; passed = refl; grows = refl }) stands)
+    c.self.inside.rows.entries c.in-Some.row.now c.args.self.now c.self.view_is (sym c.get_mut.ensures.value ∙ ap option_copied_mut c.in-Some.is) (record { own = refl; passed = refl; grows = refl }) stands (λ own. tt))
 
 pub returns-in_err-notes-clause-err : goal.returns-in_err-notes-clause-err
 returns-in_err-notes-clause-err c =
@@ -73,7 +73,7 @@ pub returns-in_default-withdraw-clause-late : goal.returns-in_default-withdraw-c
 returns-in_default-withdraw-clause-late c =
     let stands = ap (λ b. cond b None (Some NotGranted)) (sym c.has_given.ensures ∙ c.if-not-has_given.false) in
     unrefused c.self.inside.number c.self.inside.admission c.self.inside.works c.self.inside.hands c.self.invariant.table c.args.job c.args.session (command.Withdraw c.args.id.now c.args.target)
-    c.self.inside.rows.entries c.in-Some.row.now c.args.self.now c.self.view_is (sym c.get_mut.ensures.value ∙ ap option_copied_mut c.in-Some.is) (record { own = refl; passed = refl; grows = refl }) stands
+    c.self.inside.rows.entries c.in-Some.row.now c.args.self.now c.self.view_is (sym c.get_mut.ensures.value ∙ ap option_copied_mut c.in-Some.is) (record { own = refl; passed = refl; grows = refl }) stands (λ own. tt)
 
 pub returns-in_default-withdraw-clause-err : goal.returns-in_default-withdraw-clause-err
 returns-in_default-withdraw-clause-err c =

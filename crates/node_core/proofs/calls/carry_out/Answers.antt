@@ -1,4 +1,4 @@
-use Rattle.std.proofs.Common.{◌==◌, refl, sym, ap, subst, ◌∙◌}
+use Rattle.std.proofs.Common.{rules, ◌≡◌, ◌==◌, true, refl, sym, ap, subst, ◌∙◌}
 use Rattle.std.specs.Prelude.{OnOk}
 use Rattle.std.proofs.lemmas.Bool.{eqb-true}
 use Rattle.obj_id.specs.declared.commands.Command.TheVariants as command
@@ -8,8 +8,10 @@ use Rattle.node_table.specs.Asked.{HasAsked}
 use Rattle.node_table.specs.Outcomes.{given_of}
 use Rattle.node_table.specs.Row.{beside_of}
 use Rattle.node_table.specs.Shown.{IsShown, TakesStep}
-use Rattle.node_core.specs.Calls.{is_own}
-use Rattle.node_core.proofs.Calling.{if_ok, always_ok, both_err, no_err, not_granted}
+use Rattle.node_table.proofs.Getting.{each_err}
+use Rattle.node_core.specs.Calls.{is_own, is_plain}
+use Rattle.node_core.specs.Late.{IsRoomDue, IsUnrefused}
+use Rattle.node_core.proofs.Calling.{if_ok, always_ok, always_err, both_err, no_err, not_granted, plain_waits_not}
 use Rattle.node_core.proofs.Lines.{asked_nothing}
 use Rattle.node_core.proofs.calls.carry_out.Goals as goal
 
@@ -63,3 +65,28 @@ returns-in_default-clause-late c =
 pub returns-in_default-clause-frugal : goal.returns-in_default-clause-frugal
 returns-in_default-clause-frugal c frugal =
     no_err c.carry_out_plain.result c.carry_out_plain.ensures.late (λ late. true_false (sym late.grows ∙ frugal))
+
+pub returns-in-Create-clause-late : goal.returns-in-Create-clause-late
+returns-in-Create-clause-late c =
+    let mine = ap (is_own c.args.job.0) (sym c.in-Create.is) ∙ sym c.is_own.ensures ∙ c.if-not-is_own.false in
+    always_err c.create.result (subst (IsUnrefused c.args.row.now c.args.job.0 c.args.session) (sym c.in-Create.is) (record { own = mine; passed = refl; grows = refl }))
+
+pub returns-in-Create-clause-room : goal.returns-in-Create-clause-room
+returns-in-Create-clause-room c = each_err c.create.result (λ due own.
+    let mine = ap (λ n. c.in-Create.id.job.0 == n) own ∙ ap (is_own c.args.job.0) (sym c.in-Create.is) ∙ sym c.is_own.ensures ∙ c.if-not-is_own.false in
+    subst (IsRoomDue c.args.node c.args.row.now c.args.works.now) (sym c.in-Create.is) (due mine)) c.create.ensures.late
+
+pub returns-in-Get-clause-late : goal.returns-in-Get-clause-late
+returns-in-Get-clause-late c =
+    let mine = ap (is_own c.args.job.0) (sym c.in-Get.is) ∙ sym c.is_own.ensures ∙ c.if-not-is_own.false in
+    always_err c.get.result (subst (IsUnrefused c.args.row.now c.args.job.0 c.args.session) (sym c.in-Get.is) (record { own = mine; passed = refl; grows = refl }))
+
+pub returns-in-Get-clause-room : goal.returns-in-Get-clause-room
+returns-in-Get-clause-room c = each_err c.get.result (λ due own.
+    let mine = ap (λ n. c.in-Get.id.job.0 == n) own ∙ ap (is_own c.args.job.0) (sym c.in-Get.is) ∙ sym c.is_own.ensures ∙ c.if-not-is_own.false in
+    subst (IsRoomDue c.args.node c.args.row.now c.args.works.now) (sym c.in-Get.is) (due mine)) c.get.ensures.late
+
+pub returns-in_default-clause-room : goal.returns-in_default-clause-room
+returns-in_default-clause-room c =
+    let plain : is_plain c.args.command.now ≡ true = search rules in
+    always_err c.carry_out_plain.result (λ own. plain_waits_not c.args.node c.args.row.now c.args.works.now c.args.command.now plain)
