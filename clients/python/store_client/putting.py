@@ -181,8 +181,7 @@ def get(
         yield from _one_by_one_or_all(requests.peeks(id, buffer), [], len(buffer), progress)
         return buffer.toreadonly()
     search = Search(requests, id)
-    buffer = yield from undoing(_get_own(requests, search, deadline, keep, progress), lambda: let_go([search]))
-    return buffer.toreadonly()
+    return (yield from undoing(_get_own(requests, search, deadline, keep, progress), lambda: let_go([search])))
 
 
 def _get_own(
@@ -191,7 +190,7 @@ def _get_own(
     buffer = blank((yield from hold(requests, search, deadline)))
     last = [] if keep else [search.release()]
     yield from _one_by_one_or_all(requests.reads(search.id, buffer), last, len(buffer), progress)
-    return buffer
+    return buffer.toreadonly()
 
 
 def get_into(requests: Requests, id: ObjectId, into: memoryview, deadline: Optional[Deadline]) -> Steps[bool]:

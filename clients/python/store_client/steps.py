@@ -128,11 +128,11 @@ def ask(request: Request[T]) -> Steps[T]:
 def undoing(steps: Steps[T], undo: Callable[[], Steps[None]]) -> Steps[T]:
     """Does the steps. If they fail or are interrupted, what undoes them is done, and then the fault is raised."""
     try:
-        result: T = yield from steps
+        # no line comes after the steps, so none that is interrupted is left to itself
+        return (yield from steps)
     except GeneratorExit:
         # nobody does these steps any more
         raise
     except BaseException:
         yield from undo()
         raise
-    return result

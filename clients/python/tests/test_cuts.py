@@ -3,6 +3,8 @@
 from __future__ import annotations
 
 import ast
+import collections
+import contextlib
 import functools
 import gc
 import os
@@ -14,13 +16,13 @@ import time
 import warnings
 from pathlib import Path
 from types import FrameType
-from typing import Any, Callable, FrozenSet, List
+from typing import Any, Callable, Counter, FrozenSet, List
 from unittest import mock
 
 from support import PATIENCE, ServerOfAll
 
 import store_client
-from store_client import Connection, ConnectionLost, ObjectId, State, Task, connection, putting
+from store_client import Absent, Connection, ConnectionLost, ObjectId, OwnItem, State, Task, connection, putting
 
 # of each so many lines one is tried: 1 tries all
 STEP = int(os.environ.get("STORE_CUTS", "31"))
@@ -47,9 +49,11 @@ class Cut:
     """A call that is interrupted at a line of the package."""
 
     def __init__(self, number: int) -> None:
-        """The lines are counted as they are run, from 1."""
+        """The lines are counted as they are run, from 1. One that is run again and again, as for each part of a value, is counted the
+        first, second, fourth, .. time."""
         self.left = number
         self.place = ""
+        self.times: Counter[str] = collections.Counter()
 
     def trace(self, frame: FrameType, event: str, _: Any) -> Any:
         path = frame.f_code.co_filename
@@ -57,11 +61,16 @@ class Cut:
         if Path(path).parent != PACKAGE or frame.f_code.co_name == "__del__":
             return None
         if event == "line" and frame.f_lineno not in uninterrupted(path):
+            self.count(f"{Path(path).name}:{frame.f_lineno}")
+        return self.trace
+
+    def count(self, place: str) -> None:
+        self.times[place] += 1
+        if self.times[place] & (self.times[place] - 1) == 0:
             self.left -= 1
             if not self.left:
-                self.place = f"{Path(path).name}:{frame.f_lineno}"
+                self.place = place
                 raise KeyboardInterrupt
-        return self.trace
 
     def run(self, call: Callable[[], Any]) -> bool:
         """Whether it was interrupted. If it has no such line it ends."""
@@ -119,27 +128,39 @@ class Cuts(ServerOfAll):
         """Interrupts the call at one line after the other, each time of another connection, until it has no more."""
         number, was_cut = 1, True
         with self.server.connect(job) as other:
+            self.clear(other, "another test")
             while was_cut:
-                store, given, cut = self.server.connect(job), prepare(other), Cut(number)
-                was_cut = cut.run(lambda: call(store, given))
-                self.go_on(store, cut.place)
-                check(other, store, given, was_cut, cut.place)
-                store.close()
+                given, cut = prepare(other), Cut(number)
+                with self.server.connect(job) as store:
+                    was_cut = cut.run(lambda: call(store, given))
+                    self.go_on(store, cut.place)
+                    check(other, store, given, was_cut, cut.place)
                 number += STEP
         self.assertGreater(number, 3 * STEP)
 
     def check_put(self, other: Connection, _: Connection, made: List[putting.NewCopy], was_cut: bool, place: str) -> None:
         """What is left is known: a put that had just been done, and copies of which nobody has learned whose they are."""
-        unknown = any(copy._tries > len(copy._answers) and not copy._is_secret for copy in made)
-        if unknown:
-            time.sleep(0.01)
-        else:
-            self.comes_to(lambda: [item for item in other.list()[0] if item.state is State.CREATED], [], place)
-        for item in other.list()[0]:
-            if was_cut:
-                self.assertTrue(unknown or all(copy._answers for copy in made), f"{place}: {item}")
-            other.delete(item.id)
+        if not any(copy._tries > len(copy._answers) and not copy._is_secret for copy in made):
+            if was_cut and not (made and all(copy._answers for copy in made)):
+                self.comes_to(lambda: other.list()[0], [], place)
+            self.comes_to(lambda: self.unsealed(other), [], place)
+        self.clear(other, place)
         made.clear()
+
+    def unsealed(self, other: Connection) -> List[OwnItem]:
+        return [item for item in other.list()[0] if item.state is State.CREATED]
+
+    def clear(self, other: Connection, place: str) -> None:
+        """Deletes all. A copy that is being spilled is listed until that is done, also if it was deleted long ago."""
+
+        def delete_all() -> List[OwnItem]:
+            items, _ = other.list()
+            for item in items:
+                with contextlib.suppress(Absent):
+                    other.delete(item.id)
+            return items
+
+        self.comes_to(delete_all, [], place)
 
     def cut_puts(self, job: int, call: Callable[[Connection, Any], Any]) -> None:
         made: List[putting.NewCopy] = []
@@ -225,8 +246,6 @@ class Cuts(ServerOfAll):
                     cuts += 1
                 self.go_on(store, "a signal")
         with self.server.connect() as other:
-            self.comes_to(lambda: [item for item in other.list()[0] if item.state is State.CREATED], [], "a signal")
-            for item in other.list()[0]:
-                other.delete(item.id)
-            self.comes_to(lambda: other.usage().copies, 0, "a signal")
+            self.comes_to(lambda: self.unsealed(other), [], "a signal")
+            self.clear(other, "a signal")
         self.assertGreater(cuts, 0)
