@@ -9,7 +9,7 @@ import time
 import unittest
 from typing import Any, List
 
-from support import PATIENCE, Script, Server, key
+from support import PATIENCE, Script, Server, key, own_grace
 
 import store_client
 from store_client import Absent, ConnectionLost, ServerSilent, Task, aio
@@ -206,6 +206,7 @@ class Coroutines(unittest.IsolatedAsyncioTestCase):
             await aio.connect("/nowhere", 1, key(2))
 
 
+@own_grace
 class Faults(unittest.IsolatedAsyncioTestCase):
     async def script(self, *replies: bytes, hang: bool = True) -> aio.Connection:
         script = Script([OK, *replies], hang)

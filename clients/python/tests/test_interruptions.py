@@ -12,7 +12,7 @@ import time
 import unittest
 from typing import Any, List
 
-from support import PATIENCE, Script, WithServer, device_at_rest, in_child, in_use, key
+from support import PATIENCE, Script, WithServer, device_at_rest, in_child, in_use, key, own_grace
 
 import store_client
 from store_client import ConnectionLost, ServerSilent, Task
@@ -167,6 +167,7 @@ class Interruptions(WithServer):
             self.assertFalse(other.contains(self.id()))
 
 
+@own_grace
 class Silence(unittest.TestCase):
     """A server that takes what it is sent, and doesn't answer."""
 

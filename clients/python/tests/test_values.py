@@ -8,8 +8,10 @@ import pickle
 import struct
 import subprocess
 import sys
+import threading
 import unittest
 from typing import Any, List
+from unittest import mock
 
 from support import PATIENCE, ROOT, Server, ServerOfAll, key
 
@@ -193,6 +195,25 @@ class Stored(ServerOfAll):
                 self.assertEqual(store.get_value(id, timeout=PATIENCE), data)
                 store.delete_value(id)
                 self.assertEqual(store.usage().copies, 0)
+
+    def test_several_parts_are_moved_at_once_over_several_connections(self) -> None:
+        """The first two of a put, and of a get, wait for each other."""
+        pool, meeting, drive = self.pool(4), threading.Barrier(2), Pool._drive_one
+        used: List[store_client.Connection] = []
+
+        def meet(one: Pool, steps: Any, end: Any) -> Any:
+            used.append(one.connection())
+            if len(used) <= 2:
+                meeting.wait(PATIENCE)
+            return drive(one, steps, end)
+
+        with mock.patch.object(Pool, "_drive_one", meet):
+            id = pool.put_value(bytes(2 * SMALL_WINDOW))
+            self.assertGreaterEqual(len(set(used)), 2)
+            used.clear()
+            self.assertEqual(pool.get_value(id), bytes(2 * SMALL_WINDOW))
+            self.assertGreaterEqual(len(set(used)), 2)
+        pool.delete_value(id)
 
     def test_the_parts_end_with_their_task(self) -> None:
         store = self.connect(4)

@@ -1,0 +1,85 @@
+"""What README.md shows, as it stands there: the server that it starts, the array between two jobs, the program, the command line."""
+
+from __future__ import annotations
+
+import contextlib
+import doctest
+import importlib.util
+import io
+import os
+import re
+import shlex
+import subprocess
+import tempfile
+import textwrap
+import unittest
+from typing import Any, Dict, List
+
+from support import PATIENCE, PROGRAM, ROOT
+
+TEXT = (ROOT / "clients/python/README.md").read_text(encoding="utf-8")
+
+
+def shown(after: str) -> str:
+    """The block that follows these words."""
+    return textwrap.dedent(re.search(re.escape(after) + r".*?\n\n((?:    [^\n]*\n|\n)+)", TEXT, re.DOTALL).group(1)).strip() + "\n"
+
+
+class Readme(unittest.TestCase):
+    """At the server that the page starts, in a folder in the place of /tmp."""
+
+    def setUp(self) -> None:
+        folder = tempfile.TemporaryDirectory()
+        self.addCleanup(folder.cleanup)
+        self.tmp = f"{folder.name}/"
+        command, *lines = self.here(shown("An array between two jobs")).splitlines()
+        words = shlex.split(command.replace("$ crates/store_server/out/store_server", shlex.quote(PROGRAM)))
+        self.server = subprocess.Popen(words, stdin=subprocess.PIPE, stdout=subprocess.PIPE, stderr=subprocess.DEVNULL, text=True)
+        self.addCleanup(self.end)
+        for asked, answer in zip(lines[::2], lines[1::2]):
+            self.server.stdin.write(asked + "\n")
+            self.server.stdin.flush()
+            self.assertEqual(self.server.stdout.readline(), answer + "\n")
+
+    def here(self, text: str) -> str:
+        return text.replace("/tmp/", self.tmp)
+
+    def end(self) -> None:
+        """As the page says: it ends once it is told to, and all have left."""
+        try:
+            told, _ = self.server.communicate("close\n", PATIENCE)
+            self.assertIn("report ", told)
+        finally:
+            self.server.kill()
+
+    def at_a_prompt(self, lines: str) -> Dict[str, Any]:
+        """Types the lines, and compares what is printed. The names that there are then."""
+        test = doctest.DocTestParser().get_doctest(self.here(lines), {}, "README.md", "README.md", 0)
+        told: List[str] = []
+        doctest.DocTestRunner(verbose=False).run(test, out=told.append, clear_globs=False)
+        self.assertEqual("".join(told), "")
+        return test.globs
+
+    @unittest.skipUnless(importlib.util.find_spec("numpy"), "numpy isn't there")
+    def test_an_array_between_two_jobs(self) -> None:
+        giver = self.at_a_prompt(shown("job 1 puts an array and grants it to job 2:"))
+        taker = self.at_a_prompt(shown("job 2 gets it."))
+        self.assertTrue((taker["array"] == giver["numpy"].arange(1_000_000.0).reshape(1000, 1000)).all())
+        for names in (giver, taker):
+            names["store"].close()
+
+    def test_the_program(self) -> None:
+        printed = io.StringIO()
+        with contextlib.redirect_stdout(printed):
+            exec(self.here(shown("## In a program")), {})
+        told = printed.getvalue().splitlines()
+        self.assertEqual(told[:2], ["b'Hello'", "{'a': [1, 2]}"])
+        self.assertRegex(told[2], "^7 create .*1000000000 bytes; an object has 1 to 16777216")
+
+    def test_the_command_line(self) -> None:
+        lines = self.here(shown("## On the command line")).splitlines()
+        typed = "".join(f"{line[2:]}\n" for line in lines if line.startswith("$ "))
+        words = ["bash", "-e", "-O", "expand_aliases", "-c", typed]
+        done = subprocess.run(words, cwd=ROOT, capture_output=True, text=True, check=False, timeout=PATIENCE, env={"PATH": os.environ["PATH"]})
+        self.assertEqual((done.returncode, done.stderr), (0, ""))
+        self.assertEqual(done.stdout.splitlines(), [line for line in lines if not line.startswith("$ ")])
