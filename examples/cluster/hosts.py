@@ -213,12 +213,17 @@ class Hosts:
         for process in (*there.workers.values(), there.store):
             kill(process)
 
-    def resident(self, process: Any) -> int:
-        """How much memory a process has, in bytes."""
+    def resident(self, process: Any, at_most: bool = False) -> int:
+        """How much memory a process has, in bytes; or the most that it had since `forget_most`."""
+        wanted = "VmHWM:" if at_most else "VmRSS:"
         for line in Path(f"/proc/{process.pid}/status").read_text(encoding="ascii").splitlines():
-            if line.startswith("VmRSS:"):
+            if line.startswith(wanted):
                 return int(line.split()[1]) * 1024
         return 0
+
+    def forget_most(self, process: Any) -> None:
+        """From now on the most memory that a process has is looked at anew."""
+        Path(f"/proc/{process.pid}/clear_refs").write_text("5", encoding="ascii")
 
 
 def become(module: str, words: List[str], place: Dict[str, str], keeper: int, log: str) -> None:
