@@ -88,6 +88,7 @@ class Connection:
 
     def new_id(self) -> ObjectId:
         """An id that nobody else makes: of a random task, with the next index."""
+        self._session.check_process()
         return self._ids.next()
 
     def task(self, number: int) -> JobTask:

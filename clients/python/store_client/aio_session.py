@@ -29,8 +29,7 @@ class Session:
 
     async def exchange(self, requests: Sequence[Request[Any]], end: Optional[float]) -> List[Answer]:
         """The answers to the requests. If the server doesn't give them until then, the session is lost."""
-        if os.getpid() != self._process:
-            raise of_another_process(self._process, os.getpid())
+        self.check_process()
         if self.lost is not None:
             raise ConnectionLost(self.lost)
         timer = None if end is None else self.loop.call_later(max(0.0, end - time.monotonic()), self._silence)
@@ -43,6 +42,11 @@ class Session:
         finally:
             if timer:
                 timer.cancel()
+
+    def check_process(self) -> None:
+        """`ConnectionLost` in a process that was forked off."""
+        if os.getpid() != self._process:
+            raise of_another_process(self._process, os.getpid())
 
     def _silence(self) -> None:
         self._is_silent = self.lost is None
@@ -80,7 +84,9 @@ class Session:
             return
         requests = Requests(request.job)
         if isinstance(answer, Pending) and request.name == "get" and looks:
-            self._send_and_undo(requests.get(request.id), looks - 1)
+            # a Get that is on its way already is told what came of the fetch, and takes it away
+            if not any(due.id == request.id and due.name == "get" for due, _ in self._due):
+                self._send_and_undo(requests.get(request.id), looks - 1)
         elif not isinstance(answer, Refused) and request.name == "get":
             self._send_and_undo(requests.release(request.id), 0)
         elif not isinstance(answer, Refused) and request.name == "create":

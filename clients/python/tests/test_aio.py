@@ -9,7 +9,7 @@ import time
 import unittest
 from typing import Any, List
 
-from support import PATIENCE, Script, Server, key, own_grace
+from support import PATIENCE, Script, Server, in_child, key, own_grace
 
 import store_client
 from store_client import Absent, ConnectionLost, ServerSilent, Task, aio
@@ -38,9 +38,9 @@ class Coroutines(unittest.IsolatedAsyncioTestCase):
     async def comes_to(self, due: store_client.Usage) -> None:
         """What a cancelled call did is undone as its answers come."""
         end = time.monotonic() + PATIENCE
-        while await self.store.usage() != due and time.monotonic() < end:
+        while (now := await self.store.usage()) != due and time.monotonic() < end:
             await asyncio.sleep(0.01)
-        self.assertEqual(await self.store.usage(), due)
+        self.assertEqual(now, due)
 
     def id(self, index: int = 1, job: int = 1) -> store_client.ObjectId:
         return self.task.object(index, job=job)
@@ -198,6 +198,14 @@ class Coroutines(unittest.IsolatedAsyncioTestCase):
                 raise KeyError("own")
         with self.assertRaisesRegex(ConnectionLost, "the connection is closed"):
             await store.usage()
+
+    async def test_a_connection_is_its_own_process_s(self) -> None:
+        async def new_id() -> store_client.ObjectId:
+            return self.store.new_id()
+
+        for call in (self.store.usage, new_id):
+            self.assertIn(f"was opened in process {os.getpid()}", in_child(lambda call=call: asyncio.run(call())))
+        await self.store.usage()
 
     async def test_who_is_not_admitted(self) -> None:
         with self.assertRaises(store_client.NotAdmitted):

@@ -8,6 +8,7 @@ from __future__ import annotations
 
 import faulthandler
 import os
+import signal
 import sys
 import unittest
 from pathlib import Path
@@ -21,6 +22,8 @@ def main() -> int:
     names = sys.argv[1:] or sorted(file.stem for file in folder.glob("test_*.py") if file != Path(__file__).resolve())
     # if something hangs after all, it is told where
     faulthandler.dump_traceback_later(PATIENCE_FOR_ALL, exit=True)
+    # what a shell runs in the background ignores Ctrl-C by itself, and so would the processes that are started here
+    signal.signal(signal.SIGINT, signal.default_int_handler)
     result = unittest.TextTestRunner().run(unittest.defaultTestLoader.loadTestsFromNames(names))
     failed = len(result.failures) + len(result.errors)
     print(f"{max(0, result.testsRun - failed - len(result.skipped))} passed, {failed} failed")
