@@ -90,6 +90,9 @@ class Cuts(ServerOfAll):
     def setUpClass(cls) -> None:
         super().setUpClass()
         cls.server.admit(0, 4, SMALL_WINDOW, 2**20)
+        # what other tests have loaded isn't looked at after each cut
+        gc.freeze()
+        cls.addClassCleanup(gc.unfreeze)
 
     def setUp(self) -> None:
         # however slow the machine is, the server has the time to delete what was left
