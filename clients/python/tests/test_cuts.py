@@ -195,7 +195,8 @@ class Cuts(ServerOfAll):
         if done:
             store.close()
         other.delete(id)
-        self.comes_to(lambda: [item for item in other.list()[0] if item.id == id], [], place)
+        # a Get of a session that was cut off may come to the server now, and enters a fetch, which holds nothing
+        self.comes_to(lambda: [item for item in other.list()[0] if item.id == id and item.state is not State.FETCHING], [], place)
         done.clear()
 
     def cut_gets(self, call: Callable[[Connection, Any], Any]) -> None:
