@@ -36,6 +36,10 @@ faults:
 	    grep "^test result" crates/$$crate/faults.log; rm crates/$$crate/faults.log; \
 	done; done
 
+# Growths of memory refused in turn, in runs of worked schedules by the program that is there (see tests/growths --help).
+growths:
+	tests/growths
+
 # The must-fail edits that the gate doesn't try: what they turn is guarded by other clauses too, or their crate would have to be proved
 # once more for them (see tests/edits/README.md).
 edits:
@@ -136,4 +140,4 @@ proof-picture:
 	docs/pictures/proof -o docs/pictures/proof.svg
 
 .PHONY: test check build run edits sessions attack soak soak-service client-test client-check try-built daemon-test serve dist deb dist-check \
-	hostile show-guarantee pipeline cluster-demo cluster-test model faults bench picture proof-picture
+	hostile show-guarantee pipeline cluster-demo cluster-test model faults growths bench picture proof-picture
