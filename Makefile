@@ -137,7 +137,7 @@ picture:
 
 # Draws the picture of the proof from the sources, and fails if a clause or a definition that it names isn't there.
 proof-picture:
-	docs/pictures/proof -o docs/pictures/proof.svg
+	tests/proof_picture -o docs/pictures/proof.svg
 
 .PHONY: test check build run edits sessions attack soak soak-service client-test client-check try-built daemon-test serve dist deb dist-check \
 	hostile show-guarantee pipeline cluster-demo cluster-test model faults growths bench picture proof-picture
