@@ -16,7 +16,7 @@ import time
 import warnings
 from pathlib import Path
 from types import FrameType
-from typing import Any, Callable, Counter, FrozenSet, List
+from typing import Any, Callable, Counter, FrozenSet, List, Tuple
 from unittest import mock
 
 from support import PATIENCE, ServerOfAll
@@ -29,6 +29,12 @@ STEP = int(os.environ.get("STORE_CUTS", "31"))
 SIGNALS = 50
 PACKAGE = Path(store_client.__file__).resolve().parent
 SMALL_WINDOW = 2**12
+
+
+@functools.lru_cache(maxsize=None)
+def is_ours(path: str) -> bool:
+    """Whether a file is of the package."""
+    return Path(path).parent == PACKAGE
 
 
 @functools.lru_cache(maxsize=None)
@@ -53,24 +59,25 @@ class Cut:
         first, second, fourth, .. time."""
         self.left = number
         self.place = ""
-        self.times: Counter[str] = collections.Counter()
+        self.times: Counter[Tuple[str, int]] = collections.Counter()
 
-    def trace(self, frame: FrameType, event: str, _: Any) -> Any:
-        path = frame.f_code.co_filename
+    def trace(self, frame: FrameType, *_: Any) -> Any:
         # what a dropped object's end raises is written away by Python, and goes nowhere
-        if Path(path).parent != PACKAGE or frame.f_code.co_name == "__del__":
-            return None
-        if event == "line" and frame.f_lineno not in uninterrupted(path):
-            self.count(f"{Path(path).name}:{frame.f_lineno}")
-        return self.trace
+        return self.line if is_ours(frame.f_code.co_filename) and frame.f_code.co_name != "__del__" else None
 
-    def count(self, place: str) -> None:
-        self.times[place] += 1
-        if self.times[place] & (self.times[place] - 1) == 0:
-            self.left -= 1
-            if not self.left:
-                self.place = place
-                raise KeyboardInterrupt
+    def line(self, frame: FrameType, event: str, _: Any) -> Any:
+        place = frame.f_code.co_filename, frame.f_lineno
+        if event == "line" and place[1] not in uninterrupted(place[0]):
+            self.times[place] += 1
+            if self.times[place] & (self.times[place] - 1) == 0:
+                self.count(place)
+        return self.line
+
+    def count(self, place: Tuple[str, int]) -> None:
+        self.left -= 1
+        if not self.left:
+            self.place = f"{Path(place[0]).name}:{place[1]}"
+            raise KeyboardInterrupt
 
     def run(self, call: Callable[[], Any]) -> bool:
         """Whether it was interrupted. If it has no such line it ends."""
