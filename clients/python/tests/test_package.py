@@ -25,8 +25,8 @@ def has(*modules: str) -> bool:
 
 
 def run(*words: str, **more: object) -> str:
-    """What a command prints; it has to succeed."""
-    done = subprocess.run(words, capture_output=True, text=True, check=False, timeout=PATIENCE, **more)  # type: ignore[call-overload]
+    """What a command prints; it has to succeed. mypy and pip take a busy machine minutes."""
+    done = subprocess.run(words, capture_output=True, text=True, check=False, timeout=3 * PATIENCE, **more)  # type: ignore[call-overload]
     if done.returncode:
         raise AssertionError(f"{' '.join(words)}: status {done.returncode}\n{done.stdout}{done.stderr}")
     return str(done.stdout)
