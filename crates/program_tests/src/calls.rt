@@ -1,6 +1,4 @@
 //! Calls at nodes behind locks, with the receipts that they give.
-ghost use Rattle.std.specs.Prelude.{◌≡◌};
-
 use assertions::{holds, same};
 use bytes::Bytes;
 use node_journal::Receipt;
@@ -10,12 +8,9 @@ use schedule_text::answer_text;
 use session_engine::Gate;
 use session_threads::{Cluster, Session, SharedNode};
 use std::alloc::{AllocError, Global};
-use std::marker::Brand;
 use std::process::Abort;
 use std::sync::Wait;
-use std::sync::ledger::{Blank, Ledger};
-use std::test::Fail;
-use std::thread::Threads;
+use std::sync::ledger::Ledger;
 use std::time::Clock;
 
 pub(crate) const JOB: JobNo = JobNo(1);
@@ -30,6 +25,11 @@ const NARROW: Quota = Quota {
     window: 32,
     device: 0,
 };
+
+/// The job's object of this index.
+pub(crate) fn object(rt: &impl Abort, index: u32) -> ObjectId {
+    ObjectId::new(TaskNo([0; 20]), JOB, index).expect(rt, "an id")
+}
 
 /// The answers to the commands, in order.
 const TOLD: &str = "\
@@ -155,41 +155,15 @@ fn narrow_and_end<L: Ledger, R: Wait + Abort>(rt: &R, node: &SharedNode<L>) {
 }
 
 /// Six commands of a direct caller, and one admission by the cluster, whose receipt alone it gathers.
-fn try_six<L: Ledger, R: Threads + Wait + Abort>(
+pub(crate) fn call_six<L: Ledger, R: Wait + Abort>(
     rt: &R,
     alloc: Global,
-    blank: Blank,
-) -> Result<(), AllocError>
-    requires name { blank.name ≡ L.name }
-    requires parts { blank.parts ≡ L.parts }
-    requires one { blank.parts ≡ 1 }
-{
-    let id = ObjectId::new(TaskNo([0; 20]), JOB, 1).expect(rt, "an id");
-    let (_book, seats) = blank.open::<L>();
-    let cluster = Cluster::start(alloc, 1, 1024, seats)?;
+    cluster: &Cluster<L>,
+) -> Result<(), AllocError> {
     let node = cluster.node(0).expect(rt, "a node");
     admit(rt, node);
-    call_all(rt, alloc, node, id)?;
-    let report = cluster.close(rt, Vec::new(alloc));
-    same!(rt; (report.entries, report.receipts, report.disagreeing), (7, 1, 0));
-    same!(rt; report.erase_failures, 0);
-    // what Seal tells the directory, if memory runs out there
-    holds!(rt; report.lost <= 1);
+    call_all(rt, alloc, node, object(rt, 1))?;
     Ok(())
-}
-
-fn try_direct_calls<R: Threads + Wait + Abort>(rt: &R, alloc: Global) -> Result<(), AllocError> {
-    let blank = Blank::new(1);
-    try_six::<Brand, R>(rt, alloc, blank)
-}
-
-/// Tried once more if memory ran out before the node was there.
-#[test]
-fn receipts_of_direct_callers_are_not_gathered(rt: HostRuntime) -> Result<(), Fail> {
-    match try_direct_calls(&rt, rt.alloc()) {
-        Ok(()) => Ok(()),
-        Err(_) => Ok(try_direct_calls(&rt, rt.alloc())?),
-    }
 }
 
 /// A receipt of node 0 is shown to node 1, whose journal says No of it.
@@ -198,45 +172,20 @@ fn show_to_another<L: Ledger, R: Wait + Abort>(rt: &R, cluster: &Cluster<L>, rec
     node.check(rt, receipt);
 }
 
-fn try_cluster<L: Ledger, R: Threads + Wait + Abort>(
+/// The six commands, one that shows the last receipt of them, and the operator's three orders.
+pub(crate) fn call_with_receipts<L: Ledger, R: Wait + Abort>(
     rt: &R,
     alloc: Global,
-    blank: Blank,
-) -> Result<(), AllocError>
-    requires name { blank.name ≡ L.name }
-    requires parts { blank.parts ≡ L.parts }
-    requires two { blank.parts ≡ 2 }
-{
-    let id = ObjectId::new(TaskNo([0; 20]), JOB, 1).expect(rt, "an id");
-    let (_book, seats) = blank.open::<L>();
-    let cluster = Cluster::start(alloc, 2, 1024, seats)?;
+    cluster: &Cluster<L>,
+) -> Result<(), AllocError> {
     let node = cluster.node(0).expect(rt, "a node");
     admit(rt, node);
-    let last = call_all(rt, alloc, node, id)?;
+    let last = call_all(rt, alloc, node, object(rt, 1))?;
     let last = last.expect(rt, "a receipt");
-    call_later(rt, &cluster, &last);
-    show_to_another(rt, &cluster, &last);
+    call_later(rt, cluster, &last);
+    show_to_another(rt, cluster, &last);
     narrow_and_end(rt, node);
-    // the operator's three orders, and the receipt that was shown to another node
-    let report = cluster.close(rt, Vec::new(alloc));
-    same!(rt; (report.entries, report.receipts), (10, 4));
-    same!(rt; (report.disagreeing, report.lost), (1, 0));
-    same!(rt; report.erase_failures, 0);
     Ok(())
-}
-
-fn try_calls<R: Threads + Wait + Abort>(rt: &R, alloc: Global) -> Result<(), AllocError> {
-    let blank = Blank::new(2);
-    try_cluster::<Brand, R>(rt, alloc, blank)
-}
-
-/// Tried once more if memory ran out before the nodes were there.
-#[test]
-fn a_call_comes_after_the_receipt_that_it_shows(rt: HostRuntime) -> Result<(), Fail> {
-    match try_calls(&rt, rt.alloc()) {
-        Ok(()) => Ok(()),
-        Err(_) => Ok(try_calls(&rt, rt.alloc())?),
-    }
 }
 
 /// A Release or a Get of the session, called once more if memory ran out.
@@ -271,42 +220,18 @@ fn hold_and_leave<L: Ledger, R: Wait + Clock + Abort>(rt: &R, node: &SharedNode<
 }
 
 /// Each Leave is made once: at once, or before the next step if memory ran out, as it may if the journal's list has to grow.
-fn try_leaving<L: Ledger, R: Threads + Wait + Clock + Abort>(
+pub(crate) fn leave_often<L: Ledger, R: Wait + Clock + Abort>(
     rt: &R,
     alloc: Global,
-    blank: Blank,
-) -> Result<(), AllocError>
-    requires name { blank.name ≡ L.name }
-    requires parts { blank.parts ≡ L.parts }
-    requires one { blank.parts ≡ 1 }
-{
-    let id = ObjectId::new(TaskNo([0; 20]), JOB, 1).expect(rt, "an id");
-    let (_book, seats) = blank.open::<L>();
-    let cluster = Cluster::start(alloc, 1, 1024, seats)?;
+    cluster: &Cluster<L>,
+) -> Result<(), AllocError> {
     let node = cluster.node(0).expect(rt, "a node");
+    let id = object(rt, 1);
     admit(rt, node);
     call_all(rt, alloc, node, id)?;
     for _ in 0..4u32 {
         hold_and_leave(rt, node, id);
     }
     end(rt, node);
-    let report = cluster.close(rt, Vec::new(alloc));
-    same!(rt; (report.entries, report.disagreeing), (20, 0));
-    // what Seal tells the directory, if memory runs out there
-    holds!(rt; report.lost <= 1);
     Ok(())
-}
-
-fn try_session<R: Threads + Wait + Clock + Abort>(rt: &R, alloc: Global) -> Result<(), AllocError> {
-    let blank = Blank::new(1);
-    try_leaving::<Brand, R>(rt, alloc, blank)
-}
-
-/// Tried once more if memory ran out before the node was there.
-#[test]
-fn a_session_is_left_though_memory_runs_out(rt: HostRuntime) -> Result<(), Fail> {
-    match try_session(&rt, rt.alloc()) {
-        Ok(()) => Ok(()),
-        Err(_) => Ok(try_session(&rt, rt.alloc())?),
-    }
 }

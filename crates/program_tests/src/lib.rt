@@ -11,4 +11,6 @@ mod journal;
 #[cfg(test)]
 mod runs;
 #[cfg(test)]
+mod trials;
+#[cfg(test)]
 mod works;

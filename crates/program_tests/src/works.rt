@@ -1,19 +1,14 @@
 //! What a worker does with a device that fails, and what the directory is told.
-ghost use Rattle.std.specs.Prelude.{◌≡◌};
-
-use crate::calls::{JOB, admit_with};
+use crate::calls::{JOB, admit_with, object};
 use assertions::{holds, same};
 use bytes::Bytes;
-use obj_id::{Command, Kind, ObjectId, Quota, Refusal, Reply, TaskNo};
+use obj_id::{Command, Kind, ObjectId, Quota, Refusal, Reply};
 use session_threads::{Cluster, SharedNode, WorkDone};
 use spill_device::{FaultyDevice, MemoryDevice, SpillDevice};
-use std::alloc::{AllocError, Global};
-use std::marker::Brand;
+use std::alloc::Global;
 use std::process::Abort;
 use std::sync::Wait;
-use std::sync::ledger::{Blank, Ledger};
-use std::test::Fail;
-use std::thread::Threads;
+use std::sync::ledger::Ledger;
 
 /// Room for one object of 32 bytes, and for one on the device.
 const ONE: Quota = Quota {
@@ -37,10 +32,6 @@ fn command(asked: &Asked) -> Command<Bytes> {
         Asked::Get(id) => Command::Get(*id),
         Asked::Delete(id) => Command::Delete(*id),
     }
-}
-
-fn object(rt: &impl Abort, index: u32) -> ObjectId {
-    ObjectId::new(TaskNo([0; 20]), JOB, index).expect(rt, "an id")
 }
 
 /// The answer, asked for once more if memory ran out.
@@ -95,46 +86,25 @@ fn restore_the_first<L: Ledger, R: Wait + Abort, D: SpillDevice>(
     same!(rt; worked(rt, node, device), WorkDone::Nothing);
 }
 
-/// Nine commands, an admission, and three works, each taken and finished.
-fn try_works<L: Ledger, R: Threads + Wait + Abort>(
+/// Nine commands, an admission, and three works, each taken and finished, at a device that fails once.
+pub(crate) fn work_at_a_failing_device<L: Ledger, R: Wait + Abort>(
     rt: &R,
     alloc: Global,
-    blank: Blank,
-) -> Result<(), AllocError>
-    requires name { blank.name ≡ L.name }
-    requires parts { blank.parts ≡ L.parts }
-    requires one { blank.parts ≡ 1 }
-{
-    let (_book, seats) = blank.open::<L>();
-    let cluster = Cluster::start(alloc, 1, 1024, seats)?;
+    cluster: &Cluster<L>,
+) {
     let node = cluster.node(0).expect(rt, "a node");
     let mut device = FaultyDevice::new(MemoryDevice::new(alloc), 1);
     admit_with(rt, node, ONE);
     spill_the_first(rt, node, &mut device);
     restore_the_first(rt, node, &mut device);
     same!(rt; device.failures(), 1);
-    let report = cluster.close(rt, Vec::new(alloc));
-    same!(rt; (report.entries, report.receipts, report.disagreeing), (16, 7, 0));
-    same!(rt; report.erase_failures, 0);
-    Ok(())
-}
-
-fn try_failing_device<R: Threads + Wait + Abort>(rt: &R, alloc: Global) -> Result<(), AllocError> {
-    let blank = Blank::new(1);
-    try_works::<Brand, R>(rt, alloc, blank)
-}
-
-/// Tried once more if memory ran out before the node was there.
-#[test]
-fn a_write_that_fails_is_told_once(rt: HostRuntime) -> Result<(), Fail> {
-    match try_failing_device(&rt, rt.alloc()) {
-        Ok(()) => Ok(()),
-        Err(_) => Ok(try_failing_device(&rt, rt.alloc())?),
-    }
 }
 
 /// What node 1 is answered, asked twice, of an object that was sealed and deleted at node 0.
-fn ask_for_deleted<L: Ledger, R: Wait + Abort>(rt: &R, cluster: &Cluster<L>) -> Reply<Bytes> {
+pub(crate) fn ask_for_deleted<L: Ledger, R: Wait + Abort>(
+    rt: &R,
+    cluster: &Cluster<L>,
+) -> Reply<Bytes> {
     let first = object(rt, 1);
     let node = cluster.node(0).expect(rt, "a node");
     admit_with(rt, node, ONE);
@@ -145,36 +115,4 @@ fn ask_for_deleted<L: Ledger, R: Wait + Abort>(rt: &R, cluster: &Cluster<L>) -> 
     admit_with(rt, node, ONE);
     holds!(rt; matches!(told(rt, node, &Asked::Get(first)), Reply::Refused(Refusal::Pending)));
     told(rt, node, &Asked::Get(first))
-}
-
-fn try_deleted<L: Ledger, R: Threads + Wait + Abort>(
-    rt: &R,
-    alloc: Global,
-    blank: Blank,
-) -> Result<(), AllocError>
-    requires name { blank.name ≡ L.name }
-    requires parts { blank.parts ≡ L.parts }
-    requires two { blank.parts ≡ 2 }
-{
-    let (_book, seats) = blank.open::<L>();
-    let cluster = Cluster::start(alloc, 2, 1024, seats)?;
-    let last = ask_for_deleted(rt, &cluster);
-    let report = cluster.close(rt, Vec::new(alloc));
-    // a message is lost if memory runs out for it
-    holds!(rt; matches!(&last, Reply::Refused(Refusal::Absent)) || report.lost > 0);
-    Ok(())
-}
-
-fn try_two_nodes<R: Threads + Wait + Abort>(rt: &R, alloc: Global) -> Result<(), AllocError> {
-    let blank = Blank::new(2);
-    try_deleted::<Brand, R>(rt, alloc, blank)
-}
-
-/// Tried once more if memory ran out before the nodes were there.
-#[test]
-fn the_directory_is_told_what_is_deleted(rt: HostRuntime) -> Result<(), Fail> {
-    match try_two_nodes(&rt, rt.alloc()) {
-        Ok(()) => Ok(()),
-        Err(_) => Ok(try_two_nodes(&rt, rt.alloc())?),
-    }
 }

@@ -1,0 +1,143 @@
+//! Trials at a new cluster, which is closed at the end of each, and what its report has to say then.
+ghost use Rattle.std.specs.Prelude.{◌≡◌};
+
+use crate::calls::{call_six, call_with_receipts, leave_often};
+use crate::works::{ask_for_deleted, work_at_a_failing_device};
+use assertions::{holds, same};
+use obj_id::{Refusal, Reply};
+use session_threads::{Cluster, Report};
+use std::alloc::{AllocError, Global};
+use std::marker::Brand;
+use std::process::Abort;
+use std::sync::Wait;
+use std::sync::ledger::{Blank, Ledger};
+use std::test::Fail;
+use std::thread::Threads;
+use std::time::Clock;
+
+/// What is tried.
+enum Trial {
+    DirectCalls,
+    LaterCall,
+    Leaves,
+    FailingDevice,
+    Deletion,
+}
+
+impl Trial {
+    /// How many nodes it needs.
+    fn nodes(&self) -> u32 {
+        match self {
+            Trial::DirectCalls | Trial::Leaves | Trial::FailingDevice => 1,
+            Trial::LaterCall | Trial::Deletion => 2,
+        }
+    }
+
+    /// Carries it out at a cluster of so many nodes: whether all was answered as it is due if no message is lost.
+    fn carry_out<L: Ledger, R: Wait + Clock + Abort>(
+        &self,
+        rt: &R,
+        alloc: Global,
+        cluster: &Cluster<L>,
+    ) -> Result<bool, AllocError> {
+        match self {
+            Trial::DirectCalls => call_six(rt, alloc, cluster)?,
+            Trial::LaterCall => call_with_receipts(rt, alloc, cluster)?,
+            Trial::Leaves => leave_often(rt, alloc, cluster)?,
+            Trial::FailingDevice => work_at_a_failing_device(rt, alloc, cluster),
+            Trial::Deletion => {
+                let last = ask_for_deleted(rt, cluster);
+                return Ok(matches!(&last, Reply::Refused(Refusal::Absent)));
+            }
+        }
+        Ok(true)
+    }
+
+    /// What the report has to say once the cluster is closed. What Seal tells the directory is lost if memory runs out there.
+    fn check<R: Abort>(&self, rt: &R, report: &Report) {
+        let entries = report.entries;
+        let receipts = (report.receipts, report.disagreeing);
+        match self {
+            Trial::DirectCalls =>
+                same!(rt; (entries, receipts, report.lost <= 1), (7, (1, 0), true)),
+            // the operator's three orders, and the receipt that was shown to another node
+            Trial::LaterCall =>
+                same!(rt; (entries, receipts, report.lost == 0), (10, (4, 1), true)),
+            Trial::Leaves => {
+                same!(rt; (entries, report.disagreeing, report.lost <= 1), (20, 0, true))
+            }
+            Trial::FailingDevice => same!(rt; (entries, receipts), (16, (7, 0))),
+            Trial::Deletion => {}
+        }
+        same!(rt; report.erase_failures, 0);
+    }
+}
+
+/// Carries out the trial at a cluster of its own.
+fn try_at<L: Ledger, R: Threads + Wait + Clock + Abort>(
+    rt: &R,
+    alloc: Global,
+    trial: &Trial,
+    nodes: u32,
+    blank: Blank,
+) -> Result<(), AllocError>
+    requires name { blank.name ≡ L.name }
+    requires parts { blank.parts ≡ L.parts }
+    requires count { blank.parts ≡ nodes }
+{
+    let (_book, seats) = blank.open::<L>();
+    let cluster = Cluster::start(alloc, nodes, 1024, seats)?;
+    let carried_out = trial.carry_out(rt, alloc, &cluster);
+    let report = cluster.close(rt, Vec::new(alloc));
+    let as_due = carried_out?;
+    holds!(rt; as_due || report.lost > 0);
+    trial.check(rt, &report);
+    Ok(())
+}
+
+fn try_once<R: Threads + Wait + Clock + Abort>(
+    rt: &R,
+    alloc: Global,
+    trial: &Trial,
+) -> Result<(), AllocError> {
+    let nodes = trial.nodes();
+    let blank = Blank::new(u64::from(nodes));
+    try_at::<Brand, R>(rt, alloc, trial, nodes, blank)
+}
+
+/// The same, once more if memory ran out before the nodes were there, or for a command.
+fn try_out<R: Threads + Wait + Clock + Abort>(
+    rt: &R,
+    alloc: Global,
+    trial: &Trial,
+) -> Result<(), AllocError> {
+    match try_once(rt, alloc, trial) {
+        Ok(()) => Ok(()),
+        Err(_) => try_once(rt, alloc, trial),
+    }
+}
+
+#[test]
+fn receipts_of_direct_callers_are_not_gathered(rt: HostRuntime) -> Result<(), Fail> {
+    Ok(try_out(&rt, rt.alloc(), &Trial::DirectCalls)?)
+}
+
+#[test]
+fn a_call_comes_after_the_receipt_that_it_shows(rt: HostRuntime) -> Result<(), Fail> {
+    Ok(try_out(&rt, rt.alloc(), &Trial::LaterCall)?)
+}
+
+#[test]
+fn a_session_is_left_though_memory_runs_out(rt: HostRuntime) -> Result<(), Fail> {
+    Ok(try_out(&rt, rt.alloc(), &Trial::Leaves)?)
+}
+
+#[test]
+fn a_write_that_fails_is_told_once(rt: HostRuntime) -> Result<(), Fail> {
+    Ok(try_out(&rt, rt.alloc(), &Trial::FailingDevice)?)
+}
+
+#[test]
+fn the_directory_is_told_what_is_deleted(rt: HostRuntime) -> Result<(), Fail> {
+    Ok(try_out(&rt, rt.alloc(), &Trial::Deletion)?)
+}
