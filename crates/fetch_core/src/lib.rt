@@ -236,10 +236,10 @@ impl FetchIn {
 /// The chunks of an object with these bytes that a fetch of this number asked for: one for each index that
 /// the object has, in the order asked, and an index asked twice is sent twice.
 ///
-/// `NoMemory` if the messages can't be made. Copies the bytes of each chunk once.
+/// `NoMemory` if the messages can't be made. The chunks share the object's bytes.
 pub fn chunks_asked(
     alloc: Global,
-    bytes: &[u8],
+    bytes: &Bytes,
     id: ObjectId,
     number: u64,
     indexes: &[u32],
@@ -249,9 +249,8 @@ pub fn chunks_asked(
 {
     let mut sent = Vec::new(alloc);
     for index in indexes {
-        if let Some(chunk) = chunk_at(bytes, *index) {
-            let payload = Bytes::copy_from_slice(alloc, chunk)?;
-            sent.push(PeerMessage::Chunk(id, number, *index, payload))?;
+        if let Some(chunk) = chunk_at(bytes, *index)? {
+            sent.push(PeerMessage::Chunk(id, number, *index, chunk))?;
         }
     }
     Ok(sent)
@@ -269,17 +268,17 @@ pub fn elsewhere(node: u32, entries: &[Location]) -> Option<Location>
     None
 }
 
-/// The bytes of the chunk of this index, if there is one.
-fn chunk_at(bytes: &[u8], index: u32) -> Option<&[u8]>
-    ensures there { is_some result ≡ nat_lt (65536 * index) (length bytes.now) }
-    ensures bytes { IfSome result (λ r. r.now ≡ take (chunk_length (length bytes.now) index) (drop (65536 * index) bytes.now)) }
+/// The bytes of the chunk of this index, if there is one, which are shared.
+fn chunk_at(bytes: &Bytes, index: u32) -> Result<Option<Bytes>, AllocError>
+    ensures there { IfOk result (λ chunk. is_some chunk ≡ nat_lt (65536 * index) (length bytes.now)) }
+    ensures bytes { IfOk result (λ chunk. IfSome chunk (λ part. part ≡ take (chunk_length (length bytes.now) index) (drop (65536 * index) bytes.now))) }
 {
     let start = index as usize * CHUNK_SIZE as usize;
     if start >= bytes.len() {
-        return None;
+        return Ok(None);
     }
     let end = (start + CHUNK_SIZE as usize).min(bytes.len());
-    Some(&bytes[start..end])
+    Ok(Some(bytes.slice(start..end)?))
 }
 
 /// The SHA-256 digest (FIPS 180-4) of the bytes.

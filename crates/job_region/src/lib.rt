@@ -1,8 +1,8 @@
-//! A job's window: one memory, and the extents that are placed in it. A contract sees a window as its
-//! quota and its extents by rising offset, each with its bytes; the memory and the holes are hidden.
+//! A job's window: the extents that are placed in it, each with a buffer of its own. A contract sees a window as its
+//! quota and its extents by rising offset, each with its bytes; the buffers and the holes are hidden.
 #![tactic(auto)]
 
-ghost use Rattle.std.specs.Prelude.{◌≡◌, ◌≢◌, ◌↔◌, ℕ, ◌+◌, ◌-◌, ◌*◌, ◌/◌, ◌%◌, ◌^◌, ◌<◌, ◌≤◌, ◌++◌, List, [], ◌∷◌, Some, None, true, false, not, nat_eq, IfOk, OnOk, OnErr, IfSome, IsSome, IsErrOf, IsOk, IsTrue, length, take, drop, filter, replicate};
+ghost use Rattle.std.specs.Prelude.{◌≡◌, ◌≢◌, ◌↔◌, ℕ, ◌+◌, ◌-◌, ◌*◌, ◌/◌, ◌%◌, ◌^◌, ◌<◌, ◌≤◌, ◌++◌, List, [], ◌∷◌, Some, None, true, false, not, nat_eq, IfOk, OnOk, OnErr, IfSome, IsSome, IsErrOf, IsOk, IsTrue, IsSomeAnd, unwrap_or, length, take, drop, filter, replicate};
 ghost use Rattle.std.specs.List.{list_any, list_all};
 ghost use Rattle.std.specs.List.Sorted.{IsNonDecreasingBy};
 ghost use Rattle.obj_id.specs.declared.works.Extent.{Extent};
@@ -15,27 +15,36 @@ ghost use Rattle.private_store.specs.Contents.{overwritten};
 ghost use Rattle.job_region.specs.Region.{extents_of, place_for, place_check, put_in, without, IsAt, bytes_at, resize_check as resize_check_lem};
 ghost use Rattle.std.specs.Prelude.{vec_len, vec_capacity, find, slice_index_or};
 ghost use Rattle.hole_tree.specs.Holes.{has_hole, take_hole};
-ghost use Rattle.job_region.specs.Layout.{placed_in, LaidFrom, Before, After, gap, gap_among, kept, put_extent, without_extent, last_end, first_start};
+ghost use Rattle.job_region.specs.Layout.{LaidFrom, AreFilled, zipped, Before, After, gap, gap_among, kept, put_extent, without_extent, last_end, first_start};
 ghost use Rattle.job_region.specs.Gaps.{gaps, put_then, cut_hole, mend_holes, stretch as stretch_lem};
 
+mod buffer;
+mod zeros;
+
+use buffer::Buffer;
+use bytes::Bytes;
 use hole_tree::{Hole, Holes, Room};
 use obj_id::limits::{LONGEST_OBJECT, UNIT, WIDEST_WINDOW};
 use obj_id::{Extent, Refusal};
 use private_store::rounded;
 use std::alloc::{AllocError, Global};
 use std::marker::Model;
+use std::mem;
+pub use zeros::Zeros;
 
 /// A job's window of so many bytes, and its extents.
 pub struct Window {
     quota: u64,
     // By rising offset.
     extents: Vec<Extent>,
-    // As far as bytes were ever placed; what lies past its end up to the quota is reserved and was never written.
-    memory: Vec<u8>,
+    // The bytes of each, in the same order.
+    buffers: Vec<Buffer>,
     // What the extents leave free.
     holes: Holes,
     // Room for the hole that giving an extent back may make: one for each extent, so that it takes no memory.
     rooms: Vec<Room>,
+    // For the next extent that is placed, if it has as many bytes.
+    made: Option<Zeros>,
     alloc: Global,
 }
 
@@ -45,9 +54,10 @@ impl Drop for Window {
         let Window {
             quota: _quota,
             extents: _extents,
-            memory: _memory,
+            buffers: _buffers,
             holes: _holes,
             rooms: _rooms,
+            made: _made,
             alloc: _alloc,
         } = self;
     }
@@ -58,12 +68,12 @@ impl Model for Window {
 
     ghost Value = { Region };
 
-    ghost use Rattle.job_region.specs.Layout.{placed_in, filled, IsLaid};
-    ghost use Rattle.std.specs.Prelude.{vec_len, vec_capacity};
+    ghost use Rattle.job_region.specs.Layout.{zipped, IsLaid};
+    ghost use Rattle.std.specs.Prelude.{vec_len};
 
-    ghost view = { λ w. record { quota = w.quota; placed = placed_in (filled w.quota w.memory.items) w.extents.items } };
+    ghost view = { λ w. record { quota = w.quota; placed = zipped w.extents.items w.buffers.items } };
 
-    ghost invariant = { λ w. IsLaid w.quota w.memory.items (vec_capacity w.memory) w.extents.items w.holes (vec_len w.rooms) };
+    ghost invariant = { λ w. IsLaid w.quota w.extents.items w.buffers.items w.holes (vec_len w.rooms) };
 }
 
 impl Window {
@@ -77,7 +87,6 @@ impl Window {
         if !is_window(quota) {
             return Err(Refusal::BadSize);
         }
-        let memory = Vec::with_capacity(alloc, quota as usize)?;
         let mut holes = Holes::new();
         holes.put(
             Room::new(alloc)?,
@@ -89,9 +98,10 @@ impl Window {
         Ok(Window {
             quota,
             extents: Vec::new(alloc),
-            memory,
+            buffers: Vec::new(alloc),
             holes,
             rooms: Vec::new(alloc),
+            made: None,
             alloc,
         })
     }
@@ -129,13 +139,14 @@ impl Window {
             return Err(Refusal::Full);
         };
         reserve(&mut self.rooms, self.alloc, self.extents.len())?;
+        reserve_places(&mut self.extents, &mut self.buffers)?;
+        let buffer = Buffer::zeros(self.made.take(), self.alloc, need as usize)?;
         let extent = Extent {
             offset: hole.offset,
             length: need,
         };
-        put(&mut self.extents, extent)?;
+        put(&mut self.extents, &mut self.buffers, extent, buffer);
         cut(&mut self.holes, hole, need);
-        clear_bytes(&mut self.memory, hole.offset, need);
         Ok(extent)
     }
 
@@ -203,9 +214,11 @@ impl Window {
             return Err(Refusal::Full);
         }
         reserve(&mut self.rooms, alloc, self.extents.len())?;
-        self.extents.reserve(1)?;
+        reserve_places(&mut self.extents, &mut self.buffers)?;
+        let buffer = Buffer::zeros(self.made.take(), alloc, need as usize)?;
         free_all(
             &mut self.extents,
+            &mut self.buffers,
             &mut self.holes,
             &mut self.rooms,
             gone,
@@ -218,9 +231,8 @@ impl Window {
             offset: hole.offset,
             length: need,
         };
-        put(&mut self.extents, extent).unwrap();
+        put(&mut self.extents, &mut self.buffers, extent, buffer);
         cut(&mut self.holes, hole, need);
-        clear_bytes(&mut self.memory, hole.offset, need);
         Ok(extent)
     }
 
@@ -231,6 +243,7 @@ impl Window {
     {
         free_at(
             &mut self.extents,
+            &mut self.buffers,
             &mut self.holes,
             &mut self.rooms,
             extent.offset,
@@ -245,6 +258,7 @@ impl Window {
     {
         free_all(
             &mut self.extents,
+            &mut self.buffers,
             &mut self.holes,
             &mut self.rooms,
             extents,
@@ -258,7 +272,49 @@ impl Window {
         ensures value { lookup (nat_eq extent.now.offset) self.now.placed ≡ Some result.now }
         ensures length { length result.now ≡ extent.now.length }
     {
-        slice_at(&self.memory, extent.offset as usize, extent.length as usize)
+        buffer_at(&self.extents, &self.buffers, extent.offset).as_slice()
+    }
+
+    /// Keeps zeros for the next extent that is placed, and gives back those that were kept. A contract sees nothing of them.
+    pub fn keep_zeros(&mut self, zeros: Option<Zeros>) -> Option<Zeros>
+        ensures { self.new ≡ self.old }
+    {
+        mem::replace(&mut self.made, zeros)
+    }
+
+    /// Makes the bytes of an extent such as `shared` gives, if there is memory for it and they are at least 32,768.
+    pub fn freeze(&mut self, extent: &Extent)
+        requires { IsAt extent.now self.old.placed }
+        ensures { self.new ≡ self.old }
+    {
+        freeze_at(&self.extents, &mut self.buffers, extent.offset, self.alloc);
+    }
+
+    /// The bytes of an extent of this window without a copy, if they are frozen. They stay as they are, whatever becomes of the
+    /// extent.
+    pub fn shared(&self, extent: &Extent) -> Option<Bytes>
+        requires { IsAt extent.now self.now.placed }
+        ensures value { IfSome result (λ bytes. lookup (nat_eq extent.now.offset) self.now.placed ≡ Some bytes) }
+        ensures length { IfSome result (λ bytes. length bytes ≡ extent.now.length) }
+    {
+        let buffer = buffer_at(&self.extents, &self.buffers, extent.offset);
+        let bytes = buffer.shared()?;
+        Some(bytes)
+    }
+
+    /// The bytes of an extent of this window become these, without a copy, and `shared` gives them; the other extents stay.
+    pub fn adopt(&mut self, extent: &Extent, bytes: Bytes)
+        requires there { IsAt extent.now self.old.placed }
+        requires length { length bytes ≡ extent.now.length }
+        ensures { self.new ≡ record self.old { placed = set_value (nat_eq extent.now.offset) self.old.placed bytes } }
+    {
+        adopt_at(
+            &self.extents,
+            &mut self.buffers,
+            extent.offset,
+            self.alloc,
+            bytes,
+        );
     }
 
     /// Writes bytes into an extent of this window, from an offset in it on; the other extents stay.
@@ -273,9 +329,10 @@ impl Window {
         if (extent.length as usize) < off as usize + bytes.len() {
             return Err(Refusal::OutOfBounds);
         }
-        copy_in(
-            &mut self.memory,
-            extent.offset as usize,
+        write_at(
+            &self.extents,
+            &mut self.buffers,
+            extent.offset,
             off as usize,
             bytes,
         );
@@ -306,6 +363,7 @@ impl Window {
             unreachable!()
         };
         self.extents.clear();
+        self.buffers.clear();
         self.holes.clear();
         self.holes.put(
             room,
@@ -333,15 +391,10 @@ impl Window {
         }
         let extents = self.extents.len();
         reserve_to_grow(&mut self.rooms, self.alloc, extents, self.quota, quota)?;
-        match resize_bytes(&mut self.memory, quota) {
-            Err(_) => Err(Refusal::NoMemory),
-            Ok(()) => {
-                let end = end_of_last(0, &self.extents);
-                end_at(&mut self.holes, &mut self.rooms, extents, end, quota);
-                self.quota = quota;
-                Ok(())
-            }
-        }
+        let end = end_of_last(0, &self.extents);
+        end_at(&mut self.holes, &mut self.rooms, extents, end, quota);
+        self.quota = quota;
+        Ok(())
     }
 
     /// Why the window can't have `quota` bytes: `BadSize`, `Full`, or nothing.
@@ -387,30 +440,96 @@ fn is_at(extents: &[Extent], place: usize, offset: u64) -> bool
     }
 }
 
-/// Puts an extent in its place.
-fn put(extents: &mut Vec<Extent>, extent: Extent) -> Result<(), AllocError>
-    requires { IsNonDecreasingBy (λ (e : Extent). e.offset) extents.old.items }
-    ensures ok { OnOk result (extents.new.items ≡ put_extent extent extents.old.items) }
-    ensures err { OnErr result (extents.new.items ≡ extents.old.items) }
-    ensures succeeds { length extents.old.items < vec_capacity extents.old → IsOk result }
+/// Makes room for one extent more, with its buffer.
+fn reserve_places(extents: &mut Vec<Extent>, buffers: &mut Vec<Buffer>) -> Result<(), AllocError>
+    ensures extents { extents.new.items ≡ extents.old.items }
+    ensures buffers { buffers.new.items ≡ buffers.old.items }
+    ensures ok { OnOk result ((length extents.new.items < vec_capacity extents.new) × (length buffers.new.items < vec_capacity buffers.new)) }
 {
-    let at = place_of(extents, extent.offset);
-    extents.insert(at, extent)?;
+    extents.reserve(1)?;
+    buffers.reserve(1)?;
     Ok(())
 }
 
-/// Takes out the extent at an offset, if there is one.
-fn take_out(extents: &mut Vec<Extent>, offset: u64) -> Option<Extent>
-    requires { IsNonDecreasingBy (λ (e : Extent). e.offset) extents.old.items }
+/// Puts an extent in its place, with its buffer.
+fn put(extents: &mut Vec<Extent>, buffers: &mut Vec<Buffer>, extent: Extent, buffer: Buffer)
+    requires rising { IsNonDecreasingBy (λ (e : Extent). e.offset) extents.old.items }
+    requires filled { AreFilled extents.old.items buffers.old.items }
+    requires fits { length buffer ≡ extent.length }
+    requires room { (length extents.old.items < vec_capacity extents.old) × (length buffers.old.items < vec_capacity buffers.old) }
+    ensures extents { extents.new.items ≡ put_extent extent extents.old.items }
+    ensures filled { AreFilled extents.new.items buffers.new.items }
+    ensures placed { zipped extents.new.items buffers.new.items ≡ put_in (extent.offset, buffer) (zipped extents.old.items buffers.old.items) }
+{
+    let at = place_of(extents, extent.offset);
+    extents.insert(at, extent).unwrap();
+    buffers.insert(at, buffer).unwrap();
+}
+
+/// Takes out the extent at an offset, if there is one, with its buffer.
+fn take_out(extents: &mut Vec<Extent>, buffers: &mut Vec<Buffer>, offset: u64) -> Option<Extent>
+    requires rising { IsNonDecreasingBy (λ (e : Extent). e.offset) extents.old.items }
+    requires filled { AreFilled extents.old.items buffers.old.items }
     ensures left { extents.new.items ≡ without_extent offset extents.old.items }
     ensures taken { result ≡ find (λ e. nat_eq offset e.offset) extents.old.items }
     ensures capacity { vec_capacity extents.new ≡ vec_capacity extents.old }
+    ensures filled { AreFilled extents.new.items buffers.new.items }
+    ensures placed { zipped extents.new.items buffers.new.items ≡ remove_entry (nat_eq offset) (zipped extents.old.items buffers.old.items) }
+    ensures room { vec_capacity buffers.new ≡ vec_capacity buffers.old }
 {
     let at = place_of(extents, offset);
     if !is_at(extents, at, offset) {
         return None;
     }
-    Some(extents.remove(at))
+    let extent = extents.remove(at);
+    buffers.remove(at);
+    Some(extent)
+}
+
+/// The buffer of the extent at an offset.
+fn buffer_at<'a>(extents: &[Extent], buffers: &'a Vec<Buffer>, offset: u64) -> &'a Buffer
+    requires rising { IsNonDecreasingBy (λ (e : Extent). e.offset) extents.now }
+    requires filled { AreFilled extents.now buffers.now.items }
+    requires there { IsSome (lookup (nat_eq offset) (zipped extents.now buffers.now.items)) }
+    ensures { lookup (nat_eq offset) (zipped extents.now buffers.now.items) ≡ Some result.now }
+{
+    let at = place_of(extents, offset);
+    &buffers[at]
+}
+
+/// Freezes it.
+fn freeze_at(extents: &[Extent], buffers: &mut Vec<Buffer>, offset: u64, alloc: Global)
+    requires rising { IsNonDecreasingBy (λ (e : Extent). e.offset) extents.now }
+    requires filled { AreFilled extents.now buffers.old.items }
+    requires there { IsSome (lookup (nat_eq offset) (zipped extents.now buffers.old.items)) }
+    ensures { buffers.new.items ≡ buffers.old.items }
+{
+    let at = place_of(extents, offset);
+    buffers[at].freeze(alloc);
+}
+
+/// Lets it have these bytes.
+fn adopt_at(extents: &[Extent], buffers: &mut Vec<Buffer>, offset: u64, alloc: Global, bytes: Bytes)
+    requires rising { IsNonDecreasingBy (λ (e : Extent). e.offset) extents.now }
+    requires filled { AreFilled extents.now buffers.old.items }
+    requires there { IsSomeAnd (lookup (nat_eq offset) (zipped extents.now buffers.old.items)) (λ old. length bytes ≡ length old) }
+    ensures filled { AreFilled extents.now buffers.new.items }
+    ensures placed { zipped extents.now buffers.new.items ≡ set_value (nat_eq offset) (zipped extents.now buffers.old.items) bytes }
+{
+    let at = place_of(extents, offset);
+    buffers[at].adopt(alloc, bytes);
+}
+
+/// Writes bytes into it, from an offset in it on.
+fn write_at(extents: &[Extent], buffers: &mut Vec<Buffer>, offset: u64, off: usize, bytes: &[u8])
+    requires rising { IsNonDecreasingBy (λ (e : Extent). e.offset) extents.now }
+    requires filled { AreFilled extents.now buffers.old.items }
+    requires there { IsSomeAnd (lookup (nat_eq offset) (zipped extents.now buffers.old.items)) (λ old. off + length bytes.now ≤ length old) }
+    ensures filled { AreFilled extents.now buffers.new.items }
+    ensures placed { zipped extents.now buffers.new.items ≡ set_value (nat_eq offset) (zipped extents.now buffers.old.items) (overwritten (unwrap_or (lookup (nat_eq offset) (zipped extents.now buffers.old.items)) []) off bytes.now) }
+{
+    let at = place_of(extents, offset);
+    buffers[at].write(off, bytes);
 }
 
 /// Where the last of these extents ends, or `at` if there is none.
@@ -432,66 +551,6 @@ fn start_of_first(extents: &[Extent], quota: u64) -> u64
         Some(first) => first.offset,
         None => quota,
     }
-}
-
-/// So many bytes from an offset on.
-fn slice_at(memory: &Vec<u8>, from: usize, len: usize) -> &[u8]
-    requires { from + len ≤ length memory.now.items }
-    ensures { result.now ≡ take len (drop from memory.now.items) }
-{
-    &memory[from..from + len]
-}
-
-/// Writes zeros from an offset on, where the memory has bytes or ends. What passes its end lengthens it, and takes no memory.
-fn clear_bytes(memory: &mut Vec<u8>, offset: u64, len: u64)
-    requires begins { offset ≤ length memory.old.items }
-    requires reserved { offset + len ≤ vec_capacity memory.old }
-    requires small { offset + len < 2 ^ 29 }
-    ensures items { memory.new.items ≡ overwritten memory.old.items offset (replicate len 0) }
-    ensures capacity { vec_capacity memory.old ≤ vec_capacity memory.new }
-{
-    let start = offset as usize;
-    let end = start + len as usize;
-    let written = end.min(memory.len());
-    fill_zeros(memory, start, written);
-    if written < end {
-        memory.resize(end, 0).unwrap();
-    }
-}
-
-/// Writes zeros over the bytes from an offset to another.
-fn fill_zeros(memory: &mut Vec<u8>, start: usize, end: usize)
-    requires { (start ≤ end) × (end ≤ length memory.old.items) }
-    ensures items { memory.new.items ≡ overwritten memory.old.items start (replicate (end - start) 0) }
-    ensures capacity { vec_capacity memory.new ≡ vec_capacity memory.old }
-{
-    memory[start..end].fill(0);
-}
-
-/// Writes bytes into the part of the memory that begins at `from`, at an offset in it.
-fn copy_in(memory: &mut Vec<u8>, from: usize, off: usize, bytes: &[u8])
-    requires { from + off + length bytes.now ≤ length memory.old.items }
-    ensures items { memory.new.items ≡ overwritten memory.old.items (from + off) bytes.now }
-    ensures capacity { vec_capacity memory.new ≡ vec_capacity memory.old }
-{
-    let start = from + off;
-    memory[start..start + bytes.len()].copy_from_slice(bytes);
-}
-
-/// Cuts the memory, or reserves what it lacks. Cutting takes no memory.
-fn resize_bytes(memory: &mut Vec<u8>, len: u64) -> Result<(), AllocError>
-    ensures ok { OnOk result (memory.new.items ≡ take len memory.old.items) }
-    ensures reserved { OnOk result (vec_capacity memory.old < len → len ≤ vec_capacity memory.new) }
-    ensures capacity { vec_capacity memory.old ≤ vec_capacity memory.new }
-    ensures err { OnErr result (memory.new.items ≡ memory.old.items) }
-    ensures grows { OnErr result (vec_capacity memory.old < len) }
-{
-    let len = len as usize;
-    if len <= memory.len() {
-        memory.truncate(len);
-        return Ok(());
-    }
-    memory.reserve_exact(len - memory.len())
 }
 
 /// Where so many bytes go once these extents are gone, if they go to `found` before. Only what the extents
@@ -609,6 +668,7 @@ fn stretch(extents: &[Extent], offset: u64, quota: u64) -> (u64, u64)
 /// hole. Takes no memory.
 fn free_at(
     extents: &mut Vec<Extent>,
+    buffers: &mut Vec<Buffer>,
     holes: &mut Holes,
     rooms: &mut Vec<Room>,
     offset: u64,
@@ -618,12 +678,16 @@ fn free_at(
     requires small { quota < 2 ^ 29 }
     requires free { holes.old ≡ gaps quota 0 extents.old.items }
     requires spare { length extents.old.items ≤ vec_len rooms.old }
+    requires filled { AreFilled extents.old.items buffers.old.items }
     ensures left { extents.new.items ≡ without_extent offset extents.old.items }
+    ensures filled { AreFilled extents.new.items buffers.new.items }
+    ensures placed { zipped extents.new.items buffers.new.items ≡ remove_entry (nat_eq offset) (zipped extents.old.items buffers.old.items) }
+    ensures room { vec_capacity buffers.new ≡ vec_capacity buffers.old }
     ensures free { holes.new ≡ gaps quota 0 extents.new.items }
     ensures spare { vec_len rooms.new + length extents.old.items ≡ vec_len rooms.old + length extents.new.items }
     ensures capacity { vec_capacity extents.new ≡ vec_capacity extents.old }
 {
-    let Some(extent) = take_out(extents, offset) else {
+    let Some(extent) = take_out(extents, buffers, offset) else {
         return;
     };
     let (start, end) = stretch(extents, offset, quota);
@@ -636,6 +700,7 @@ fn free_at(
 /// Takes back these extents, as far as they are there. Takes no memory.
 fn free_all(
     extents: &mut Vec<Extent>,
+    buffers: &mut Vec<Buffer>,
     holes: &mut Holes,
     rooms: &mut Vec<Room>,
     gone: &[Extent],
@@ -645,13 +710,17 @@ fn free_all(
     requires small { quota < 2 ^ 29 }
     requires free { holes.old ≡ gaps quota 0 extents.old.items }
     requires spare { length extents.old.items ≤ vec_len rooms.old }
+    requires filled { AreFilled extents.old.items buffers.old.items }
     ensures left { extents.new.items ≡ kept gone.now extents.old.items }
+    ensures filled { AreFilled extents.new.items buffers.new.items }
+    ensures placed { zipped extents.new.items buffers.new.items ≡ without gone.now (zipped extents.old.items buffers.old.items) }
+    ensures room { vec_capacity buffers.new ≡ vec_capacity buffers.old }
     ensures free { holes.new ≡ gaps quota 0 extents.new.items }
     ensures spare { vec_len rooms.new + length extents.old.items ≡ vec_len rooms.old + length extents.new.items }
     ensures capacity { vec_capacity extents.new ≡ vec_capacity extents.old }
 {
     for e in gone {
-        free_at(extents, holes, rooms, e.offset, quota);
+        free_at(extents, buffers, holes, rooms, e.offset, quota);
     }
 }
 

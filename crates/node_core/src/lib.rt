@@ -36,6 +36,7 @@ mod listing;
 mod outcome;
 mod peeking;
 mod plain;
+mod preparing;
 mod quotas;
 mod task_ends;
 
@@ -44,8 +45,8 @@ pub use foreseen::Foreseen;
 use grants::Grants;
 use indexmap::IndexMap;
 use job_admission::Admission;
-pub use node_table::Erase;
 use node_table::JobRow;
+pub use node_table::{Erase, Prepared};
 use obj_id::{Command, JobKey, JobNo, ObjectId, Quota, Refusal, Reply, Usage};
 pub use outcome::{Note, Outcome};
 use private_store::Event;

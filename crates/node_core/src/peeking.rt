@@ -1,5 +1,5 @@
 //! Peek: bytes of an object that another job granted.
-ghost use Rattle.std.specs.Prelude.{◌≡◌, [], length, IfOk, OnErr, IsErrOf};
+ghost use Rattle.std.specs.Prelude.{◌≡◌, [], length, IfOk, IfSome, OnErr, IsErrOf};
 ghost use Rattle.std.specs.List.{list_any};
 ghost use Rattle.obj_id.specs.declared.commands.Command.TheVariants as command;
 ghost use Rattle.obj_id.specs.declared.refusals.Refusal.{Refusal};
@@ -13,8 +13,7 @@ ghost use Rattle.node_core.specs.Late.{IsCallUnrefused};
 ghost use Rattle.node_core.specs.OneJob.{StepsOne};
 
 use crate::Node;
-use bytes::Bytes;
-use node_table::part_of;
+use node_table::Lent;
 use obj_id::limits::MOST_BYTES;
 use obj_id::{JobNo, ObjectId, Refusal, Reply};
 
@@ -39,11 +38,11 @@ impl Node {
             let reply = Reply::Refused(Refusal::NotAdmitted);
             return Ok(node_table::Outcome::only(self.alloc, reply));
         };
-        let whole = self.granted_bytes(id);
-        if let Some(refusal) = self.peek_check(job, id, whole.len(), offset, len) {
+        let lent = self.granted_bytes(id);
+        if let Some(refusal) = self.peek_check(job, id, lent.bytes.len(), offset, len) {
             return Ok(node_table::Outcome::only(self.alloc, Reply::Refused(refusal)));
         }
-        let bytes = Bytes::copy_from_slice(self.alloc, part_of(whole, offset, len))?;
+        let bytes = lent.part(self.alloc, offset, len)?;
         Ok(node_table::Outcome::only(self.alloc, Reply::Bytes(bytes)))
     }
 
@@ -81,11 +80,12 @@ impl Node {
     }
 
     /// The bytes of an object of which a hand stands, lent by the row of its own job.
-    fn granted_bytes(&self, id: &ObjectId) -> &[u8]
-        ensures { result.now ≡ bytes_here self.now.rows id.now }
+    fn granted_bytes(&self, id: &ObjectId) -> Lent<'_>
+        ensures bytes { result.bytes.now ≡ bytes_here self.now.rows id.now }
+        ensures same { IfSome result.shared (λ shared. shared ≡ result.bytes.now) }
     {
         let Some(row) = self.rows.get(&id.job()) else {
-            return &[];
+            return Lent::nothing();
         };
         row.lend_granted(id)
     }

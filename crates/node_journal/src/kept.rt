@@ -26,8 +26,9 @@ use crate::entries::{Agreement, Entry, Line, Receipt, entry_of, job_of, name_of,
 use crate::folding::{MOST_LINES, base_of, bases_of};
 use crate::logs::Logs;
 use crate::posts::{Made, Posted, arrival};
-use node_core::{Node, Outcome};
-use obj_id::{Arrival, Items, JobKey, JobNo, Place, Refusal};
+use bytes::Bytes;
+use node_core::{Node, Outcome, Prepared};
+use obj_id::{Arrival, Items, JobKey, JobNo, ObjectId, Place, Refusal};
 use private_store::Event;
 use std::alloc::{AllocError, Global};
 use std::marker::PhantomData;
@@ -273,6 +274,45 @@ impl<L: Ledger> Kept<L> {
             session,
             name: PhantomData,
         })
+    }
+
+    /// Keeps what was prepared for the next step of the job, and gives back what was kept. No event: nothing changes.
+    pub fn prepare(&mut self, job: JobNo, prepared: Prepared) -> Prepared
+        ensures node { (self.new.node ≡ self.old.node) × (self.new.number ≡ self.old.number) }
+        ensures journal { (self.new.logs ≡ self.old.logs) × (self.new.count ≡ self.old.count) }
+    {
+        let Kept {
+            alloc: _,
+            node,
+            number: _,
+            logs: _,
+            count: _,
+            seat: _,
+        } = self;
+        node.prepare(job, prepared)
+    }
+
+    /// The bytes of a copy of the job to be hashed, if they can be shared or are few. No event: nothing changes.
+    pub fn share_copy(&mut self, job: JobNo, id: &ObjectId) -> Option<Bytes>
+        ensures node { (self.new.node ≡ self.old.node) × (self.new.number ≡ self.old.number) }
+        ensures journal { (self.new.logs ≡ self.old.logs) × (self.new.count ≡ self.old.count) }
+    {
+        let Kept {
+            alloc: _,
+            node,
+            number: _,
+            logs: _,
+            count: _,
+            seat: _,
+        } = self;
+        node.share_copy(job, id)
+    }
+
+    /// The node, to look at.
+    pub fn node(&self) -> &Node
+        ensures { result.now ≡ self.now.node }
+    {
+        &self.node
     }
 
     /// The number of the node.

@@ -16,8 +16,8 @@ ghost use Rattle.node_table.specs.Shown.{IsShown, IsLent, TakesStep, only};
 use crate::outcome::{Erase, Outcome};
 use crate::row::JobRow;
 use bytes::Bytes;
-use obj_id::{Digest, DirectoryMessage, Location, Message, ObjectId, Place, Refusal, Reply};
-use sha2::{Digest as _, Sha256};
+use hashed_bytes::digest_by;
+use obj_id::{DirectoryMessage, Location, Message, ObjectId, Place, Refusal, Reply};
 use std::alloc::{AllocError, Global};
 
 impl JobRow {
@@ -58,6 +58,7 @@ impl JobRow {
         let message = Message::ToDirectory(DirectoryMessage::AddLocation(*id, entry));
         let messages = Outcome::one_message(alloc, Place::Directory, message)?;
         self.seal_copy(id, entry.digest);
+        self.freeze(id);
         Ok(Outcome {
             reply: Reply::Ok,
             messages,
@@ -82,7 +83,7 @@ impl JobRow {
         if let Some(refusal) = self.copies().read_check(session, id, offset, len) {
             return Ok(Reply::Refused(refusal));
         }
-        let bytes = Bytes::copy_from_slice(alloc, part_of(self.bytes(id), offset, len))?;
+        let bytes = self.lent(id).part(alloc, offset, len)?;
         Ok(Reply::Bytes(bytes))
     }
 
@@ -114,16 +115,7 @@ impl JobRow {
         Location {
             node,
             length,
-            digest: Digest(Sha256::digest(self.bytes(id))),
+            digest: digest_by(self.bytes(id), self.hashed()),
         }
     }
-}
-
-/// `len` bytes from the offset on, or as many of them as there are.
-pub fn part_of(bytes: &[u8], offset: u32, len: u32) -> &[u8]
-    ensures { result.now ≡ take len (drop offset bytes.now) }
-{
-    let start = (offset as usize).min(bytes.len());
-    let left = &bytes[start..];
-    &left[..(len as usize).min(left.len())]
 }

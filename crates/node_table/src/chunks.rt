@@ -19,10 +19,10 @@ ghost use Rattle.node_table.specs.Shown.{seen, IsShown, TakesStep};
 
 use crate::outcome::{Erase, Outcome};
 use crate::row::JobRow;
+use hashed_bytes::digest_by;
 use obj_id::limits::CHUNK_SIZE;
 use obj_id::{Digest, DirectoryMessage, Location, ObjectId, Reply};
 use private_store::{ChunkVerdict, FetchFault};
-use sha2::{Digest as _, Sha256};
 use std::alloc::{AllocError, Global};
 
 /// What a chunk gave, and what it was to the fetch that it names.
@@ -118,6 +118,7 @@ impl JobRow {
             });
         }
         self.bring_copy(id);
+        self.freeze(id);
         let outcome = Outcome {
             reply: Reply::Ok,
             messages,
@@ -138,11 +139,11 @@ impl JobRow {
         self.put_bytes(id, index.saturating_mul(CHUNK_SIZE), bytes);
     }
 
-    /// Whether the bytes of the copy have the digest, if it is resident. Hashes them once.
+    /// Whether the bytes of the copy have the digest, if it is resident. Hashes them once, if theirs isn't known.
     fn has_digest(&self, id: &ObjectId, digest: &Digest) -> bool
         ensures { (k : Kept) (e : Extent) → at self.now.copies id.now ≡ Some k → extent_of k.copy ≡ Some e
             → result ≡ has_digest (take k.copy.length (placed_bytes e self.now.window.placed)) digest.now }
     {
-        Digest(Sha256::digest(self.bytes(id))) == *digest
+        digest_by(self.bytes(id), self.hashed()) == *digest
     }
 }

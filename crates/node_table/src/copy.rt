@@ -25,6 +25,7 @@ ghost use Rattle.node_table.specs.Serving.{was_sealed_with as was_sealed_with_le
 ghost use Rattle.node_table.specs.Arriving.{awaits_source, located, asks, fills, lacks_only, gap_closed, brought, unfetched};
 
 use fetch_core::{FetchIn, Stage};
+use hashed_bytes::{Hashed, digest_by};
 use lru_evictor::{CopyFacts, Standing};
 use obj_id::{
     CopyState, Digest, DirectoryMessage, Extent, Kind, Location, ObjectId, Refusal, TaskNo,
@@ -33,7 +34,6 @@ use obj_id::{
 use object_state::ObjectCopy;
 use pins_holds::Pins;
 use private_store::{Fault, FetchFault, WorkVerdict, rounded};
-use sha2::{Digest as _, Sha256};
 use std::alloc::Global;
 use std::marker::Model;
 
@@ -462,15 +462,15 @@ impl RowCopy {
         self.offset = None;
     }
 
-    /// Whether these are its bytes, by length and digest. Hashes them once if the length is right.
-    pub fn has_bytes(&self, bytes: &[u8]) -> bool
+    /// Whether these are its bytes, by length and digest. Hashes them once if the length is right and the digest isn't known.
+    pub fn has_bytes(&self, bytes: &[u8], hashed: Option<&Hashed>) -> bool
         requires { was_sealed self.now.copy.state ≡ true }
         ensures { result ≡ has_bytes_lem self.now bytes.now }
     {
         let Some(digest) = self.marks.digest() else {
             unreachable!()
         };
-        bytes.len() == self.length() as usize && Digest(Sha256::digest(bytes)) == digest
+        bytes.len() == self.length() as usize && digest_by(bytes, hashed) == digest
     }
 
     /// Whether it was sealed with this length and digest.

@@ -42,7 +42,8 @@ impl JobRow {
     /// Finish: a device answered the work of this number. The write of a copy backs it, unless it failed, which the next
     /// one that waits for room is told; the read of a copy seals it again, if it gave the sealed bytes, and otherwise the copy
     /// is away with a fault to tell of. A doomed copy that nothing else keeps is then removed. `Stale` if nobody has taken
-    /// such a work, and then nothing changes. Takes no memory; hashes the bytes once.
+    /// such a work, and then nothing changes. Takes no memory; hashes the bytes once, if
+    /// their digest isn't known.
     pub fn finish(
         &mut self,
         alloc: Global,
@@ -111,7 +112,7 @@ impl JobRow {
     {
         match asked.kind {
             WorkKind::Read => Ok(None),
-            WorkKind::Write => Ok(Some(Bytes::copy_from_slice(alloc, self.bytes(&asked.id))?)),
+            WorkKind::Write => Ok(Some(self.lent(&asked.id).whole(alloc)?)),
         }
     }
 
@@ -168,7 +169,7 @@ impl JobRow {
                 self.lose(id, Fault::DeviceFailed);
                 WorkVerdict::Failed
             }
-            DeviceAnswer::Bytes(bytes) if copy.has_bytes(bytes) => {
+            DeviceAnswer::Bytes(bytes) if copy.has_bytes(bytes, self.hashed()) => {
                 self.end_restore(id, bytes);
                 WorkVerdict::Fine
             }

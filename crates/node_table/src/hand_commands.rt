@@ -1,6 +1,6 @@
 //! The commands of hands: Grant and Withdraw of the job's own objects, and the bytes that are lent to those who were
 //! granted one.
-ghost use Rattle.std.specs.Prelude.{◌≡◌, ◌==◌, ℕ, List, [], true, None, length};
+ghost use Rattle.std.specs.Prelude.{◌≡◌, ◌==◌, ℕ, List, [], true, None, IfSome, length};
 ghost use Rattle.std.specs.List.{list_any};
 ghost use Rattle.std.specs.Option.{option_map_or};
 ghost use Rattle.obj_id.specs.declared.ids.ObjectId.{ObjectId};
@@ -17,6 +17,7 @@ ghost use Rattle.node_table.specs.Outcomes.{given_of};
 ghost use Rattle.node_table.specs.Row.{beside_of};
 ghost use Rattle.node_table.specs.Shown.{IsShown, TakesStep};
 
+use crate::lent::Lent;
 use crate::outcome::Outcome;
 use crate::row::JobRow;
 use obj_id::{Items, JobNo, ObjectId, Refusal, Reply};
@@ -93,13 +94,14 @@ impl JobRow {
     }
 
     /// The bytes of an object that the job granted, all of them, lent without a copy: none if it has no place.
-    pub fn lend_granted(&self, id: &ObjectId) -> &[u8]
-        ensures { result.now ≡ row_bytes self.now id.now }
+    pub fn lend_granted(&self, id: &ObjectId) -> Lent<'_>
+        ensures bytes { result.bytes.now ≡ row_bytes self.now id.now }
+        ensures same { IfSome result.shared (λ shared. shared ≡ result.bytes.now) }
     {
         if self.place(id).is_none() {
-            return &[];
+            return Lent::nothing();
         }
-        self.bytes(id)
+        self.lent(id)
     }
 
     /// The length of an object that the job granted; 0 if it has no place.
@@ -109,6 +111,9 @@ impl JobRow {
         let Some(copy) = self.copies().get(id) else {
             return 0;
         };
-        self.lend_granted(id).len().min(copy.length() as usize) as u32
+        self.lend_granted(id)
+            .bytes
+            .len()
+            .min(copy.length() as usize) as u32
     }
 }

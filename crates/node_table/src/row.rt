@@ -35,7 +35,11 @@ ghost use Rattle.node_table.specs.Arriving.{located, gap_closed, brought, unfetc
 use crate::copies::Copies;
 use crate::copy::{Awaited, RowCopy};
 use crate::following::{evict_for, follow, follow_each};
+use crate::lent::Lent;
+use crate::prepared::Prepared;
+use bytes::Bytes;
 use extent_tree::Room;
+use hashed_bytes::Hashed;
 use indexmap::IndexSet;
 use job_region::Window;
 use lru_evictor::{DeviceRoom, Plan, UseOrder, extents_by_offset};
@@ -45,6 +49,7 @@ use obj_id::{
 use private_store::{Fault, FetchFault};
 use std::alloc::{AllocError, Global};
 use std::marker::Model;
+use std::mem;
 
 /// What a node keeps of one live job. A contract sees the job's store without contents in it, and the
 /// contents that it shows.
@@ -61,6 +66,8 @@ pub struct JobRow {
     spill_failed: bool,
     // in the order in which they ended
     ended_tasks: IndexSet<TaskNo>,
+    // bytes of which a step may want the digest
+    hashed: Option<Hashed>,
 }
 
 // By hand, so that it is proved here and not in each crate above.
@@ -75,6 +82,7 @@ impl Drop for JobRow {
             fetches_begun: _fetches_begun,
             spill_failed: _spill_failed,
             ended_tasks: _ended_tasks,
+            hashed: _hashed,
         } = self;
     }
 }
@@ -109,6 +117,7 @@ impl JobRow {
             fetches_begun: 0,
             spill_failed: false,
             ended_tasks: IndexSet::new(alloc),
+            hashed: None,
         })
     }
 
@@ -222,6 +231,49 @@ impl JobRow {
             return &[];
         };
         first_bytes(self.window.bytes_of(&extent), copy.length())
+    }
+
+    /// The same, with what shares them, if they can be shared.
+    pub(crate) fn lent(&self, id: &ObjectId) -> Lent<'_>
+        ensures bytes { (k : Kept) (e : Extent) → at self.now.copies id.now ≡ Some k → extent_of k.copy ≡ Some e
+            → result.bytes.now ≡ take k.copy.length (placed_bytes e self.now.window.placed) }
+        ensures same { IfSome result.shared (λ shared. shared ≡ result.bytes.now) }
+    {
+        let Some(copy) = self.copies.get(id) else {
+            return Lent::nothing();
+        };
+        let Some(extent) = copy.extent() else {
+            return Lent::nothing();
+        };
+        Lent {
+            bytes: first_bytes(self.window.bytes_of(&extent), copy.length()),
+            shared: first_shared(self.window.shared(&extent), copy.length()),
+        }
+    }
+
+    /// Makes the bytes of a copy such as can be shared, if it is resident, there is memory for it, and they are not few.
+    pub(crate) fn freeze(&mut self, id: &ObjectId)
+        ensures { self.new ≡ self.old }
+    {
+        if let Some(extent) = self.place(id) {
+            self.window.freeze(&extent);
+        }
+    }
+
+    /// Bytes of which the digest is known.
+    pub(crate) fn hashed(&self) -> Option<&Hashed> {
+        self.hashed.as_ref()
+    }
+
+    /// Keeps what was prepared for the next step, and gives back what was kept.
+    pub fn prepare(&mut self, prepared: Prepared) -> Prepared
+        ensures { self.new ≡ self.old }
+    {
+        let Prepared { zeros, hashed } = prepared;
+        Prepared {
+            zeros: self.window.keep_zeros(zeros),
+            hashed: mem::replace(&mut self.hashed, hashed),
+        }
     }
 
     /// The copy is immutable from now on, with this digest of its bytes.
@@ -493,11 +545,11 @@ impl JobRow {
 
     /// The read of the copy ended, and brought these bytes: it is sealed again, with the bytes in its place. Takes no
     /// memory.
-    pub(crate) fn end_restore(&mut self, id: &ObjectId, bytes: &[u8])
+    pub(crate) fn end_restore(&mut self, id: &ObjectId, bytes: &Bytes)
         requires { option_map_or (λ k. is_restoring k.copy.state) (at self.old.copies id.now) true ≡ true }
         ensures { (e : Extent) → place_of self.old.copies id.now ≡ Some e → length bytes.now ≤ e.length → self.new ≡ refilled e bytes.now self.old id.now }
     {
-        self.put_bytes(id, 0, bytes);
+        self.put_all_bytes(id, bytes);
         self.copies.end_restore(id);
         follow(&mut self.order, &self.copies, id);
     }
@@ -633,6 +685,34 @@ impl JobRow {
         };
         let _ = self.window.write(&extent, offset, bytes);
     }
+
+    /// The same from the first byte on. If the bytes fill the copy's extent they are shared, and not copied.
+    fn put_all_bytes(&mut self, id: &ObjectId, bytes: &Bytes)
+        ensures copies { self.new.copies ≡ self.old.copies }
+        ensures row { (e : Extent) → place_of self.old.copies id.now ≡ Some e → length bytes.now ≤ e.length
+            → self.new ≡ record self.old { window = record self.old.window { placed = set_value (nat_eq e.offset) self.old.window.placed (overwritten (placed_bytes e self.old.window.placed) 0 bytes.now) } } }
+    {
+        let Some(extent) = self.place(id) else {
+            return;
+        };
+        if bytes.len() as u64 != extent.length {
+            self.put_bytes(id, 0, bytes);
+            return;
+        }
+        match bytes.clone() {
+            Ok(bytes) => self.window.adopt(&extent, bytes),
+            Err(_) => self.put_bytes(id, 0, bytes),
+        }
+    }
+}
+
+/// The first `len` of bytes that are shared, or all of them if there are fewer.
+fn first_shared(shared: Option<Bytes>, len: u32) -> Option<Bytes>
+    ensures { IfSome result (λ first. IfSome shared (λ whole. first ≡ take len whole)) }
+{
+    let mut first = shared?;
+    first.truncate(len as usize);
+    Some(first)
 }
 
 /// The first `len` bytes, or all of them if there are fewer.

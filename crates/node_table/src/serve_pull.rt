@@ -150,7 +150,8 @@ impl JobRow {
         ensures few { IfOk result (λ messages. length messages ≤ length indexes.now) }
         ensures memory { (r : Refusal) → IsErrOf result r → r ≡ NoMemory }
     {
-        let chunks = chunks_asked(alloc, self.bytes(id), *id, number, indexes)?;
+        let bytes = self.lent(id).whole(alloc)?;
+        let chunks = chunks_asked(alloc, &bytes, *id, number, indexes)?;
         Ok(all_to_peer(alloc, from, chunks)?)
     }
 

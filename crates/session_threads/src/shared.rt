@@ -14,6 +14,7 @@ ghost use Rattle.session_threads.specs.Witnesses.{IsCalled, IsArrived, IsOf, tri
 
 use crate::gathered::{Gathered, look_for};
 use crate::posting::Ways;
+use crate::preparing::prepare_finish;
 use crate::stepping::{
     Stepped, step_arrival, step_call, step_call_after, step_end, step_event, step_located,
     step_order, step_take,
@@ -81,12 +82,57 @@ impl<L: Ledger> SharedNode<L> {
     {
         self.leave_marked(rt);
         let mut kept = self.kept.lock(rt);
+        if kept.node().wants(job, &command) {
+            drop(kept);
+            return self.call_prepared(rt, job, session, command);
+        }
         let stepped = step_call(rt, &mut *kept, &self.upkeep, job, session, command);
         drop(kept);
         match stepped {
             Ok(stepped) => self.hand_out(rt, stepped),
             Err(refusal) => (Reply::Refused(refusal), None),
         }
+    }
+
+    /// The same of a command for which something is prepared before the node is locked.
+    fn call_prepared<R: Wait>(
+        &self,
+        rt: &R,
+        job: JobNo,
+        session: u32,
+        command: Command<Bytes>,
+    ) -> (Reply<Bytes>, Option<Receipt<L>>)
+        ensures called { MatchOption result.1 (result.0 ≡ reply.Refused NoMemory) (λ r. (wants_memory result.0 ≡ false) × IsCalled job session command result.0 (witness_of r)) }
+        ensures small { is_small_reply result.0 ≡ true }
+    {
+        match self.step_prepared(rt, job, session, command) {
+            Ok(stepped) => self.hand_out(rt, stepped),
+            Err(refusal) => (Reply::Refused(refusal), None),
+        }
+    }
+
+    /// The step of a command for which something is prepared before the node is locked.
+    fn step_prepared<R: Wait>(
+        &self,
+        rt: &R,
+        job: JobNo,
+        session: u32,
+        command: Command<Bytes>,
+    ) -> Result<Stepped<L>, Refusal>
+        ensures called { IfOk result (λ s. (wants_memory s.reply ≡ false) × IsCalled job session command s.reply (witness_of s.receipt)) }
+        ensures small { IfOk result (λ s. is_small_reply s.reply ≡ true) }
+        ensures memory { IfErr result (λ r. r ≡ NoMemory) }
+    {
+        self.upkeep.makers.begin(rt);
+        let prepared = self.prepare_call(rt, job, &command);
+        let mut kept = self.kept.lock(rt);
+        let before = kept.prepare(job, prepared);
+        let stepped = step_call(rt, &mut *kept, &self.upkeep, job, session, command);
+        let rest = kept.prepare(job, before);
+        drop(kept);
+        drop(rest);
+        self.upkeep.makers.end(rt);
+        stepped
     }
 
     /// The same, if the journal has the entry of a receipt or folded it; the new receipt then is of the same node, and has a
@@ -185,6 +231,11 @@ impl<L: Ledger> SharedNode<L> {
         self.leave_marked(rt);
         let command = command_of(awaited);
         let mut kept = self.kept.lock(rt);
+        if kept.node().wants(job, &command) {
+            drop(kept);
+            let seen = self.upkeep.waiting.seen(rt, job);
+            return (self.step_prepared(rt, job, session, command), seen);
+        }
         let stepped = step_call(rt, &mut *kept, &self.upkeep, job, session, command);
         (stepped, self.upkeep.waiting.seen(rt, job))
     }
@@ -251,9 +302,13 @@ impl<L: Ledger> SharedNode<L> {
     ) -> (Reply<Bytes>, Option<Receipt<L>>)
         ensures { MatchOption result.1 (result.0 ≡ reply.Refused NoMemory) (λ r. IsOf event.now result.0 (witness_of r)) }
     {
+        let (job, prepared) = prepare_finish(event);
         let mut kept = self.kept.lock(rt);
+        let before = kept.prepare(job, prepared);
         let stepped = step_event(rt, &mut *kept, &self.upkeep, event);
+        let rest = kept.prepare(job, before);
         drop(kept);
+        drop(rest);
         match stepped {
             Ok(stepped) => self.hand_out(rt, stepped),
             Err(refusal) => (Reply::Refused(refusal), None),
@@ -321,9 +376,14 @@ impl<L: Ledger> SharedNode<L> {
         ensures arrived { IfOk result (λ r. (a : Arrival) → arrival_of posted.from posted.message ≡ Some a → IsArrived posted.job a (witness_of r)) }
         ensures refused { IfErr result (λ r. (r ≡ NoMemory) ⊎ (r ≡ Stale)) }
     {
+        let job = posted.job();
+        let prepared = self.prepare_arrival(rt, &posted);
         let mut kept = self.kept.lock(rt);
+        let before = kept.prepare(job, prepared);
         let stepped = step_arrival(rt, &mut *kept, &self.upkeep, posted);
+        let rest = kept.prepare(job, before);
         drop(kept);
+        drop(rest);
         let Stepped { receipt, mail, .. } = stepped?;
         self.post(rt, mail);
         Ok(receipt)

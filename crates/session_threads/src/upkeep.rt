@@ -5,6 +5,7 @@ ghost use Rattle.session_threads.specs.declared.working.WorkDone.TheVariants.{No
 ghost use Rattle.session_threads.specs.DeviceCalls.{AreErased, IsErasedIf};
 
 use crate::device_calls::{Finishing, erase_all};
+use crate::makers::Makers;
 use crate::open_sessions::OpenSessions;
 use crate::tally::{Tallies, Tally};
 use crate::waiting::{Stir, Waiting};
@@ -32,6 +33,7 @@ pub(crate) struct Upkeep {
     pub keys: WaitingKeys,
     pub place: WorkPlace,
     pub bell: WorkerBell,
+    pub makers: Makers,
     pub waiting: Arc<Waiting>,
 }
 
@@ -45,6 +47,7 @@ impl Upkeep {
             keys: WaitingKeys::new(alloc),
             place: WorkPlace::new(),
             bell: WorkerBell::new(),
+            makers: Makers::new(),
             waiting,
         }
     }

@@ -5,7 +5,7 @@ use fetch_core::{FetchIn, Stage, chunks_asked};
 use obj_id::{Digest, JobNo, Location, ObjectId, PeerMessage, Refusal, TaskNo};
 use private_store::FetchFault;
 use sha2::{Digest as _, Sha256};
-use std::alloc::Global;
+use std::alloc::{AllocError, Global};
 use std::test::Fail;
 
 const HERE: u32 = 1;
@@ -55,11 +55,20 @@ fn pulling(alloc: Global, bytes: &[u8]) -> Result<FetchIn, Refusal> {
     Ok(fetch)
 }
 
+/// The bytes as they are shared, once more if memory ran out.
+fn shared(alloc: Global, bytes: &[u8]) -> Result<Bytes, AllocError> {
+    match Bytes::copy_from_slice(alloc, bytes) {
+        Ok(shared) => Ok(shared),
+        Err(_) => Bytes::copy_from_slice(alloc, bytes),
+    }
+}
+
 /// The chunks that are asked for, once more if memory ran out.
 fn served(alloc: Global, bytes: &[u8], indexes: &[u32]) -> Result<Vec<PeerMessage>, Refusal> {
-    match chunks_asked(alloc, bytes, an_id()?, NUMBER, indexes) {
+    let bytes = shared(alloc, bytes)?;
+    match chunks_asked(alloc, &bytes, an_id()?, NUMBER, indexes) {
         Ok(chunks) => Ok(chunks),
-        Err(_) => chunks_asked(alloc, bytes, an_id()?, NUMBER, indexes),
+        Err(_) => chunks_asked(alloc, &bytes, an_id()?, NUMBER, indexes),
     }
 }
 

@@ -12,4 +12,4 @@ pub returns-clause-ok : goal.returns-clause-ok
 returns-clause-ok c node beside contents mine h =
     let passed = ap (λ t. read_check t c.args.session c.args.id.now c.args.offset c.args.len) (sym c.copies.ensures.copies) ∙ sym c.read_check.ensures ∙ c.in_default.is in
     read_done node c.args.self.now beside contents c.args.session c.args.id.now c.args.offset mine h c.args.len passed c.in_ok-bytes.bytes
-    (c.in_ok-bytes.ensures ∙ c.part_of.ensures ∙ ap (λ bs. take c.args.len (drop c.args.offset bs)) (read_found node c.args.self.now beside contents c.args.session c.args.id.now c.args.offset mine h c.args.len passed c.bytes.result.now c.bytes.ensures))
+    (c.in_ok-bytes.ensures ∙ ap (λ bs. take c.args.len (drop c.args.offset bs)) (read_found node c.args.self.now beside contents c.args.session c.args.id.now c.args.offset mine h c.args.len passed c.lent.result.bytes.now c.lent.ensures.bytes))

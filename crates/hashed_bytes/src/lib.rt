@@ -1,0 +1,62 @@
+//! Bytes whose digest is known, and the digest of bytes for which it may be known.
+#![tactic(auto)]
+
+ghost use Rattle.std.specs.Prelude.{◌≡◌};
+ghost use Rattle.private_store.specs.Contents.{digest_of};
+
+use bytes::Bytes;
+use obj_id::Digest;
+use sha2::{Digest as _, Sha256};
+use std::marker::Model;
+
+/// Bytes with their SHA-256 digest (FIPS 180-4), which is computed when they are made. A contract sees the bytes alone.
+#[derive(Drop)]
+pub struct Hashed {
+    bytes: Bytes,
+    digest: Digest,
+}
+
+impl Model for Hashed {
+    ghost use Rattle.std.specs.Prelude.{ℕ, List, ◌≡◌};
+    ghost use Rattle.private_store.specs.Contents.{digest_of};
+
+    ghost Value = { List ℕ };
+
+    ghost view = { λ h. h.bytes };
+
+    ghost invariant = { λ h. h.digest ≡ digest_of h.bytes };
+}
+
+impl Hashed {
+    /// Hashes the bytes.
+    pub fn new(bytes: Bytes) -> Hashed
+        ensures { result ≡ bytes }
+    {
+        let digest = Digest(Sha256::digest(bytes.as_slice()));
+        Hashed { bytes, digest }
+    }
+
+    /// Their digest. Hashes nothing.
+    pub fn digest(&self) -> Digest
+        ensures { result ≡ digest_of self.now }
+    {
+        self.digest
+    }
+
+    /// The bytes, lent.
+    pub fn as_slice(&self) -> &[u8]
+        ensures { result.now ≡ self.now }
+    {
+        self.bytes.as_slice()
+    }
+}
+
+/// The digest of these bytes. If they are those of the hint they are only compared, and otherwise hashed.
+pub fn digest_by(bytes: &[u8], hint: Option<&Hashed>) -> Digest
+    ensures { result ≡ digest_of bytes.now }
+{
+    match hint {
+        Some(hashed) if hashed.as_slice() == bytes => hashed.digest(),
+        _ => Digest(Sha256::digest(bytes)),
+    }
+}

@@ -1,0 +1,40 @@
+use Rattle.std.proofs.Common.{◌≡◌, ◌≤◌, ◌+◌, ℕ, List, length, Option, Some, nat_eq, sym, ap, subst, ◌∙◌, arith}
+use Rattle.std.specs.Prelude.{IsSome, IsSomeAnd}
+use Rattle.std.specs.Map.{lookup}
+use Rattle.obj_id.specs.declared.works.Extent.{Extent}
+use Rattle.job_region.specs.Layout.{AreFilled, zipped}
+use Rattle.job_region.specs.Region.{Region, IsAt}
+use Rattle.job_region.proofs.Bisected.{laid_rising}
+use Rattle.job_region.proofs.Zipped.{some_of, room_in, size_of}
+use Rattle.job_region.proofs.Window.shared.Goals as goal
+
+pub buffer_at-buffer-requires-clause-rising : goal.buffer_at-buffer-requires-clause-rising
+buffer_at-buffer-requires-clause-rising c =
+    rw c.deref.ensures.value (laid_rising c.self.inside.quota 0 c.self.inside.extents.items c.self.invariant.laid)
+
+pub buffer_at-buffer-requires-clause-filled : goal.buffer_at-buffer-requires-clause-filled
+buffer_at-buffer-requires-clause-filled c =
+    rw c.deref.ensures.value c.self.invariant.filled
+
+pub buffer_at-buffer-requires-clause-there : goal.buffer_at-buffer-requires-clause-there
+buffer_at-buffer-requires-clause-there c =
+    let w = c.self.inside in
+    let placed = ap (λ (r : Region). r.placed) c.self.view_is in
+    let o = c.args.extent.now.offset in
+    rw c.deref.ensures.value (some_of _ (lookup (nat_eq o) (zipped w.extents.items w.buffers.items)) (subst (IsAt c.args.extent.now) (sym placed) c.requires))
+
+pub returns-clause-value : goal.returns-clause-value
+returns-clause-value c =
+    let w = c.self.inside in
+    let placed = ap (λ (r : Region). r.placed) c.self.view_is in
+    let o = c.args.extent.now.offset in
+    let found : lookup (nat_eq o) c.args.self.now.placed ≡ Some c.buffer_at-buffer.result.now =
+    ap (lookup (nat_eq o)) (sym placed)
+    ∙ ap (λ (es : List Extent). lookup (nat_eq o) (zipped es w.buffers.items)) (sym c.deref.ensures.value)
+    ∙ c.buffer_at-buffer.ensures in
+    found ∙ ap Some (sym c.in_ok-bytes.ensures)
+
+pub returns-clause-length : goal.returns-clause-length
+returns-clause-length c =
+    let found = returns-clause-value c in
+    subst (λ (o : Option (List ℕ)). IsSomeAnd o (λ bytes. length bytes ≡ c.args.extent.now.length)) found c.requires

@@ -1,0 +1,121 @@
+//! The bytes of an extent: its own while they are written, and shared once nobody writes them any more.
+ghost use Rattle.std.specs.Prelude.{◌≡◌, ◌+◌, ◌≤◌, ◌++◌, [], length, replicate, IfOk, IfSome, vec_len, vec_capacity};
+ghost use Rattle.private_store.specs.Contents.{overwritten};
+ghost use Rattle.job_region.specs.Layout.{IsKept};
+
+use crate::zeros::Zeros;
+use bytes::Bytes;
+use std::alloc::{AllocError, AllocFailed, Global};
+use std::marker::Model;
+use std::mem;
+
+/// Fewer bytes are copied and not shared: that takes less time than to count their owners, and less memory than the room for
+/// an own copy.
+const SHARED_FROM: usize = 32_768;
+
+/// The bytes of an extent. A contract sees these alone.
+#[derive(Drop)]
+pub(crate) struct Buffer {
+    // its own bytes; or none, and room for a copy of those that are shared, which nobody has touched
+    own: Vec<u8>,
+    // bytes that others may have too; or none
+    shared: Bytes,
+}
+
+impl Model for Buffer {
+    ghost use Rattle.std.specs.Prelude.{ℕ, List, ◌++◌, vec_len, vec_capacity};
+    ghost use Rattle.job_region.specs.Layout.{IsKept};
+
+    ghost Value = { List ℕ };
+
+    ghost view = { λ b. b.own.items ++ b.shared };
+
+    ghost invariant = { λ b. IsKept (vec_len b.own) (vec_capacity b.own) b.shared };
+}
+
+impl Buffer {
+    /// So many zeros: those that were made, if there are as many.
+    pub(crate) fn zeros(
+        made: Option<Zeros>,
+        alloc: Global,
+        len: usize,
+    ) -> Result<Buffer, AllocError>
+        ensures { IfOk result (λ b. b ≡ replicate len 0) }
+    {
+        Ok(Buffer {
+            own: Zeros::or_made(made, alloc, len)?,
+            shared: Bytes::new(),
+        })
+    }
+
+    /// The bytes, lent.
+    pub(crate) fn as_slice(&self) -> &[u8]
+        ensures { result.now ≡ self.now }
+    {
+        if self.shared.is_empty() {
+            return self.own.as_slice();
+        }
+        self.shared.as_slice()
+    }
+
+    /// Makes the bytes such as can be shared, and room for an own copy of them, if there is memory for it and they are not few.
+    pub(crate) fn freeze(&mut self, alloc: Global)
+        ensures { self.new ≡ self.old }
+    {
+        if !self.shared.is_empty() || self.own.len() < SHARED_FROM {
+            return;
+        }
+        let Ok(room) = Vec::with_capacity(alloc, self.own.len()) else {
+            return;
+        };
+        match Bytes::from_vec(mem::replace(&mut self.own, room)) {
+            Ok(shared) => self.shared = shared,
+            Err(AllocFailed { value: own }) => self.own = own,
+        }
+    }
+
+    /// The bytes without a copy, if they can be shared.
+    pub(crate) fn shared(&self) -> Option<Bytes>
+        ensures { IfSome result (λ bytes. bytes ≡ self.now) }
+    {
+        if self.shared.is_empty() {
+            return None;
+        }
+        self.shared.clone().ok()
+    }
+
+    /// The bytes become these, which others may have too. Copies none.
+    pub(crate) fn adopt(&mut self, alloc: Global, bytes: Bytes)
+        requires { length bytes ≡ length self.old }
+        ensures { self.new ≡ bytes }
+    {
+        // room that nobody has touched in place of what was written, if there is memory for it
+        match Vec::with_capacity(alloc, bytes.len()) {
+            Ok(room) => self.own = room,
+            Err(_) => self.own.clear(),
+        }
+        self.shared = bytes;
+    }
+
+    /// Writes bytes from an offset on. What others may have is copied before, into the room for it, and takes no memory.
+    pub(crate) fn write(&mut self, offset: usize, bytes: &[u8])
+        requires { offset + length bytes.now ≤ length self.old }
+        ensures { self.new ≡ overwritten self.old offset bytes.now }
+    {
+        unshare(&mut self.own, &mut self.shared);
+        self.own[offset..offset + bytes.len()].copy_from_slice(bytes);
+    }
+}
+
+/// Makes shared bytes a buffer's own, by a copy into the room for it. Takes no memory.
+fn unshare(own: &mut Vec<u8>, shared: &mut Bytes)
+    requires { IsKept (vec_len own.old) (vec_capacity own.old) shared.old }
+    ensures own { own.new.items ≡ own.old.items ++ shared.old }
+    ensures none { shared.new ≡ [] }
+{
+    if shared.is_empty() {
+        return;
+    }
+    own.extend_from_slice(shared.as_slice()).unwrap();
+    *shared = Bytes::new();
+}

@@ -1,0 +1,58 @@
+//! Zeros that are made ahead of the extent that they are for.
+ghost use Rattle.std.specs.Prelude.{◌≡◌, IfOk, vec_len, replicate};
+
+use private_store::rounded;
+use std::alloc::{AllocError, Global};
+use std::marker::Model;
+
+/// Zeros for an extent that is placed later. To make them takes as long as to write them, so it is done where nobody waits for
+/// the window. A contract sees how many there are.
+#[derive(Drop)]
+pub struct Zeros {
+    bytes: Vec<u8>,
+}
+
+impl Model for Zeros {
+    ghost use Rattle.std.specs.Prelude.{◌≡◌, ℕ, vec_len, replicate};
+
+    ghost Value = { ℕ };
+
+    ghost view = { λ z. vec_len z.bytes };
+
+    ghost invariant = { λ z. z.bytes.items ≡ replicate (vec_len z.bytes) 0 };
+}
+
+impl Zeros {
+    /// As many as the extent of an object of `len` bytes has.
+    pub fn for_object(alloc: Global, len: u32) -> Result<Zeros, AllocError> {
+        Ok(Zeros {
+            bytes: make_zeros(alloc, rounded(len) as usize)?,
+        })
+    }
+
+    /// So many zeros: these, if there are as many.
+    pub(crate) fn or_made(
+        made: Option<Zeros>,
+        alloc: Global,
+        len: usize,
+    ) -> Result<Vec<u8>, AllocError>
+        ensures { IfOk result (λ bytes. bytes.items ≡ replicate len 0) }
+    {
+        if let Some(made) = made {
+            let Zeros { bytes } = made;
+            if bytes.len() == len {
+                return Ok(bytes);
+            }
+        }
+        make_zeros(alloc, len)
+    }
+}
+
+/// So many zeros.
+fn make_zeros(alloc: Global, len: usize) -> Result<Vec<u8>, AllocError>
+    ensures { IfOk result (λ bytes. bytes.items ≡ replicate len 0) }
+{
+    let mut bytes = Vec::with_capacity(alloc, len)?;
+    bytes.resize(len, 0)?;
+    Ok(bytes)
+}

@@ -1,0 +1,64 @@
+//! What is prepared for a step before the node is locked. A contract sees nothing of it, since the step is the same without it.
+ghost use Rattle.std.specs.Prelude.{◌≡◌};
+
+use crate::Node;
+use bytes::Bytes;
+use node_table::Prepared;
+use obj_id::{Command, JobNo, ObjectId};
+
+impl Node {
+    /// Keeps what was prepared for the next step of the job, and gives back what was kept; or what it is given, if the job isn't
+    /// live.
+    pub fn prepare(&mut self, job: JobNo, prepared: Prepared) -> Prepared
+        ensures { self.new ≡ self.old }
+    {
+        match self.rows.get_mut(&job) {
+            Some(row) => row.prepare(prepared),
+            None => prepared,
+        }
+    }
+
+    /// Whether something would best be prepared for the job's command.
+    pub fn wants(&self, job: JobNo, command: &Command<Bytes>) -> bool {
+        match self.rows.get(&job) {
+            Some(row) => row.wants(command),
+            None => false,
+        }
+    }
+
+    /// How long the object is for which the job's command may place an extent, if that is long.
+    pub fn extent_wanted(&self, job: JobNo, command: &Command<Bytes>) -> Option<u32> {
+        self.rows.get(&job)?.extent_wanted(command)
+    }
+
+    /// The bytes of a copy of the job to be hashed, if they can be shared or are few.
+    pub fn share_copy(&mut self, job: JobNo, id: &ObjectId) -> Option<Bytes>
+        ensures { self.new ≡ self.old }
+    {
+        let alloc = self.alloc;
+        match self.rows.get_mut(&job) {
+            Some(row) => row.share_copy(alloc, id),
+            None => None,
+        }
+    }
+
+    /// How long the job's object is of which no chunk but this one is missing, if its fetch of this number would take it.
+    pub fn length_with_last(
+        &self,
+        job: JobNo,
+        from: u32,
+        id: &ObjectId,
+        number: u64,
+        index: u32,
+        len: usize,
+    ) -> Option<u32> {
+        self.rows
+            .get(&job)?
+            .length_with_last(from, id, number, index, len)
+    }
+
+    /// Bytes of a copy of the job: `len` from the offset on, or as many as there are.
+    pub fn copy_part(&self, job: JobNo, id: &ObjectId, offset: u32, len: u32) -> Option<Bytes> {
+        self.rows.get(&job)?.copy_part(self.alloc, id, offset, len)
+    }
+}

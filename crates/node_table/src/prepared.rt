@@ -1,0 +1,23 @@
+//! What is made for a step before its node is locked.
+use hashed_bytes::Hashed;
+use job_region::Zeros;
+
+/// What takes long, and is made for a step before its node is locked: whatever it is, and if it is missing, the step is the same,
+/// and only takes longer. So a contract sees nothing of it.
+#[derive(Drop)]
+pub struct Prepared {
+    /// For an extent that the step places.
+    pub zeros: Option<Zeros>,
+    /// Bytes of which the step wants the digest.
+    pub hashed: Option<Hashed>,
+}
+
+impl Prepared {
+    /// Nothing was made.
+    pub fn nothing() -> Prepared {
+        Prepared {
+            zeros: None,
+            hashed: None,
+        }
+    }
+}

@@ -1,0 +1,75 @@
+//! What a step of the row would want prepared, and what it may be made of. A contract sees nothing of it, since the step is the same
+//! without it.
+ghost use Rattle.std.specs.Prelude.{◌≡◌};
+
+use crate::row::JobRow;
+use bytes::Bytes;
+use obj_id::limits::MOST_BYTES;
+use obj_id::{Command, CopyState, ObjectId};
+use std::alloc::Global;
+
+/// From how many bytes on zeros are made before a step: fewer are made at once.
+const LONG: u32 = 65_536;
+
+impl JobRow {
+    /// Whether something would best be prepared for the command.
+    pub fn wants(&self, command: &Command<Bytes>) -> bool {
+        matches!(command, Command::Seal(_)) || self.extent_wanted(command).is_some()
+    }
+
+    /// How long the object is for which the command may place an extent, if that is long.
+    pub fn extent_wanted(&self, command: &Command<Bytes>) -> Option<u32> {
+        let len = match command {
+            Command::Create(_, _, len) => *len,
+            Command::Get(id) => self.length_to_come(id)?,
+            _ => return None,
+        };
+        if len < LONG || !self.window().may_have(len) {
+            return None;
+        }
+        Some(len)
+    }
+
+    /// How long a copy is that has no place yet.
+    fn length_to_come(&self, id: &ObjectId) -> Option<u32> {
+        let copy = self.copies().get(id)?;
+        match copy.state() {
+            CopyState::Away => Some(copy.length()),
+            CopyState::Fetching => Some(copy.fetch()?.length()),
+            CopyState::Created | CopyState::Sealed | CopyState::Restoring => None,
+        }
+    }
+
+    /// The bytes of a resident copy to be hashed, if they can be shared or are few.
+    pub fn share_copy(&mut self, alloc: Global, id: &ObjectId) -> Option<Bytes>
+        ensures { self.new ≡ self.old }
+    {
+        self.freeze(id);
+        let lent = self.lent(id);
+        if lent.shared.is_none() && lent.bytes.len() > MOST_BYTES {
+            return None;
+        }
+        lent.whole(alloc).ok()
+    }
+
+    /// How long the object is of which no chunk but this one is missing, if the fetch of this number would take it.
+    pub fn length_with_last(
+        &self,
+        from: u32,
+        id: &ObjectId,
+        number: u64,
+        index: u32,
+        len: usize,
+    ) -> Option<u32> {
+        let copy = self.copies().get(id)?;
+        if !copy.is_filled_by(number, from, index, len) || !copy.lacks_only(index) {
+            return None;
+        }
+        Some(copy.length())
+    }
+
+    /// Bytes of a resident copy: `len` from the offset on, or as many as there are.
+    pub fn copy_part(&self, alloc: Global, id: &ObjectId, offset: u32, len: u32) -> Option<Bytes> {
+        self.lent(id).part(alloc, offset, len).ok()
+    }
+}

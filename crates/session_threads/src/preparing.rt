@@ -1,0 +1,137 @@
+//! What takes long is done before a node is locked for the step that wants it: zeros are made, and bytes are hashed. Whatever
+//! becomes of them meanwhile, the step is the same.
+use crate::SharedNode;
+use bytes::Bytes;
+use hashed_bytes::Hashed;
+use job_region::Zeros;
+use node_core::Prepared;
+use node_journal::Posted;
+use obj_id::limits::CHUNK_SIZE;
+use obj_id::{Command, DeviceAnswer, JobNo, Message, ObjectId, PeerMessage, Place};
+use private_store::Event;
+use std::sync::Wait;
+use std::sync::ledger::Ledger;
+
+/// A chunk that arrives.
+#[derive(Clone, Copy)]
+struct Chunk<'a> {
+    from: u32,
+    id: &'a ObjectId,
+    number: u64,
+    index: u32,
+    bytes: &'a Bytes,
+}
+
+impl<L: Ledger> SharedNode<L> {
+    /// What the command of a session wants.
+    pub(crate) fn prepare_call<R: Wait>(
+        &self,
+        rt: &R,
+        job: JobNo,
+        command: &Command<Bytes>,
+    ) -> Prepared {
+        if let Command::Seal(id) = command {
+            return Prepared {
+                zeros: None,
+                hashed: self.hash_copy(rt, job, id),
+            };
+        }
+        Prepared {
+            zeros: self.zeros_for(rt, job, command),
+            hashed: None,
+        }
+    }
+
+    /// The bytes of a copy with their digest, which is computed while the node isn't locked.
+    fn hash_copy<R: Wait>(&self, rt: &R, job: JobNo, id: &ObjectId) -> Option<Hashed> {
+        let bytes = self.kept.lock(rt).share_copy(job, id)?;
+        Some(Hashed::new(bytes))
+    }
+
+    /// Zeros for the extent that the command may place.
+    fn zeros_for<R: Wait>(&self, rt: &R, job: JobNo, command: &Command<Bytes>) -> Option<Zeros> {
+        let len = self.kept.lock(rt).node().extent_wanted(job, command)?;
+        Zeros::for_object(self.upkeep.alloc, len).ok()
+    }
+
+    /// What a message that arrives wants: the last chunk of an object the digest of all its bytes.
+    pub(crate) fn prepare_arrival<R: Wait>(&self, rt: &R, posted: &Posted<L>) -> Prepared {
+        let hashed = match chunk_of(posted) {
+            Some(chunk) => self.hash_with_last(rt, posted.job(), &chunk),
+            None => None,
+        };
+        Prepared {
+            zeros: None,
+            hashed,
+        }
+    }
+
+    /// The bytes of the object of which no chunk but this one is missing, with their digest.
+    fn hash_with_last<R: Wait>(&self, rt: &R, job: JobNo, chunk: &Chunk<'_>) -> Option<Hashed> {
+        let len = self.kept.lock(rt).node().length_with_last(
+            job,
+            chunk.from,
+            chunk.id,
+            chunk.number,
+            chunk.index,
+            chunk.bytes.len(),
+        )?;
+        let mut whole = Vec::with_capacity(self.upkeep.alloc, len as usize).ok()?;
+        for index in 0..len.div_ceil(CHUNK_SIZE) {
+            let part = if index == chunk.index {
+                chunk.bytes.clone().ok()?
+            } else {
+                self.part_of_copy(rt, job, chunk.id, index)?
+            };
+            whole.extend_from_slice(part.as_slice()).ok()?;
+        }
+        Some(Hashed::new(Bytes::from_vec(whole).ok()?))
+    }
+
+    /// The bytes of the chunk of this index. The node is locked for these alone.
+    fn part_of_copy<R: Wait>(
+        &self,
+        rt: &R,
+        job: JobNo,
+        id: &ObjectId,
+        index: u32,
+    ) -> Option<Bytes> {
+        let offset = index.saturating_mul(CHUNK_SIZE);
+        self.kept
+            .lock(rt)
+            .node()
+            .copy_part(job, id, offset, CHUNK_SIZE)
+    }
+}
+
+/// What the Finish of a read wants, which is the digest of the bytes that were read, and the job whose it is.
+pub(crate) fn prepare_finish(event: &Event) -> (JobNo, Prepared) {
+    let Event::Finish(job, _, DeviceAnswer::Bytes(bytes)) = event else {
+        return (JobNo(0), Prepared::nothing());
+    };
+    let hashed = bytes.clone().ok().map(Hashed::new);
+    (
+        *job,
+        Prepared {
+            zeros: None,
+            hashed,
+        },
+    )
+}
+
+/// The chunk that the message is, if it is one.
+fn chunk_of<L: Ledger>(posted: &Posted<L>) -> Option<Chunk<'_>> {
+    let Place::Node(from) = posted.from() else {
+        return None;
+    };
+    let Message::ToPeer(PeerMessage::Chunk(id, number, index, bytes)) = posted.message() else {
+        return None;
+    };
+    Some(Chunk {
+        from,
+        id,
+        number: *number,
+        index: *index,
+        bytes,
+    })
+}
