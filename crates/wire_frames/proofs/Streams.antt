@@ -1,6 +1,6 @@
 -- A stream, frame by frame.
 use Rattle.std.proofs.Common.{◌≡◌, ℕ, ◌+◌, ◌-◌, ◌<◌, ◌≤◌, Bool, true, false, nat_lt, List, [], ◌∷◌, ◌++◌, length, take, drop, Option, Some, None, inl, inr, zero, suc, refl, sym, ap, subst, ◌∙◌, arith, length-append, length-drop}
-use Rattle.std.proofs.lemmas.Bool.{and_parts, le-ltb, leb-true, ltb-false, ltb-true}
+use Rattle.std.proofs.lemmas.Bool.{and_parts, le-ltb, leb-true, lt-ltb, ltb-false, ltb-true}
 use Rattle.std.specs.Prelude.{nat_le, slice_index}
 use Rattle.std.specs.Int.{from_be_bytes, w32}
 use Rattle.std.proofs.lemmas.List.{drop-append-le, take-append-le}
@@ -154,6 +154,16 @@ of_bytes : (bytes : List ℕ) (is_short : Bool) → nat_lt (length bytes) 4 ≡ 
 of_bytes bytes true h = cut (inl (ltb-true (length bytes) 4 h)) (stream_of-short bytes h)
 of_bytes bytes false h =
     of_long bytes (is_command_length (number_at bytes 0)) (nat_lt (length bytes) (4 + number_at bytes 0)) (ltb-false (length bytes) 4 h) refl refl
+
+-- no frame stands at the head of a part of one
+stream_of-beginning : (bytes : List ℕ) (is_short : Bool) → nat_lt (length bytes) 4 ≡ is_short → is_command_length (number_at bytes 0) ≡ true
+    → length bytes < 4 + number_at bytes 0 → stream_of bytes ≡ stopped bytes (cut_end bytes)
+stream_of-beginning bytes true h in_range short = stream_of-short bytes h
+stream_of-beginning bytes false h in_range short = stream_of-cut bytes (ltb-false (length bytes) 4 h) in_range (lt-ltb (length bytes) (4 + number_at bytes 0) short)
+
+pub stream_of-part : (bytes : List ℕ) → IsPart bytes → stream_of bytes ≡ stopped bytes (cut_end bytes)
+stream_of-part bytes (inl few) = stream_of-short bytes (lt-ltb (length bytes) 4 few)
+stream_of-part bytes (inr (in_range, short)) = stream_of-beginning bytes (nat_lt (length bytes) 4) refl in_range short
 
 pub head_of : (bytes : List ℕ) → HeadOf bytes
 head_of bytes = of_bytes bytes (nat_lt (length bytes) 4) refl

@@ -46,6 +46,11 @@ answer_at _ items = Ok items
 abbrev pub answer_of : Stream → Result (List Item) Refusal
 answer_of stream = answer_at stream.end stream.items
 
+-- whether a fault is answered
+abbrev pub is_fault : Result (List Item) Refusal → Bool
+is_fault (Err Malformed) = true
+is_fault _ = false
+
 -- an answered piece: what is answered, and what the reader keeps
 pub record Fed : Type 0 where
   pub answer : Result (List Item) Refusal

@@ -3,7 +3,7 @@ ghost use Rattle.std.specs.Prelude.{◌≡◌, ◌≤◌, ◌⊎◌, [], Ok, Err
 ghost use Rattle.obj_id.specs.declared.refusals.Refusal.TheVariants.{Malformed, NoMemory};
 ghost use Rattle.wire_frames.specs.Finishing.{IsCompleted, IsFilled, IsWholeFrame};
 ghost use Rattle.wire_frames.specs.Heads.{IsPart};
-ghost use Rattle.wire_frames.specs.Reading.{failed, unfinished, fed, fed_by, told, is_in_mid_frame};
+ghost use Rattle.wire_frames.specs.Reading.{failed, unfinished, fed, fed_by, told, is_fault, is_in_mid_frame};
 
 use crate::bodies::{Said, number_at};
 use crate::frames::{BEFORE_BODY, Frames, Head, is_command_length, read_frames, read_head};
@@ -82,6 +82,13 @@ impl Reader {
             return Err(Refusal::Malformed);
         }
         Ok(gain.items)
+    }
+
+    /// Whether a fault was met: then the next call of `feed` answers `Malformed`, also of an empty piece.
+    pub fn has_fault(&self) -> bool
+        ensures { result ≡ is_fault (fed self.now []).answer }
+    {
+        self.failed
     }
 
     /// Whether some bytes of a frame have come, and not all. True of a reader that has met a fault.
