@@ -1,7 +1,7 @@
 -- Runs one after another, and what is written of them.
 use Rattle.std.proofs.Common.{◌≡◌, ℕ, List, [], ◌∷◌, ◌++◌, Option, Result, Ok, Err, refl, sym, ap, subst, ◌∙◌, append_assoc, append-nil}
 use Rattle.std.specs.Prelude.{⊤, IsErrAnd}
-use Rattle.std.specs.Io.KnownBytes.{Appends}
+use Rattle.std.specs.Io.KnownBytes.{Appends, Keeps}
 use Rattle.std.proofs.lemmas.Grind.{flat_map-append}
 use Rattle.obj_id.specs.declared.commands.Reply.{Reply}
 use Rattle.private_store.specs.declared.frames.Item.{Item}
@@ -31,6 +31,9 @@ IsSent-then Read a b c p q h k = Appends-replies a b c p q h k
 IsSent-then Write a b c p q h k = tt
 IsSent-then Memory a b c p q h k = Appends-replies a b c p q h k
 
+Appends-after : (a b c : Option (List ℕ)) (bs : List ℕ) → Keeps a b → Appends b c bs → Appends a c bs
+Appends-after a b c bs k h = Appends-then a b c [] bs (Appends-kept a a b [] (Appends-none a) k) h
+
 -- ---- a fault that is passed on
 
 pub passed_on : {T : Type 0} (result : Result T SessionFault) (fault : SessionFault) → IsErrAnd result (λ e. e ≡ fault) → result ≡ Err fault
@@ -40,7 +43,7 @@ passed_on (Err e) fault h = ap Err h
 module _ {G : Type 0} (gives : G → Asked → Answered → G → Type 0) where
   -- ---- runs
 
-  Run-then : (xs : List Item) (p : List (Reply (List ℕ))) (ys : List Item) (q : List (Reply (List ℕ))) (g g1 g2 : G) (s s1 s2 : Option Seat)
+  pub Run-then : (xs : List Item) (p : List (Reply (List ℕ))) (ys : List Item) (q : List (Reply (List ℕ))) (g g1 g2 : G) (s s1 s2 : Option Seat)
       → Run gives xs p g s g1 s1 → Run gives ys q g1 s1 g2 s2 → Run gives (xs ++ ys) (p ++ q) g s g2 s2
   Run-then [] [] ys q g g1 g2 s s1 s2 h k = subst (λ at. Run gives ys q g at g2 s2) h.1 (subst (λ gate. Run gives ys q gate s1 g2 s2) h.0 k)
   Run-then [] (r ∷ p) ys q g g1 g2 s s1 s2 h k = absurd h
@@ -50,10 +53,6 @@ module _ {G : Type 0} (gives : G → Asked → Answered → G → Type 0) where
 
   Run-one : (x : Item) (r : Reply (List ℕ)) (g g1 : G) (s s1 : Option Seat) → AnswersItem gives g s x r g1 s1 → Run gives (x ∷ []) (r ∷ []) g s g1 s1
   Run-one x r g g1 s s1 h = record { gate = g1; seat_then = s1; first = h; others = (refl, refl) }
-
-  pub Run-same : (xs ys : List Item) (p : List (Reply (List ℕ))) (g g1 g2 : G) (s s1 s2 : Option Seat) → Run gives xs p g s g1 s1 → ys ≡ xs → g2 ≡ g1 → s2 ≡ s1 → Run gives ys p g s g2 s2
-  Run-same xs ys p g g1 g2 s s1 s2 h items gate seat =
-      subst (λ l. Run gives l p g s g2 s2) (sym items) (subst (λ at. Run gives xs p g s g2 at) (sym seat) (subst (λ at. Run gives xs p g s at s1) (sym gate) h))
 
   -- ---- answers that are written
 
@@ -123,20 +122,55 @@ module _ {G : Type 0} (gives : G → Asked → Answered → G → Type 0) where
   before_all : (fault : SessionFault) (xs : List Item) (a : Standing G) (w : Option (List ℕ)) → IsSent fault a.written w [] → StopsWithin gives fault xs a (standing a.gate a.seat w)
   before_all fault xs a w h = record { answered = []; waiting = xs; parted = refl; sent = []; unsent = []; run = (refl, refl); written = h }
 
-  -- no item is answered, since the fault came to something else
-  pub stopped_before : (fault : SessionFault) (xs : List Item) (r : Reply (List ℕ)) (a : Standing G) (w : Option (List ℕ)) → Sends r a.written w (Err fault) → StopsAnswering gives fault xs a (standing a.gate a.seat w)
-  stopped_before Read xs r a w h = h
-  stopped_before Write xs r a w h = before_all Write xs a w tt
-  stopped_before Memory xs r a w h = before_all Memory xs a w (Appends-kept a.written a.written w [] (Appends-none a.written) h)
-
   pub no_memory_before : (xs : List Item) (a : Standing G) → StopsWithin gives Memory xs a a
   no_memory_before xs a = before_all Memory xs a a.written (Appends-none a.written)
 
   -- all items are answered, and the answers may be kept back
-  pub stopped_after : (fault : SessionFault) (xs : List Item) (a b : Standing G) (w : Option (List ℕ)) → AnswersAll gives xs a b → Flushes b.written w (Err fault) → StopsAnswering gives fault xs a (standing b.gate b.seat w)
-  stopped_after Read xs a b w h k = k
-  stopped_after Write xs a b w h k = record { answered = xs; waiting = []; parted = sym (append-nil xs); sent = []; unsent = h.replies; run = h.run; written = tt }
-  stopped_after Memory xs a b w h k = absurd k
+  pub stopped_after : (fault : SessionFault) (xs : List Item) (a b : Standing G) (w w1 : Option (List ℕ)) → AnswersAll gives xs a b → Flushes w w1 (Err fault) → StopsAnswering gives fault xs a (standing b.gate b.seat w1)
+  stopped_after Read xs a b w w1 h k = k
+  stopped_after Write xs a b w w1 h k = record { answered = xs; waiting = []; parted = sym (append-nil xs); sent = []; unsent = h.replies; run = h.run; written = tt }
+  stopped_after Memory xs a b w w1 h k = absurd k
+
+  -- all items are answered, and one more reply may not be written
+  pub stopped_sending : (fault : SessionFault) (xs : List Item) (r : Reply (List ℕ)) (a b : Standing G) (w : Option (List ℕ)) → AnswersAll gives xs a b → Sends r b.written w (Err fault) → StopsAnswering gives fault xs a (standing b.gate b.seat w)
+  stopped_sending Read xs r a b w h k = k
+  stopped_sending Write xs r a b w h k = stopped_after Write xs a b w w h tt
+  stopped_sending Memory xs r a b w h k =
+      record {
+        answered = xs;
+        waiting = [];
+        parted = sym (append-nil xs);
+        sent = h.replies;
+        unsent = [];
+        run = subst (λ l. Run gives xs l a.gate a.seat b.gate b.seat) (sym (append-nil h.replies)) h.run;
+        written = Appends-kept a.written b.written w (replies_bytes h.replies) h.written k;
+      }
+
+  pub answered_kept : (xs : List Item) (a b : Standing G) (w : Option (List ℕ)) → AnswersAll gives xs a b → Keeps b.written w → AnswersAll gives xs a (standing b.gate b.seat w)
+  answered_kept xs a b w h k = record { replies = h.replies; run = h.run; written = Appends-kept a.written b.written w (replies_bytes h.replies) h.written k }
+
+  -- ---- answers before which the writer handed over what it kept back
+
+  pub answering_after : (xs : List Item) (g : G) (s : Option Seat) (w w1 : Option (List ℕ)) (b : Standing G) (result : Result ⊤ SessionFault)
+      → Keeps w w1 → Answering gives xs (standing g s w1) b result → Answering gives xs (standing g s w) b result
+  answering_after xs g s w w1 b (Ok u) k h = record { replies = h.replies; run = h.run; written = Appends-after w w1 b.written (replies_bytes h.replies) k h.written }
+  answering_after xs g s w w1 b (Err Read) k h = h
+  answering_after xs g s w w1 b (Err Write) k h = record { answered = h.answered; waiting = h.waiting; parted = h.parted; sent = h.sent; unsent = h.unsent; run = h.run; written = tt }
+  answering_after xs g s w w1 b (Err Memory) k h =
+      record {
+        answered = h.answered;
+        waiting = h.waiting;
+        parted = h.parted;
+        sent = h.sent;
+        unsent = h.unsent;
+        run = h.run;
+        written = Appends-after w w1 b.written (replies_bytes h.sent) k h.written;
+      }
+
+  pub stopped_at_flush : (fault : SessionFault) (xs : List Item) (a : Standing G) (w : Option (List ℕ)) → Flushes a.written w (Err fault) → StopsAnswering gives fault xs a (standing a.gate a.seat w)
+  stopped_at_flush Read xs a w h = h
+  stopped_at_flush Write xs a w h = before_all Write xs a w tt
+  stopped_at_flush Memory xs a w h = absurd h
 
   -- ---- the items so far
 

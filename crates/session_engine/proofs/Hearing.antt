@@ -1,15 +1,19 @@
 -- What a piece of the stream says, and what becomes of it.
-use Rattle.std.proofs.Common.{◌≡◌, ℕ, List, [], ◌∷◌, Option, Ok, Err, sym, ap, subst}
+use Rattle.std.proofs.Common.{◌≡◌, ℕ, true, List, [], ◌∷◌, Option, Result, Ok, Err, refl, sym, ap, subst}
+use Rattle.std.specs.Prelude.{⊤}
+use Rattle.std.specs.Io.KnownBytes.{Keeps}
+use Rattle.obj_id.specs.declared.refusals.Refusal.TheVariants.{Malformed as NotAFrame}
 use Rattle.private_store.specs.declared.frames.Item.{Item}
 use Rattle.private_store.specs.Frames.{End, clean, mid_frame, malformed}
-use Rattle.wire_frames.specs.Reading.{Reading, continued, answer_at, fed, told}
+use Rattle.private_store.proofs.KnownBytes.{Appends-kept}
+use Rattle.wire_frames.specs.Reading.{Reading, continued, answer_at, fed, is_fault, told}
+use Rattle.wire_frames.proofs.Faults.{fault_met}
 use Rattle.session_engine.specs.declared.ending.SessionFault.{SessionFault}
-use Rattle.session_engine.specs.declared.ending.SessionFault.TheVariants.{Read, Write, Memory}
 use Rattle.session_engine.specs.Calls.{Asked, Answered}
 use Rattle.session_engine.specs.Sessions.{Standing, standing}
 use Rattle.session_engine.specs.Serving.{AnswersAll, not_a_frame}
-use Rattle.session_engine.specs.Hearing.{Flushes, StopsAnswering, HearsPiece}
-use Rattle.session_engine.proofs.Answering.{stopped_before, stopped_after}
+use Rattle.session_engine.specs.Hearing.{Sends, Answering, AnswersPiece, HearsNoFrame}
+use Rattle.session_engine.proofs.Answering.{Appends-replies, Appends-reply, answered_none}
 
 answer_at-ok : (end : End) (xs ys : List Item) → answer_at end xs ≡ Ok ys → xs ≡ ys
 answer_at-ok clean xs ys h = cc
@@ -17,21 +21,40 @@ answer_at-ok mid_frame xs ys h = cc
 answer_at-ok malformed [] ys h = cc
 answer_at-ok malformed (x ∷ xs) ys h = cc
 
--- the items that are told are those that the stream goes on with
-pub told_items : (reading : Reading) (piece : List ℕ) (items : List Item) (new : Reading) → fed reading piece ≡ told (Ok items) new → (continued reading piece).items ≡ items
-told_items reading piece items new h = answer_at-ok (continued reading piece).end (continued reading piece).items items (ap (λ f. f.answer) h)
+-- a fault that is told has no items before it
+answer_at-fault : (end : End) (xs : List Item) → answer_at end xs ≡ Err NotAFrame → xs ≡ []
+answer_at-fault clean xs h = absurd (let f : ⊥ = cc in f)
+answer_at-fault mid_frame xs h = absurd (let f : ⊥ = cc in f)
+answer_at-fault malformed [] h = refl
+answer_at-fault malformed (x ∷ xs) h = absurd (let f : ⊥ = cc in f)
 
-module _ {G : Type 0} (gives : G → Asked → Answered → G → Type 0) where
-  module _ (reading : Reading) (piece : List ℕ) (new : Reading) (a b : Standing G) (items : List Item) (is_fed : fed reading piece ≡ told (Ok items) new) where
-    pub stops_in_items : (fault : SessionFault) → StopsAnswering gives fault items a b → HearsPiece gives reading piece new a b (Err fault)
-    stops_in_items fault h = subst (λ l. StopsAnswering gives fault l a b) (sym (told_items reading piece items new is_fed)) h
+module _ {G : Type 0} (gives : G → Asked → Answered → G → Type 0) (reading : Reading) (piece : List ℕ) where
+  module _ (a b : Standing G) (new : Reading) where
+    -- the items that are told are those that the stream goes on with
+    pub items_answered : (items : List Item) (result : Result ⊤ SessionFault) → fed reading piece ≡ told (Ok items) new → Answering gives items a b result → AnswersPiece gives reading piece a b new result
+    items_answered items (Ok u) is h =
+        let now = continued reading piece in
+        (sym (ap (λ f. f.reader) is), subst (λ l. AnswersAll gives l a b) (sym (answer_at-ok now.end now.items items (ap (λ f. f.answer) is))) h)
+    items_answered items (Err fault) is h =
+        let now = continued reading piece in
+        subst (λ l. Answering gives l a b (Err fault)) (sym (answer_at-ok now.end now.items items (ap (λ f. f.answer) is))) h
 
-    pub stops_behind_items : (w : Option (List ℕ)) (fault : SessionFault) → AnswersAll gives items a b → Flushes b.written w (Err fault) → HearsPiece gives reading piece new a (standing b.gate b.seat w) (Err fault)
-    stops_behind_items w fault h k =
-        subst (λ l. StopsAnswering gives fault l a (standing b.gate b.seat w)) (sym (told_items reading piece items new is_fed)) (stopped_after gives fault items a b w h k)
+  pub no_items_answered : (a : Standing G) (new : Reading) → fed reading piece ≡ told (Err NotAFrame) new → AnswersPiece gives reading piece a a new (Ok tt)
+  no_items_answered a new is =
+      let now = continued reading piece in
+      (sym (ap (λ f. f.reader) is), subst (λ l. AnswersAll gives l a a) (sym (answer_at-fault now.end now.items (ap (λ f. f.answer) is))) (answered_none gives a))
 
-  -- the refusal of the stream may be kept back
-  pub stops_behind_refusal : (items : List Item) (a : Standing G) (w w1 : Option (List ℕ)) (fault : SessionFault) → Flushes w w1 (Err fault) → StopsAnswering gives fault items a (standing a.gate a.seat w1)
-  stops_behind_refusal items a w w1 Read h = h
-  stops_behind_refusal items a w w1 Write h = stopped_before gives Write items not_a_frame a w1 tt
-  stops_behind_refusal items a w w1 Memory h = absurd h
+  module _ (a b : Standing G) (new : Reading) (answered : AnswersPiece gives reading piece a b new (Ok tt)) where
+    pub no_frame_heard : (w w1 : Option (List ℕ)) → is_fault (fed new []).answer ≡ true → Sends not_a_frame b.written w (Ok tt) → Keeps w w1 → HearsNoFrame gives reading piece a (standing b.gate b.seat w1)
+    no_frame_heard w w1 faulty sent k =
+        let replies = answered.1.replies in
+        record {
+          faulty = fault_met reading piece (subst (λ at. is_fault (fed at []).answer ≡ true) answered.0 faulty);
+          concluded = record {
+            replies = replies;
+            run = answered.1.run;
+            written =
+                Appends-kept a.written w w1 _
+                (Appends-replies a.written b.written w replies (not_a_frame ∷ []) answered.1.written (Appends-reply b.written w not_a_frame sent)) k;
+          };
+        }

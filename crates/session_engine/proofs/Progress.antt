@@ -1,12 +1,10 @@
 -- A session so far, and how it ends.
-use Rattle.std.proofs.Common.{◌≡◌, ◌≢◌, ℕ, Bool, true, false, List, [], ◌∷◌, ◌++◌, Option, IfSome, Ok, Err, refl, sym, ap, subst, ◌∙◌, append-nil}
+use Rattle.std.proofs.Common.{◌≡◌, ◌≢◌, ℕ, Bool, true, false, List, [], ◌∷◌, ◌++◌, Option, IfSome, Ok, Err, refl, sym, ap, subst, ◌∙◌, append-nil, append_assoc}
 use Rattle.std.specs.Prelude.{if◌then◌else◌}
-use Rattle.std.specs.Io.KnownBytes.{Consumes, IsAtEnd}
-use Rattle.std.proofs.lemmas.List.{append_cancel_left}
-use Rattle.obj_id.specs.declared.refusals.Refusal.TheVariants.{Malformed as NotAFrame}
+use Rattle.std.specs.Io.KnownBytes.{Appends, Consumes, IsAtEnd}
 use Rattle.private_store.specs.declared.frames.Item.{Item}
-use Rattle.private_store.specs.Frames.{End, clean, mid_frame, malformed, stream_of}
-use Rattle.wire_frames.specs.Reading.{Reading, unfinished, continued, answer_at, fed, told, is_in_mid_frame, reading_at, reading_after}
+use Rattle.private_store.specs.Frames.{End, clean, mid_frame, malformed, replies_bytes, stream_of}
+use Rattle.wire_frames.specs.Reading.{Reading, unfinished, continued, is_in_mid_frame, reading_at, reading_after}
 use Rattle.wire_frames.proofs.Pieces.{onward_at, stream_of-append}
 use Rattle.session_engine.specs.declared.ending.Ended.{Ended}
 use Rattle.session_engine.specs.declared.ending.Ended.TheVariants.{Clean, MidFrame, Malformed}
@@ -19,9 +17,8 @@ use Rattle.session_engine.specs.Sessions.{Standing}
 use Rattle.session_engine.specs.Serving.{AnswersAll, Concludes, EndsIn, AnswersInput, not_a_frame}
 use Rattle.session_engine.specs.Hearing.{StopsAnswering, Hears, HearsNoFrame, HearsPiece}
 use Rattle.private_store.proofs.KnownBytes.{Consumes-none, Consumes-then, Consumes-all}
-use Rattle.session_engine.proofs.Answering.{Appends-replies, Appends-reply, Run-same, answered_none, answered_then, stopped_then, no_memory_before}
+use Rattle.session_engine.proofs.Answering.{Appends-replies, Run-then, answered_none, answered_then, stopped_then, no_memory_before}
 use Rattle.session_engine.proofs.Ends.{IsRest, rest_of_stream}
-use Rattle.session_engine.proofs.Hearing.{told_items}
 
 -- what a stream says that goes on
 pub record GoesOn (bytes piece : List ℕ) : Type 0 where
@@ -54,37 +51,6 @@ goes_on bytes piece =
       reading = ap reading_after on ∙ onward_reading s.end s.items s.rest piece;
     }
 
--- ---- a piece with nothing in it
-
--- it gives no items, and the stream has no fault
-end_told : (end : End) (xs ys : List Item) → xs ≡ [] → answer_at end xs ≡ Ok ys → end ≢ malformed
-end_told clean xs ys n h = λ e. cc
-end_told mid_frame xs ys n h = λ e. cc
-end_told malformed [] ys n h = cc
-end_told malformed (x ∷ xs) ys n h = cc
-
-no_items : (bytes : List ℕ) → (continued (reading_after (stream_of bytes)) []).items ≡ []
-no_items bytes =
-    append_cancel_left (stream_of bytes).items (continued (reading_after (stream_of bytes)) []).items []
-    (sym (goes_on bytes []).items ∙ ap (λ l. (stream_of l).items) (append-nil bytes) ∙ sym (append-nil (stream_of bytes).items))
-
-no_fault : (bytes : List ℕ) (items : List Item) (new : Reading) → fed (reading_after (stream_of bytes)) [] ≡ told (Ok items) new → (stream_of (bytes ++ [])).end ≢ malformed
-no_fault bytes items new is_fed =
-    subst (λ e. e ≢ malformed) (sym (goes_on bytes []).end)
-    (end_told (continued (reading_after (stream_of bytes)) []).end (continued (reading_after (stream_of bytes)) []).items items (no_items bytes) (ap (λ f. f.answer) is_fed))
-
--- a fault that is told has no items before it
-fault_items : (end : End) (xs : List Item) → answer_at end xs ≡ Err NotAFrame → xs ≡ []
-fault_items clean xs h = absurd (let f : ⊥ = cc in f)
-fault_items mid_frame xs h = absurd (let f : ⊥ = cc in f)
-fault_items malformed [] h = refl
-fault_items malformed (x ∷ xs) h = absurd (let f : ⊥ = cc in f)
-
-fault_end : (end : End) (xs : List Item) → answer_at end xs ≡ Err NotAFrame → end ≡ malformed
-fault_end clean xs h = absurd (let f : ⊥ = cc in f)
-fault_end mid_frame xs h = absurd (let f : ⊥ = cc in f)
-fault_end malformed xs h = refl
-
 -- the end by what the reader keeps
 ended_in : (end : End) (rest : List ℕ) (input : Option (List ℕ)) (bytes : List ℕ) → (stream_of bytes).end ≡ end → (stream_of bytes).rest ≡ rest → end ≢ malformed → IsRest end rest → IfSome input (λ all. all ≡ bytes)
     → EndsIn (if is_in_mid_frame (reading_at end rest) then MidFrame else Clean) bytes input
@@ -99,6 +65,17 @@ concluded : {G : Type 0} (gives : G → Asked → Answered → G → Type 0) (xs
 concluded gives xs a b true h = record { replies = h.replies; run = h.run; written = h.written }
 concluded gives xs a b false h = record { replies = h.replies; run = h.run; written = h.written }
 
+-- more is answered, and then a fault of the stream
+concluded_then : {G : Type 0} (gives : G → Asked → Answered → G → Type 0) (xs ys : List Item) (a b c : Standing G) → AnswersAll gives xs a b → Concludes gives Malformed ys b c → Concludes gives Malformed (xs ++ ys) a c
+concluded_then gives xs ys a b c h k =
+    record {
+      replies = h.replies ++ k.replies;
+      run = Run-then gives xs h.replies ys k.replies a.gate b.gate c.gate a.seat b.seat c.seat h.run k.run;
+      written =
+          subst (λ l. Appends a.written c.written (replies_bytes l)) (sym (append_assoc h.replies k.replies (not_a_frame ∷ [])))
+          (Appends-replies a.written b.written c.written h.replies (k.replies ++ not_a_frame ∷ []) h.written k.written);
+    }
+
 -- ---- a session so far
 
 module _ {G : Type 0} (gives : G → Asked → Answered → G → Type 0) (r : Option (List ℕ)) (a : Standing G) where
@@ -106,116 +83,80 @@ module _ {G : Type 0} (gives : G → Asked → Answered → G → Type 0) (r : O
     pub bytes : List ℕ
     pub consumed : Consumes r r1 bytes
     pub reading : reading_after (stream_of bytes) ≡ frames
+    pub sound : (stream_of bytes).end ≢ malformed
     pub answered : AnswersAll gives (stream_of bytes).items a b
 
   pub begun : Progress (unfinished []) r a
-  begun = record { bytes = []; consumed = Consumes-none r; reading = refl; answered = answered_none gives a }
+  begun = record { bytes = []; consumed = Consumes-none r; reading = refl; sound = λ e. cc; answered = answered_none gives a }
 
   pub no_buffer : AnswersInput gives a a r r (Err Memory)
   no_buffer = record { bytes = []; consumed = Consumes-none r; outcome = no_memory_before gives [] a }
 
+  -- the input is at its end, and all of it is answered
+  input_ended : (frames : Reading) (r1 : Option (List ℕ)) (b : Standing G) → Progress frames r1 b → IsAtEnd r1 → (ended : Ended) → ended ≡ (if is_in_mid_frame frames then MidFrame else Clean) → AnswersInput gives a b r r1 (Ok ended)
+  input_ended frames r1 b so_far end ended is =
+      let stream = stream_of so_far.bytes in
+      subst (λ e. AnswersInput gives a b r r1 (Ok e)) (sym (is ∙ ap (λ at. if is_in_mid_frame at then MidFrame else Clean) (sym so_far.reading)))
+      (record {
+        bytes = so_far.bytes;
+        consumed = so_far.consumed;
+        outcome = (
+          ended_in stream.end stream.rest r so_far.bytes refl refl so_far.sound (rest_of_stream so_far.bytes) (Consumes-all r r1 so_far.bytes so_far.consumed end),
+          concluded gives stream.items a b (is_in_mid_frame (reading_at stream.end stream.rest)) so_far.answered,
+        );
+      })
+
   module _ (frames : Reading) (r1 : Option (List ℕ)) (b : Standing G) (so_far : Progress frames r1 b) where
-    module _ (r2 : Option (List ℕ)) (c : Standing G) (frames2 : Reading) (piece : List ℕ) (read : Consumes r1 r2 piece) where
+    module _ (r2 : Option (List ℕ)) (c : Standing G) (piece : List ℕ) (read : Consumes r1 r2 piece) where
       consumed_on : Consumes r r2 (so_far.bytes ++ piece)
       consumed_on = Consumes-then r r1 r2 so_far.bytes piece so_far.consumed read
 
-      items_on : (items : List Item) → (continued frames piece).items ≡ items → (stream_of (so_far.bytes ++ piece)).items ≡ (stream_of so_far.bytes).items ++ items
-      items_on items h = (goes_on so_far.bytes piece).items ∙ ap (λ l. (stream_of so_far.bytes).items ++ l) (ap (λ at. (continued at piece).items) so_far.reading ∙ h)
+      items_on : (stream_of (so_far.bytes ++ piece)).items ≡ (stream_of so_far.bytes).items ++ (continued frames piece).items
+      items_on = (goes_on so_far.bytes piece).items ∙ ap (λ at. (stream_of so_far.bytes).items ++ (continued at piece).items) so_far.reading
 
-      heard_items : Hears gives frames piece frames2 b c → Progress frames2 r2 c
-      heard_items hears =
+      end_on : (stream_of (so_far.bytes ++ piece)).end ≡ (continued frames piece).end
+      end_on = (goes_on so_far.bytes piece).end ∙ ap (λ at. (continued at piece).end) so_far.reading
+
+      items_heard : (frames2 : Reading) → Hears gives frames piece b c frames2 → Progress frames2 r2 c
+      items_heard frames2 hears =
           record {
             bytes = so_far.bytes ++ piece;
             consumed = consumed_on;
-            reading = (goes_on so_far.bytes piece).reading ∙ ap (λ at. reading_after (continued at piece)) so_far.reading ∙ ap (λ f. f.reader) hears.is_fed;
+            reading = (goes_on so_far.bytes piece).reading ∙ ap (λ at. reading_after (continued at piece)) so_far.reading ∙ sym hears.kept;
+            sound = subst (λ e. e ≢ malformed) (sym end_on) hears.sound;
             answered =
-                subst (λ l. AnswersAll gives l a c) (sym (items_on hears.items (told_items frames piece hears.items frames2 hears.is_fed)))
-                (answered_then gives (stream_of so_far.bytes).items hears.items a b c so_far.answered hears.answered);
+                subst (λ l. AnswersAll gives l a c) (sym items_on)
+                (answered_then gives (stream_of so_far.bytes).items (continued frames piece).items a b c so_far.answered hears.answered);
           }
 
-      heard : (what : Heard) → what ≡ Items → HearsPiece gives frames piece frames2 b c (Ok what) → Progress frames2 r2 c
-      heard Items is hears = heard_items hears
-      heard NoFrame is hears = absurd (let f : ⊥ = cc in f)
+      no_frame_heard : HearsNoFrame gives frames piece b c → AnswersInput gives a c r r2 (Ok Malformed)
+      no_frame_heard hears =
+          record {
+            bytes = so_far.bytes ++ piece;
+            consumed = consumed_on;
+            outcome = (
+              end_on ∙ hears.faulty,
+              subst (λ l. Concludes gives Malformed l a c) (sym items_on)
+                  (concluded_then gives (stream_of so_far.bytes).items (continued frames piece).items a b c so_far.answered hears.concluded),
+            );
+          }
+
+      module _ (frames2 : Reading) (what : Heard) (hears : HearsPiece gives frames piece b c frames2 (Ok what)) where
+        pub heard : what ≡ Items → Progress frames2 r2 c
+        heard is = items_heard frames2 (subst (λ w. HearsPiece gives frames piece b c frames2 (Ok w)) is hears)
+
+        pub heard_last : what ≡ Items → IsAtEnd r2 → (ended : Ended) → ended ≡ (if is_in_mid_frame frames2 then MidFrame else Clean) → AnswersInput gives a c r r2 (Ok ended)
+        heard_last is end ended ends = input_ended frames2 r2 c (heard is) end ended ends
+
+        pub heard_no_frame : what ≡ NoFrame → AnswersInput gives a c r r2 (Ok Malformed)
+        heard_no_frame is = no_frame_heard (subst (λ w. HearsPiece gives frames piece b c frames2 (Ok w)) is hears)
 
       stopped : (fault : SessionFault) → StopsAnswering gives fault (continued frames piece).items b c → StopsAnswering gives fault (stream_of (so_far.bytes ++ piece)).items a c
       stopped fault stops =
-          subst (λ l. StopsAnswering gives fault l a c) (sym (items_on (continued frames piece).items refl))
+          subst (λ l. StopsAnswering gives fault l a c) (sym items_on)
           (stopped_then gives fault (stream_of so_far.bytes).items (continued frames piece).items a b c so_far.answered stops)
 
       pub hearing_stopped : (fault : SessionFault) → StopsAnswering gives fault (continued frames piece).items b c → AnswersInput gives a c r r2 (Err fault)
       hearing_stopped Read stops = absurd stops
       hearing_stopped Write stops = record { bytes = so_far.bytes ++ piece; consumed = consumed_on; outcome = stopped Write stops }
       hearing_stopped Memory stops = record { bytes = so_far.bytes ++ piece; consumed = consumed_on; outcome = stopped Memory stops }
-
-      no_frame_told : HearsNoFrame gives frames piece frames2 b c → AnswersInput gives a c r r2 (Ok Malformed)
-      no_frame_told hears =
-          let now = continued frames piece in
-          let before = (stream_of so_far.bytes).items in
-          let replies = so_far.answered.replies in
-          let none : now.items ≡ [] = fault_items now.end now.items (ap (λ f. f.answer) hears.is_fed) in
-          record {
-            bytes = so_far.bytes ++ piece;
-            consumed = consumed_on;
-            outcome = (
-              (goes_on so_far.bytes piece).end ∙ ap (λ at. (continued at piece).end) so_far.reading ∙ fault_end now.end now.items (ap (λ f. f.answer) hears.is_fed),
-              record {
-                replies = replies;
-                run =
-                    Run-same gives before (stream_of (so_far.bytes ++ piece)).items replies a.gate b.gate c.gate a.seat b.seat c.seat
-                    so_far.answered.run (items_on [] none ∙ append-nil before) hears.gate hears.seat;
-                written = Appends-replies a.written b.written c.written replies (not_a_frame ∷ []) so_far.answered.written (Appends-reply b.written c.written not_a_frame hears.written);
-              },
-            );
-          }
-
-      pub no_frame_heard : (what : Heard) → what ≡ NoFrame → HearsPiece gives frames piece frames2 b c (Ok what) → AnswersInput gives a c r r2 (Ok Malformed)
-      no_frame_heard Items is hears = absurd (let f : ⊥ = cc in f)
-      no_frame_heard NoFrame is hears = no_frame_told hears
-
-    module _ (c : Standing G) (frames2 : Reading) (hears : Hears gives frames [] frames2 b c) (end : IsAtEnd r1) where
-      last : Progress frames2 r1 c
-      last = heard_items r1 c frames2 [] (Consumes-none r1) hears
-
-      told_at_last : fed (reading_after (stream_of so_far.bytes)) [] ≡ told (Ok hears.items) frames2
-      told_at_last = ap (λ at. fed at []) so_far.reading ∙ hears.is_fed
-
-      last_ended : (ended : Ended) → ended ≡ (if is_in_mid_frame frames2 then MidFrame else Clean) → AnswersInput gives a c r r1 (Ok ended)
-      unfolding last heard_items
-      last_ended ended is =
-          let all = so_far.bytes ++ [] in
-          let stream = stream_of all in
-          subst (λ e. AnswersInput gives a c r r1 (Ok e)) (sym (is ∙ ap (λ at. if is_in_mid_frame at then MidFrame else Clean) (sym last.reading)))
-          (record {
-            bytes = all;
-            consumed = last.consumed;
-            outcome = (
-              ended_in stream.end stream.rest r all refl refl (no_fault so_far.bytes hears.items frames2 told_at_last) (rest_of_stream all) (Consumes-all r r1 all last.consumed end),
-              concluded gives stream.items a c (is_in_mid_frame (reading_at stream.end stream.rest)) last.answered,
-            );
-          })
-
-    -- nothing is left to read, and nothing waits to be told
-    input_ended : (c : Standing G) (frames2 : Reading) (what : Heard) → what ≡ Items → HearsPiece gives frames [] frames2 b c (Ok what) → IsAtEnd r1
-        → (ended : Ended) → ended ≡ (if is_in_mid_frame frames2 then MidFrame else Clean) → AnswersInput gives a c r r1 (Ok ended)
-    input_ended c frames2 Items is hears end ended ends = last_ended c frames2 hears end ended ends
-    input_ended c frames2 NoFrame is hears end ended ends = absurd (let f : ⊥ = cc in f)
-
-  -- the piece is heard, and then what waits after its items
-  module _ (frames : Reading) (r1 : Option (List ℕ)) (b : Standing G) (so_far : Progress frames r1 b) (r2 : Option (List ℕ)) (c : Standing G) (frames2 : Reading) (piece : List ℕ) (read : Consumes r1 r2 piece)
-      (what : Heard) (is : what ≡ Items) (hears : HearsPiece gives frames piece frames2 b c (Ok what)) (d : Standing G) (frames3 : Reading) where
-    once : Progress frames2 r2 c
-    once = heard frames r1 b so_far r2 c frames2 piece read what is hears
-
-    pub then_stopped : (fault : SessionFault) → StopsAnswering gives fault (continued frames2 []).items c d → AnswersInput gives a d r r2 (Err fault)
-    then_stopped fault stops = hearing_stopped frames2 r2 c once r2 d frames3 [] (Consumes-none r2) fault stops
-
-    module _ (next : Heard) where
-      pub then_no_frame : next ≡ NoFrame → HearsPiece gives frames2 [] frames3 c d (Ok next) → AnswersInput gives a d r r2 (Ok Malformed)
-      then_no_frame none again = no_frame_heard frames2 r2 c once r2 d frames3 [] (Consumes-none r2) next none again
-
-      pub then_heard : next ≡ Items → HearsPiece gives frames2 [] frames3 c d (Ok next) → Progress frames3 r2 d
-      then_heard some again = heard frames2 r2 c once r2 d frames3 [] (Consumes-none r2) next some again
-
-      pub then_ended : next ≡ Items → HearsPiece gives frames2 [] frames3 c d (Ok next) → IsAtEnd r2
-          → (ended : Ended) → ended ≡ (if is_in_mid_frame frames3 then MidFrame else Clean) → AnswersInput gives a d r r2 (Ok ended)
-      then_ended some again end ended ends = input_ended frames2 r2 c once d frames3 next some again end ended ends

@@ -1,18 +1,25 @@
 -- What becomes of a piece of the input, and of its items.
-use Rattle.std.specs.Prelude.{◌≡◌, ℕ, List, Option, Result, Ok, Err, ⊤}
+use Rattle.std.specs.Prelude.{◌≡◌, ◌≢◌, ℕ, List, Option, Result, Ok, Err, ⊤}
 use Rattle.std.specs.Io.KnownBytes.{Keeps, Appends}
-use Rattle.obj_id.specs.declared.refusals.Refusal.TheVariants as refusal
 use Rattle.obj_id.specs.declared.commands.Reply.{Reply}
 use Rattle.private_store.specs.declared.frames.Item.{Item}
-use Rattle.private_store.specs.Frames.{reply_frame}
-use Rattle.wire_frames.specs.Reading.{Reading, continued, fed, told}
+use Rattle.private_store.specs.Frames.{malformed, reply_frame}
+use Rattle.wire_frames.specs.Reading.{Reading, continued, reading_after}
+use Rattle.session_engine.specs.declared.ending.Ended.TheVariants.{Malformed}
 use Rattle.session_engine.specs.declared.ending.SessionFault.{SessionFault}
 use Rattle.session_engine.specs.declared.ending.SessionFault.TheVariants.{Read, Write, Memory}
 use Rattle.session_engine.specs.declared.serving.Heard.{Heard}
 use Rattle.session_engine.specs.declared.serving.Heard.TheVariants.{Items, NoFrame}
 use Rattle.session_engine.specs.Calls.{Asked, Answered}
 use Rattle.session_engine.specs.Sessions.{Standing}
-use Rattle.session_engine.specs.Serving.{not_a_frame, AnswersAll, StopsWithin}
+use Rattle.session_engine.specs.Serving.{AnswersAll, Concludes, StopsWithin}
+
+-- bytes are written, or writing failed
+abbrev pub Writes : List ℕ → Option (List ℕ) → Option (List ℕ) → Result ⊤ SessionFault → Type 0
+Writes bytes written_old written_new (Ok u) = Appends written_old written_new bytes
+Writes bytes written_old written_new (Err Read) = ⊥
+Writes bytes written_old written_new (Err Write) = ⊤
+Writes bytes written_old written_new (Err Memory) = ⊥
 
 -- a reply is written; where it isn't, writing failed or nothing went out
 abbrev pub Sends : Reply (List ℕ) → Option (List ℕ) → Option (List ℕ) → Result ⊤ SessionFault → Type 0
@@ -40,21 +47,24 @@ module _ {G : Type 0} (gives : G → Asked → Answered → G → Type 0) where
   Answering items old new (Ok u) = AnswersAll gives items old new
   Answering items old new (Err fault) = StopsAnswering fault items old new
 
-  -- what a piece says is answered
-  pub record Hears (reading_old : Reading) (piece : List ℕ) (reading_new : Reading) (old new : Standing G) : Type 0 where
-    pub items : List Item
-    pub is_fed : fed reading_old piece ≡ told (Ok items) reading_new
-    pub answered : AnswersAll gives items old new
+  -- what becomes of the items of a piece, and what the reader keeps
+  abbrev pub AnswersPiece : Reading → List ℕ → Standing G → Standing G → Reading → Result ⊤ SessionFault → Type 0
+  AnswersPiece reading piece old new reading_new (Ok u) = (reading_new ≡ reading_after (continued reading piece)) × AnswersAll gives (continued reading piece).items old new
+  AnswersPiece reading piece old new reading_new (Err fault) = StopsAnswering fault (continued reading piece).items old new
 
-  -- a fault of the stream is answered
-  pub record HearsNoFrame (reading_old : Reading) (piece : List ℕ) (reading_new : Reading) (old new : Standing G) : Type 0 where
-    pub is_fed : fed reading_old piece ≡ told (Err refusal.Malformed) reading_new
-    pub gate : new.gate ≡ old.gate
-    pub seat : new.seat ≡ old.seat
-    pub written : Appends old.written new.written (reply_frame not_a_frame)
+  -- what a piece says is answered, and the stream has no fault
+  pub record Hears (reading : Reading) (piece : List ℕ) (old new : Standing G) (reading_new : Reading) : Type 0 where
+    pub kept : reading_new ≡ reading_after (continued reading piece)
+    pub sound : (continued reading piece).end ≢ malformed
+    pub answered : AnswersAll gives (continued reading piece).items old new
+
+  -- what a piece says is answered, and then a fault of the stream
+  pub record HearsNoFrame (reading : Reading) (piece : List ℕ) (old new : Standing G) : Type 0 where
+    pub faulty : (continued reading piece).end ≡ malformed
+    pub concluded : Concludes gives Malformed (continued reading piece).items old new
 
   -- what becomes of a piece
-  abbrev pub HearsPiece : Reading → List ℕ → Reading → Standing G → Standing G → Result Heard SessionFault → Type 0
-  HearsPiece reading_old piece reading_new old new (Ok Items) = Hears reading_old piece reading_new old new
-  HearsPiece reading_old piece reading_new old new (Ok NoFrame) = HearsNoFrame reading_old piece reading_new old new
-  HearsPiece reading_old piece reading_new old new (Err fault) = StopsAnswering fault (continued reading_old piece).items old new
+  abbrev pub HearsPiece : Reading → List ℕ → Standing G → Standing G → Reading → Result Heard SessionFault → Type 0
+  HearsPiece reading piece old new reading_new (Ok Items) = Hears reading piece old new reading_new
+  HearsPiece reading piece old new reading_new (Ok NoFrame) = HearsNoFrame reading piece old new
+  HearsPiece reading piece old new reading_new (Err fault) = StopsAnswering fault (continued reading piece).items old new

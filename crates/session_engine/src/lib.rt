@@ -5,6 +5,7 @@
 mod ending;
 mod faulty;
 mod gate;
+mod sending;
 mod serving;
 mod session;
 

@@ -1,11 +1,11 @@
 //! A session from its first byte to its last.
-ghost use Rattle.std.specs.Prelude.{◌≡◌, ◌<◌, [], ◌∷◌, length, IsTrue, if◌then◌else◌};
+ghost use Rattle.std.specs.Prelude.{◌≡◌, ◌<◌, [], ◌∷◌, length, if◌then◌else◌};
 ghost use Rattle.wire_frames.specs.Reading.{is_in_mid_frame};
-ghost use Rattle.wire_frames.specs.Writing.{has_reply_frame};
-ghost use Rattle.session_engine.specs.Hearing.{Sends, Flushes, Answering, HearsPiece};
+ghost use Rattle.session_engine.specs.Hearing.{Answering, AnswersPiece, HearsPiece};
 ghost use Rattle.session_engine.specs.Serving.{AnswersInput, Served};
 ghost use Rattle.session_engine.specs.Sessions.{standing};
 
+use crate::sending::{flush, flush_before, send};
 use crate::session::{Seat, answer, leave};
 use crate::{Ended, Gate, SessionFault};
 use bytes::Bytes;
@@ -13,7 +13,7 @@ use obj_id::{Refusal, Reply};
 use private_store::Item;
 use std::alloc::Global;
 use std::io::{Read, Write};
-use wire_frames::{Reader, encode_reply};
+use wire_frames::Reader;
 
 /// How many bytes are read at once, at most.
 const PIECE_SIZE: usize = 65_536;
@@ -21,9 +21,9 @@ const PIECE_SIZE: usize = 65_536;
 /// What was heard in a piece of the input.
 #[derive(Clone, Copy, Debug)]
 pub enum Heard {
-    /// Items, or none.
+    /// Items, or none, and no fault of the stream.
     Items,
-    /// What isn't a frame.
+    /// What isn't a frame, after items or none.
     NoFrame,
 }
 
@@ -33,6 +33,9 @@ pub enum Heard {
 /// Before an accepted Hello a command is answered `NotAdmitted`, after it a Hello `Exists`. An invalid id
 /// is always answered `BadId`, and everything else is answered by the gate. What isn't a frame is answered
 /// `Malformed`, once and last.
+///
+/// The answers to what came in one piece are handed over together, before more is read. Those to earlier items are handed
+/// over before a call that waits.
 ///
 /// `Read` comes if a read fails, or is past the 18,446,744,073,709,551,615th: all that was read is answered
 /// then. `Write` comes if a write or a flush fails, and nothing is said of how much was written. `Memory`
@@ -95,12 +98,6 @@ fn answer_pieces<R: Read, W: Write, G: Gate>(
             Ok(Heard::NoFrame) => return Ok(Ended::Malformed),
             Ok(Heard::Items) => {}
         }
-        // a fault of the stream that waits after those items
-        match hear(alloc, &mut frames, writer, gate, seat, &[]) {
-            Err(fault) => return Err(fault),
-            Ok(Heard::NoFrame) => return Ok(Ended::Malformed),
-            Ok(Heard::Items) => {}
-        }
         if count == 0 {
             return Ok(end_of(&frames));
         }
@@ -120,7 +117,7 @@ fn end_of(frames: &Reader) -> Ended
     }
 }
 
-/// Answers what the piece says, and hands all answers over.
+/// Answers what the piece says, and a fault of the stream after that, and hands all answers over together.
 fn hear<W: Write, G: Gate>(
     alloc: Global,
     frames: &mut Reader,
@@ -129,21 +126,36 @@ fn hear<W: Write, G: Gate>(
     seat: &mut Option<Seat>,
     piece: &[u8],
 ) -> Result<Heard, SessionFault>
-    ensures { HearsPiece G.gives frames.old piece.now frames.new
+    ensures { HearsPiece G.gives frames.old piece.now
         (standing gate.old seat.old (W.contents writer.old))
-        (standing gate.new seat.new (W.contents writer.new)) result }
+        (standing gate.new seat.new (W.contents writer.new)) frames.new result }
+{
+    answer_piece(alloc, frames, writer, gate, seat, piece)?;
+    if frames.has_fault() {
+        send(alloc, writer, &Reply::Refused(Refusal::Malformed))?;
+        flush(writer)?;
+        return Ok(Heard::NoFrame);
+    }
+    flush(writer)?;
+    Ok(Heard::Items)
+}
+
+/// Answers the items of the piece. A fault of the stream is left to be asked for.
+fn answer_piece<W: Write, G: Gate>(
+    alloc: Global,
+    frames: &mut Reader,
+    writer: &mut W,
+    gate: &mut G,
+    seat: &mut Option<Seat>,
+    piece: &[u8],
+) -> Result<(), SessionFault>
+    ensures { AnswersPiece G.gives frames.old piece.now
+        (standing gate.old seat.old (W.contents writer.old))
+        (standing gate.new seat.new (W.contents writer.new)) frames.new result }
 {
     match frames.feed(alloc, piece) {
-        Ok(items) => {
-            answer_all(alloc, writer, gate, seat, items)?;
-            flush(writer)?;
-            Ok(Heard::Items)
-        }
-        Err(Refusal::Malformed) => {
-            send(alloc, writer, &Reply::Refused(Refusal::Malformed))?;
-            flush(writer)?;
-            Ok(Heard::NoFrame)
-        }
+        Ok(items) => answer_all(alloc, writer, gate, seat, items),
+        Err(Refusal::Malformed) => Ok(()),
         Err(_) => Err(SessionFault::Memory),
     }
 }
@@ -176,30 +188,7 @@ fn answer_one<W: Write, G: Gate>(
     ensures { Answering G.gives (item ∷ []) (standing gate.old seat.old (W.contents writer.old))
         (standing gate.new seat.new (W.contents writer.new)) result }
 {
+    flush_before(writer, *seat, &item)?;
     let reply = answer(gate, seat, item);
     send(alloc, writer, &reply)
-}
-
-/// Writes the reply's frame.
-fn send<W: Write>(alloc: Global, writer: &mut W, reply: &Reply<Bytes>) -> Result<(), SessionFault>
-    requires { IsTrue (has_reply_frame reply.now) }
-    ensures { Sends reply.now (W.contents writer.old) (W.contents writer.new) result }
-{
-    let Ok(frame) = encode_reply(alloc, reply) else {
-        return Err(SessionFault::Memory)
-    };
-    match writer.write_all(&frame) {
-        Ok(()) => Ok(()),
-        Err(_) => Err(SessionFault::Write),
-    }
-}
-
-/// Hands over what the writer kept back.
-fn flush<W: Write>(writer: &mut W) -> Result<(), SessionFault>
-    ensures { Flushes (W.contents writer.old) (W.contents writer.new) result }
-{
-    match writer.flush() {
-        Ok(()) => Ok(()),
-        Err(_) => Err(SessionFault::Write),
-    }
 }

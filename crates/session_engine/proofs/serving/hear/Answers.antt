@@ -1,27 +1,25 @@
+use Rattle.std.proofs.Common.{sym, ◌∙◌}
 use Rattle.session_engine.specs.Serving.{not_a_frame}
-use Rattle.session_engine.proofs.Answering.{passed_on, stopped_before, no_memory_before}
-use Rattle.session_engine.proofs.Hearing.{stops_in_items, stops_behind_items, stops_behind_refusal}
+use Rattle.session_engine.proofs.Answering.{passed_on, stopped_after, stopped_sending}
+use Rattle.session_engine.proofs.Hearing.{no_frame_heard}
 use Rattle.session_engine.proofs.serving.hear.Goals as goal
 
-pub returns-in_err-answer_all-in-Ok : goal.returns-in_err-answer_all-in-Ok
-returns-in_err-answer_all-in-Ok g c =
-    rw (passed_on _ c.in_err-answer_all-in-Ok.field-0.0 c.from_residual.ensures.1)
-    (stops_in_items g.G.Gate.gives c.args.frames.now c.args.piece.now _ _ _ c.in-Ok.items.items c.in-Ok.ensures.items _ c.in_err-answer_all-in-Ok.ensures)
+pub returns-in_err-send : goal.returns-in_err-send
+returns-in_err-send g c =
+    rw (passed_on _ c.in_err-send.field-0.0 c.from_residual-in_err-send.ensures.1)
+    (stopped_sending g.G.Gate.gives _ _ not_a_frame _ _ _ c.in_ok-answer_piece.ensures.1 c.in_err-send.ensures)
 
-pub returns-in_err-flush-in-Ok : goal.returns-in_err-flush-in-Ok
-returns-in_err-flush-in-Ok g c =
-    rw (passed_on _ c.in_err-flush-in-Ok.field-0.0 c.from_residual-in_err-flush-in-Ok.ensures.1)
-    (stops_behind_items g.G.Gate.gives c.args.frames.now c.args.piece.now _ _ _ c.in-Ok.items.items c.in-Ok.ensures.items _ _ c.in_ok-answer_all-in-Ok.ensures c.in_err-flush-in-Ok.ensures)
+pub returns-in_err-flush : goal.returns-in_err-flush
+returns-in_err-flush g c =
+    rw (passed_on _ c.in_err-flush.field-0.0 c.from_residual-in_err-flush.ensures.1)
+    (stopped_after g.G.Gate.gives _ _ _ _ (g.W.Write.contents c.send.new.writer) _ c.in_ok-answer_piece.ensures.1 c.in_err-flush.ensures)
 
-pub returns-in_err-send-in-Err-Malformed : goal.returns-in_err-send-in-Err-Malformed
-returns-in_err-send-in-Err-Malformed g c =
-    rw (passed_on _ c.in_err-send-in-Err-Malformed.field-0.0 c.from_residual-in_err-send-in-Err-Malformed.ensures.1)
-    (stopped_before g.G.Gate.gives _ _ not_a_frame _ _ c.in_err-send-in-Err-Malformed.ensures)
+pub returns-then-has_fault : goal.returns-then-has_fault
+returns-then-has_fault g c =
+    no_frame_heard g.G.Gate.gives c.args.frames.now c.args.piece.now _ _ c.answer_piece.new.frames c.in_ok-answer_piece.ensures
+    (g.W.Write.contents c.send.new.writer) _ (sym c.has_fault.ensures ∙ c.if-has_fault.true) c.in_ok-send.ensures c.in_ok-flush.ensures
 
-pub returns-in_err-flush-in-Err-Malformed : goal.returns-in_err-flush-in-Err-Malformed
-returns-in_err-flush-in-Err-Malformed g c =
-    rw (passed_on _ c.in_err-flush-in-Err-Malformed.field-0.0 c.from_residual-in_err-flush-in-Err-Malformed.ensures.1)
-    (stops_behind_refusal g.G.Gate.gives _ _ (g.W.Write.contents c.send.new.writer) _ _ c.in_err-flush-in-Err-Malformed.ensures)
-
-pub returns-in-Err : goal.returns-in-Err
-returns-in-Err g c = no_memory_before g.G.Gate.gives _ _
+pub returns-in_err-flush-2 : goal.returns-in_err-flush-2
+returns-in_err-flush-2 g c =
+    rw (passed_on _ c.in_err-flush-2.field-0.0 c.from_residual-in_err-flush-2.ensures.1)
+    (stopped_after g.G.Gate.gives _ _ _ _ (g.W.Write.contents c.answer_piece.new.writer) _ c.in_ok-answer_piece.ensures.1 c.in_err-flush-2.ensures)
