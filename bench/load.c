@@ -71,13 +71,15 @@ enum {
     SPILLED = 8,
     /* of which the times are kept */
     MOST_TIMES = 1 << 22,
-    MOST_SECONDS = 60,
+    MOST_SECONDS = 3600,
     /* seconds that an answer may take */
     PATIENCE = 60
 };
 
-/* What a command has to be answered: the reply's beginning, how many bytes come after that, and where in the object they are if they are its own. */
+/* What a command of this kind has to be answered: the reply's beginning, how many bytes come after that, and where in the object they are if
+ * they are its own. */
 struct due {
+    enum command kind;
     unsigned char head[HEAD_BYTES];
     size_t length;
     uint32_t offset;
@@ -112,8 +114,8 @@ struct client {
     double began, ended;
 };
 
-/* An object's bytes, the same ones each time. */
-static unsigned char content[LONGEST_OBJECT];
+/* An object's bytes, the same ones each time; and some more, so that the floor gives no others, whatever is asked. */
+static unsigned char content[LONGEST_OBJECT + STORE_MOST_BYTES];
 static double seconds;
 static pthread_barrier_t all_are_ready;
 /* one of them has done what it had to, and the others end too */
@@ -191,6 +193,7 @@ static struct due *begin_command(struct trip *trip, enum command kind, size_t fi
     append_number(trip, (uint32_t)(1 + fields));
     append(trip, &byte, 1);
     struct due *due = &trip->due[trip->count++];
+    due->kind = kind;
     put_number(due->head, (uint32_t)(1 + length));
     due->head[4] = (unsigned char)reply;
     due->length = length;
@@ -341,16 +344,17 @@ static void prepare_spills(struct client *client, uint32_t length)
 
 /* ---- a connection */
 
-/* What the client stumbled over: a refusal is named. */
+/* Says what came in place of the reply that is due, of which at least the head is there. */
 __attribute__((noreturn)) static void fail_at(const struct client *client, const struct trip *trip, int index, size_t at, size_t got)
 {
     const unsigned char *told = client->answer + at;
-    /* a refusal is a byte longer than what was looked at */
-    while (told[4] == REFUSED && got < at + HEAD_BYTES + 1 && recv(client->store.socket, client->answer + got, 1, 0) == 1)
+    const struct due *due = &trip->due[index];
+    /* the number of a refusal is the byte after it */
+    if (told[4] == REFUSED && got == at + HEAD_BYTES && recv(client->store.socket, client->answer + got, 1, 0) == 1)
         got++;
-    const char *name = told[4] == REFUSED && got > at + HEAD_BYTES ? store_result_name(told[HEAD_BYTES]) : "not what is due";
-    fail("job %u: command %d of a trip of %d, the last of kind %02x: answered %02x of length %u, %s; due is %02x of length %u", client->job,
-         index + 1, trip->count, trip->sent[4], told[4], number_at(told), name, trip->due[index].head[4], number_at(trip->due[index].head));
+    const char *name = told[4] == REFUSED && got > at + HEAD_BYTES ? store_result_name(told[HEAD_BYTES]) : "no refusal";
+    fail("job %u: command %02x, %d of %d sent at once, is answered %02x of length %u (%s), and due is %02x of length %u", client->job, due->kind,
+         index + 1, trip->count, told[4], number_at(told), name, due->head[4], number_at(due->head));
 }
 
 static void send_all(const struct client *client, const unsigned char *bytes, size_t length)
@@ -464,7 +468,7 @@ static void *work(void *argument)
 
 /* ---- the floor */
 
-/* Answers a frame; `length` is that of the object created last. */
+/* Answers a frame by one write, as the store does; `length` is that of the object created last. */
 static void answer(int stream, const unsigned char *frame, uint32_t *length)
 {
     unsigned char head[HEAD_BYTES + USAGE_BYTES] = {0};

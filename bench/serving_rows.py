@@ -5,12 +5,13 @@
 - get of 1 MiB by one connection, to the floor: a server of load.c's that answers the same trips from memory.
 - 16 commands, of Usage, Get and Release in turn, sent in one write, to the same sent one by one; and the write calls that the server makes
   for them at once, counted by strace, if it is there.
-- neighbours: how long Get, Read and Release of another job's 1 KiB take while four sessions, of a job each, do nothing but seal objects of
-  16 MiB, restore them, create and delete them, or spill them, to the same beside four that only read. What they need is made before it is
-  timed. Spills are over after eight each, and the gets with them.
+- neighbours: how long Get, Read and Release of another job's 1 KiB take, one such get after the other, while four sessions, of a job each, do
+  nothing but seal objects of 16 MiB, restore them, create and delete them, or spill them; to the same beside four that only read. What they
+  need is made before it is timed: what goes when another is restored lies on the device already, and what is spilled has been sealed. Each
+  session spills eight objects, and once one of them has, the gets end.
 
 A figure is the median of the rounds, the longest get that of all of them. The ratio is that of the two figures. Goals are for a machine
-that does nothing else; each says whether it is met.
+that does nothing else; each row says whether its goal is met.
 """
 
 import contextlib
