@@ -74,6 +74,6 @@ impl Node {
         };
         self.hands.take_out(ends);
         self.works.drop_job(job);
-        self.rows.shift_remove(&job);
+        self.gone = self.rows.shift_remove(&job);
     }
 }

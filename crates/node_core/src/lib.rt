@@ -45,8 +45,7 @@ pub use foreseen::Foreseen;
 use grants::Grants;
 use indexmap::IndexMap;
 use job_admission::Admission;
-use node_table::JobRow;
-pub use node_table::{Erase, Prepared};
+pub use node_table::{Erase, JobRow, Prepared};
 use obj_id::{Command, JobKey, JobNo, ObjectId, Quota, Refusal, Reply, Usage};
 pub use outcome::{Note, Outcome};
 use private_store::Event;
@@ -64,6 +63,8 @@ pub struct Node {
     hands: Grants,
     // of the live jobs
     rows: IndexMap<JobNo, JobRow>,
+    // of the job that ended last, until it is taken away: to free all its bytes takes long
+    gone: Option<JobRow>,
 }
 
 // By hand, so that it is proved here and not in each crate above.
@@ -76,6 +77,7 @@ impl Drop for Node {
             works: _works,
             hands: _hands,
             rows: _rows,
+            gone: _gone,
         } = self;
     }
 }
@@ -107,6 +109,7 @@ impl Node {
             works: Works::new(alloc),
             hands: Grants::new(alloc),
             rows: IndexMap::new(alloc),
+            gone: None,
         }
     }
 

@@ -3,7 +3,7 @@ ghost use Rattle.std.specs.Prelude.{◌≡◌};
 
 use crate::Node;
 use bytes::Bytes;
-use node_table::Prepared;
+use node_table::{JobRow, Prepared};
 use obj_id::{Command, JobNo, ObjectId};
 
 impl Node {
@@ -16,6 +16,13 @@ impl Node {
             Some(row) => row.prepare(prepared),
             None => prepared,
         }
+    }
+
+    /// What was kept of the job that ended last, to be let go once the node isn't locked.
+    pub fn take_gone(&mut self) -> Option<JobRow>
+        ensures { self.new ≡ self.old }
+    {
+        self.gone.take()
     }
 
     /// Whether something would best be prepared for the job's command.

@@ -27,7 +27,7 @@ use crate::folding::{MOST_LINES, base_of, bases_of};
 use crate::logs::Logs;
 use crate::posts::{Made, Posted, arrival};
 use bytes::Bytes;
-use node_core::{Node, Outcome, Prepared};
+use node_core::{JobRow, Node, Outcome, Prepared};
 use obj_id::{Arrival, Items, JobKey, JobNo, ObjectId, Place, Refusal};
 use private_store::Event;
 use std::alloc::{AllocError, Global};
@@ -306,6 +306,22 @@ impl<L: Ledger> Kept<L> {
             seat: _,
         } = self;
         node.share_copy(job, id)
+    }
+
+    /// What was kept of the job that ended last, to be let go once the node isn't locked. No event: nothing changes.
+    pub fn take_gone(&mut self) -> Option<JobRow>
+        ensures node { (self.new.node ≡ self.old.node) × (self.new.number ≡ self.old.number) }
+        ensures journal { (self.new.logs ≡ self.old.logs) × (self.new.count ≡ self.old.count) }
+    {
+        let Kept {
+            alloc: _,
+            node,
+            number: _,
+            logs: _,
+            count: _,
+            seat: _,
+        } = self;
+        node.take_gone()
     }
 
     /// The node, to look at.

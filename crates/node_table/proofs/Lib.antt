@@ -32,6 +32,7 @@ pub mod Replacing
 pub mod Restoring
 pub mod Dropping
 pub mod Fetching
+pub mod Filling
 pub mod Faults
 pub mod Rooms
 pub mod Pulling

@@ -26,7 +26,7 @@ impl<'a> Lent<'a> {
     /// All of them: shared if they can be, and copied otherwise.
     pub fn whole(self, alloc: Global) -> Result<Bytes, AllocError>
         requires { IfSome self.shared (λ shared. shared ≡ self.bytes.now) }
-        ensures { IfOk result (λ whole. whole ≡ self.bytes.now) }
+        ensures { IfOk result (λ whole. whole ≡ self.entry.bytes.now) }
     {
         match self.shared {
             Some(shared) => Ok(shared),
@@ -37,7 +37,7 @@ impl<'a> Lent<'a> {
     /// `len` of them from the offset on, or as many as there are: shared if they can be, and copied otherwise.
     pub fn part(self, alloc: Global, offset: u32, len: u32) -> Result<Bytes, AllocError>
         requires { IfSome self.shared (λ shared. shared ≡ self.bytes.now) }
-        ensures { IfOk result (λ part. part ≡ take len (drop offset self.bytes.now)) }
+        ensures { IfOk result (λ part. part ≡ take len (drop offset self.entry.bytes.now)) }
     {
         match self.shared {
             Some(shared) => Ok(shared_part(shared, offset, len)),

@@ -1,4 +1,5 @@
 //! What is made for a step before its node is locked.
+use bytes::Bytes;
 use hashed_bytes::Hashed;
 use job_region::Zeros;
 
@@ -10,6 +11,8 @@ pub struct Prepared {
     pub zeros: Option<Zeros>,
     /// Bytes of which the step wants the digest.
     pub hashed: Option<Hashed>,
+    /// Bytes that a device gave, with zeros up to the end of an extent.
+    pub filled: Option<Bytes>,
 }
 
 impl Prepared {
@@ -18,6 +21,7 @@ impl Prepared {
         Prepared {
             zeros: None,
             hashed: None,
+            filled: None,
         }
     }
 }

@@ -68,6 +68,8 @@ pub struct JobRow {
     ended_tasks: IndexSet<TaskNo>,
     // bytes of which a step may want the digest
     hashed: Option<Hashed>,
+    // bytes that may fill an extent
+    filled: Option<Bytes>,
 }
 
 // By hand, so that it is proved here and not in each crate above.
@@ -83,6 +85,7 @@ impl Drop for JobRow {
             spill_failed: _spill_failed,
             ended_tasks: _ended_tasks,
             hashed: _hashed,
+            filled: _filled,
         } = self;
     }
 }
@@ -118,6 +121,7 @@ impl JobRow {
             spill_failed: false,
             ended_tasks: IndexSet::new(alloc),
             hashed: None,
+            filled: None,
         })
     }
 
@@ -269,10 +273,15 @@ impl JobRow {
     pub fn prepare(&mut self, prepared: Prepared) -> Prepared
         ensures { self.new ≡ self.old }
     {
-        let Prepared { zeros, hashed } = prepared;
+        let Prepared {
+            zeros,
+            hashed,
+            filled,
+        } = prepared;
         Prepared {
             zeros: self.window.keep_zeros(zeros),
             hashed: mem::replace(&mut self.hashed, hashed),
+            filled: mem::replace(&mut self.filled, filled),
         }
     }
 
@@ -686,7 +695,8 @@ impl JobRow {
         let _ = self.window.write(&extent, offset, bytes);
     }
 
-    /// The same from the first byte on. If the bytes fill the copy's extent they are shared, and not copied.
+    /// The same from the first byte on. If the bytes fill the copy's extent, by themselves or as they were prepared, they are shared,
+    /// and not copied.
     fn put_all_bytes(&mut self, id: &ObjectId, bytes: &Bytes)
         ensures copies { self.new.copies ≡ self.old.copies }
         ensures row { (e : Extent) → place_of self.old.copies id.now ≡ Some e → length bytes.now ≤ e.length
@@ -695,15 +705,39 @@ impl JobRow {
         let Some(extent) = self.place(id) else {
             return;
         };
-        if bytes.len() as u64 != extent.length {
-            self.put_bytes(id, 0, bytes);
-            return;
-        }
-        match bytes.clone() {
-            Ok(bytes) => self.window.adopt(&extent, bytes),
-            Err(_) => self.put_bytes(id, 0, bytes),
+        match filling(self.window.bytes_of(&extent), bytes, self.filled.as_ref()) {
+            Some(filling) => self.window.adopt(&extent, filling),
+            None => self.put_bytes(id, 0, bytes),
         }
     }
+}
+
+/// What lies in an extent once these bytes are written into it from its first byte on: shared, if they fill it, or what was prepared
+/// does so with them. Nothing if neither does.
+fn filling(lies: &[u8], bytes: &Bytes, filled: Option<&Bytes>) -> Option<Bytes>
+    ensures length { IfSome result (λ filling. length filling ≡ length lies.now) }
+    ensures bytes { IfSome result (λ filling. filling ≡ overwritten lies.now 0 bytes.now) }
+{
+    if bytes.len() == lies.len() {
+        return bytes.clone().ok();
+    }
+    let filled = filled?;
+    if !is_filling(filled, bytes, lies) {
+        return None;
+    }
+    filled.clone().ok()
+}
+
+/// Whether the first is what lies in an extent once these bytes are written into it from its first byte on.
+fn is_filling(filled: &[u8], bytes: &[u8], lies: &[u8]) -> bool
+    ensures length { result ≡ true → length filled.now ≡ length lies.now }
+    ensures bytes { result ≡ true → filled.now ≡ overwritten lies.now 0 bytes.now }
+{
+    let len = bytes.len();
+    if filled.len() != lies.len() || len > lies.len() {
+        return false;
+    }
+    &filled[..len] == bytes && &filled[len..] == &lies[len..]
 }
 
 /// The first `len` of bytes that are shared, or all of them if there are fewer.

@@ -15,9 +15,9 @@ use Rattle.indexmap.proofs.map.IndexMap.TheSendSync.{the_send as map_send}
 use Rattle.indexmap.proofs.set.IndexSet.TheSendSync.{the_send as set_send}
 use Rattle.obj_id.proofs.ids.JobNo.TheSendSync.{the_send as job_send}
 use Rattle.obj_id.proofs.ids.TaskNo.TheSendSync.{the_send as task_send}
-use Rattle.hole_tree.proofs.Crossing.{holes_send, room_send}
-use Rattle.job_region.specs.contracts.Window as Window
+use Rattle.job_region.proofs.Crossing.{window_send}
 use Rattle.lru_evictor.proofs.Crossing.{order_send}
+use Rattle.hashed_bytes.proofs.Hashed.TheSendSync.{the_send as hashed_send}
 use Rattle.spill_work.proofs.Works.TheSendSync.{the_send as works_send}
 use Rattle.job_admission.proofs.Admission.TheSendSync.{the_send as admission_send}
 use Rattle.node_table.specs.contracts.row.JobRow as JobRow
@@ -31,11 +31,8 @@ use Rattle.session_threads.proofs.upkeep.Upkeep.TheSendSync.{the_send as upkeep_
 use Rattle.session_threads.proofs.posting.Ways.TheSendSync.{the_send as ways_send, the_sync as ways_sync}
 use Rattle.session_threads.specs.contracts.shared.SharedNode as Shared
 
-pub window_send : IsSend Window.the_row
-window_send = search (holes_send, room_send, sendable, crosses) depth 40
-
 pub row_send : IsSend JobRow.the_row
-row_send = search (window_send, copies_send, order_send, set_send, task_send, sendable, crosses) depth 40
+row_send = search (window_send, copies_send, order_send, set_send, task_send, hashed_send, sendable, crosses) depth 40
 
 pub node_send : IsSend Node.the_row
 node_send = search (row_send, works_send, admission_send, map_send, job_send, sendable, crosses) depth 40

@@ -2,6 +2,7 @@
 use crate::{Session, SharedNode};
 use session_engine::serve;
 use std::alloc::{AllocError, Global};
+use std::io::BufWriter;
 use std::net::Shutdown;
 use std::os::fd::OwnedFd;
 use std::os::unix::net::{UnixListener, UnixStream};
@@ -94,9 +95,11 @@ fn serve_stream<L: Ledger, R: Wait + Clock>(
 ) {
     let mut session = Session::new(rt, node);
     let mut reader = stream;
-    let mut writer = stream;
-    // a fault of a client ends this session alone
-    let _ = serve(alloc, &mut reader, &mut writer, &mut session);
+    // so that the answers to what came in one piece leave together; without memory for it the stream is closed
+    if let Ok(mut writer) = BufWriter::new(alloc, stream) {
+        // a fault of a client ends this session alone
+        let _ = serve(alloc, &mut reader, &mut writer, &mut session);
+    }
     session.check();
     let _ = stream.shutdown(Shutdown::Both);
     node.upkeep.sessions.end(rt);

@@ -6,9 +6,10 @@ use hashed_bytes::Hashed;
 use job_region::Zeros;
 use node_core::Prepared;
 use node_journal::Posted;
-use obj_id::limits::CHUNK_SIZE;
+use obj_id::limits::{CHUNK_SIZE, UNIT};
 use obj_id::{Command, DeviceAnswer, JobNo, Message, ObjectId, PeerMessage, Place};
 use private_store::Event;
+use std::alloc::Global;
 use std::sync::Wait;
 use std::sync::ledger::Ledger;
 
@@ -31,14 +32,12 @@ impl<L: Ledger> SharedNode<L> {
         command: &Command<Bytes>,
     ) -> Prepared {
         if let Command::Seal(id) = command {
-            return Prepared {
-                zeros: None,
-                hashed: self.hash_copy(rt, job, id),
-            };
+            return hashed_first(self.hash_copy(rt, job, id));
         }
+        let zeros = self.zeros_for(rt, job, command);
         Prepared {
-            zeros: self.zeros_for(rt, job, command),
-            hashed: None,
+            zeros,
+            ..Prepared::nothing()
         }
     }
 
@@ -56,13 +55,9 @@ impl<L: Ledger> SharedNode<L> {
 
     /// What a message that arrives wants: the last chunk of an object the digest of all its bytes.
     pub(crate) fn prepare_arrival<R: Wait>(&self, rt: &R, posted: &Posted<L>) -> Prepared {
-        let hashed = match chunk_of(posted) {
-            Some(chunk) => self.hash_with_last(rt, posted.job(), &chunk),
-            None => None,
-        };
-        Prepared {
-            zeros: None,
-            hashed,
+        match chunk_of(posted) {
+            Some(chunk) => hashed_first(self.hash_with_last(rt, posted.job(), &chunk)),
+            None => Prepared::nothing(),
         }
     }
 
@@ -104,19 +99,38 @@ impl<L: Ledger> SharedNode<L> {
     }
 }
 
-/// What the Finish of a read wants, which is the digest of the bytes that were read, and the job whose it is.
-pub(crate) fn prepare_finish(event: &Event) -> (JobNo, Prepared) {
+/// What the Finish of a read wants, which are the digest of the bytes that were read, and they as they fill an extent; and the job
+/// whose it is.
+pub(crate) fn prepare_finish(alloc: Global, event: &Event) -> (JobNo, Prepared) {
     let Event::Finish(job, _, DeviceAnswer::Bytes(bytes)) = event else {
         return (JobNo(0), Prepared::nothing());
     };
-    let hashed = bytes.clone().ok().map(Hashed::new);
-    (
-        *job,
-        Prepared {
-            zeros: None,
-            hashed,
-        },
-    )
+    let prepared = Prepared {
+        zeros: None,
+        hashed: bytes.clone().ok().map(Hashed::new),
+        filled: filled(alloc, bytes),
+    };
+    (*job, prepared)
+}
+
+/// The bytes with zeros up to the end of an extent, if they don't fill one by themselves.
+fn filled(alloc: Global, bytes: &Bytes) -> Option<Bytes> {
+    let len = bytes.len().next_multiple_of(UNIT as usize);
+    if len == bytes.len() {
+        return None;
+    }
+    let mut filled = Vec::with_capacity(alloc, len).ok()?;
+    filled.extend_from_slice(bytes.as_slice()).ok()?;
+    filled.resize(len, 0).ok()?;
+    Bytes::from_vec(filled).ok()
+}
+
+/// The digest alone.
+fn hashed_first(hashed: Option<Hashed>) -> Prepared {
+    Prepared {
+        hashed,
+        ..Prepared::nothing()
+    }
 }
 
 /// The chunk that the message is, if it is one.

@@ -274,7 +274,9 @@ impl<L: Ledger> SharedNode<L> {
     {
         let mut kept = self.kept.lock(rt);
         let stepped = step_end(rt, &mut *kept, &self.upkeep, job);
+        let gone = kept.take_gone();
         drop(kept);
+        drop(gone);
         match stepped {
             Ok(stepped) => self.hand_out(rt, stepped),
             Err(refusal) => (Reply::Refused(refusal), None),
@@ -302,7 +304,7 @@ impl<L: Ledger> SharedNode<L> {
     ) -> (Reply<Bytes>, Option<Receipt<L>>)
         ensures { MatchOption result.1 (result.0 ≡ reply.Refused NoMemory) (λ r. IsOf event.now result.0 (witness_of r)) }
     {
-        let (job, prepared) = prepare_finish(event);
+        let (job, prepared) = prepare_finish(self.upkeep.alloc, event);
         let mut kept = self.kept.lock(rt);
         let before = kept.prepare(job, prepared);
         let stepped = step_event(rt, &mut *kept, &self.upkeep, event);
