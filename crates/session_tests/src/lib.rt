@@ -5,4 +5,6 @@
 #[cfg(test)]
 mod desk;
 #[cfg(test)]
+mod handing_over;
+#[cfg(test)]
 mod sessions;

@@ -1,5 +1,5 @@
 //! Sessions over memory.
-use crate::desk::{Desk, PAGE};
+use crate::desk::{Desk, LONG_PAGE, PAGE};
 use assertions::{holds, same};
 use hex::FromHexError;
 use session_engine::{Ended, FaultyStream, SessionFault, serve};
@@ -10,27 +10,29 @@ use std::test::Fail;
 
 // The frames are of job 1, and of the object of task 1 and index 1 in it.
 
-const HELLO: &str =
+pub(crate) const HELLO: &str =
     "0000002501000000010000000000000000000000000000000000000000000000000000000000000000";
 
 const HELLO_WITH_ANOTHER_KEY: &str =
     "0000002501000000010000000000000000000000000000000000000000000000000000000000000001";
 
 /// A primary of 20 bytes.
-const CREATE: &str = "0000002202000000000000000000000000000000000000000100000001000000010000000014";
+pub(crate) const CREATE: &str =
+    "0000002202000000000000000000000000000000000000000100000001000000010000000014";
 
 /// Of no kind that there is.
 const CREATE_OF_NO_KIND: &str =
     "0000002202000000000000000000000000000000000000000100000001000000010200000014";
 
-const SEAL: &str = "0000001d0400000000000000000000000000000000000000010000000100000001";
+pub(crate) const SEAL: &str = "0000001d0400000000000000000000000000000000000000010000000100000001";
 
-const GET: &str = "0000001d0500000000000000000000000000000000000000010000000100000001";
+pub(crate) const GET: &str = "0000001d0500000000000000000000000000000000000000010000000100000001";
 
 /// Of an invalid id.
 const GET_OF_NO_ID: &str = "0000001d0500000000000000000000000000000000000000000000000000000000";
 
-const GET_WAIT: &str = "0000001d1300000000000000000000000000000000000000010000000100000001";
+pub(crate) const GET_WAIT: &str =
+    "0000001d1300000000000000000000000000000000000000010000000100000001";
 
 const CREATE_WAIT: &str =
     "0000002214000000000000000000000000000000000000000100000001000000010000000014";
@@ -39,9 +41,13 @@ const CREATE_WAIT: &str =
 const READ: &str =
     "00000025060000000000000000000000000000000000000001000000010000000100000000000007d0";
 
+/// Of 16,384 bytes.
+const LONG_READ: &str =
+    "0000002506000000000000000000000000000000000000000100000001000000010000000000004000";
+
 const LEAVE: &str = "0000000112";
 
-const NO_KIND: &str = "0000000115";
+pub(crate) const NO_KIND: &str = "0000000115";
 
 const OK: &str = "0000000180";
 
@@ -58,6 +64,9 @@ const EXISTS: &str = "000000028f03";
 /// What comes before the 2,000 bytes.
 const BYTES: &str = "000007d183";
 
+/// What comes before the 16,384 bytes.
+const LONG_BYTES: &str = "0000400183";
+
 const MALFORMED: &str = "000000028f14";
 
 /// The bytes of all texts, one after another.
@@ -71,7 +80,7 @@ fn joined(alloc: Global, texts: &[&str]) -> Result<Vec<u8>, FromHexError> {
 }
 
 /// The same, once more if memory ran out.
-fn bytes_of(alloc: Global, texts: &[&str]) -> Result<Vec<u8>, FromHexError> {
+pub(crate) fn bytes_of(alloc: Global, texts: &[&str]) -> Result<Vec<u8>, FromHexError> {
     match joined(alloc, texts) {
         Err(FromHexError::OutOfMemory) => joined(alloc, texts),
         made => made,
@@ -93,7 +102,7 @@ impl<R: Read> Read for Drip<R> {
 }
 
 /// More bytes than any session here is answered.
-const ROOM: usize = 4_096;
+pub(crate) const ROOM: usize = 20_000;
 
 /// How a session's input comes, and which of its calls fail: 0 is none.
 #[derive(Clone, Copy)]
@@ -355,7 +364,7 @@ fn each_read_fails_in_turn(rt: HostRuntime) -> Result<(), Fail> {
     Ok(())
 }
 
-/// The session's writes fail in turn, and then none does. Each answer is one write: of each that fails, how many bytes were written
+/// The session's writes fail in turn, and then none does: of each that fails, how many bytes were written
 /// before it.
 fn fail_writes(
     rt: &impl Abort,
@@ -393,11 +402,11 @@ fn each_write_fails_in_turn(rt: HostRuntime) -> Result<(), Fail> {
     Ok(())
 }
 
-/// The answers to a Hello and a Read.
-fn long_answers(alloc: Global) -> Result<Vec<u8>, FromHexError> {
-    let mut whole = bytes_of(alloc, &[OK, BYTES])?;
-    if whole.extend_from_slice(&PAGE).is_err() {
-        whole.extend_from_slice(&PAGE)?;
+/// The answers to a Hello and a Read of this page.
+fn answers_with(alloc: Global, head: &str, page: &[u8]) -> Result<Vec<u8>, FromHexError> {
+    let mut whole = bytes_of(alloc, &[OK, head])?;
+    if whole.extend_from_slice(page).is_err() {
+        whole.extend_from_slice(page)?;
     }
     Ok(whole)
 }
@@ -405,8 +414,16 @@ fn long_answers(alloc: Global) -> Result<Vec<u8>, FromHexError> {
 #[test]
 fn a_long_answer_comes_whole_or_not_at_all(rt: HostRuntime) -> Result<(), Fail> {
     let input = bytes_of(rt.alloc(), &[HELLO, READ])?;
-    let whole = long_answers(rt.alloc())?;
+    let whole = answers_with(rt.alloc(), BYTES, &PAGE)?;
     fail_writes(&rt, rt.alloc(), &input, &whole, &[(1, 0), (2, 5)])?;
+    Ok(())
+}
+
+#[test]
+fn a_long_payload_is_a_write_of_its_own(rt: HostRuntime) -> Result<(), Fail> {
+    let input = bytes_of(rt.alloc(), &[HELLO, LONG_READ])?;
+    let whole = answers_with(rt.alloc(), LONG_BYTES, &LONG_PAGE)?;
+    fail_writes(&rt, rt.alloc(), &input, &whole, &[(1, 0), (2, 5), (3, 10)])?;
     Ok(())
 }
 
