@@ -51,8 +51,8 @@ pub(crate) fn flush<W: Write>(writer: &mut W) -> Result<(), SessionFault>
     }
 }
 
-/// Hands over what the writer kept back, if the gate may wait before it answers the item: a client that is to see those answers
-/// first may be the one that is waited for.
+/// Hands over what the writer kept back, if the gate may wait before it answers the item: the client may need the earlier
+/// answers to do what is waited for.
 pub(crate) fn flush_before<W: Write>(
     writer: &mut W,
     seat: Option<Seat>,

@@ -1,6 +1,6 @@
 //! A session from its first byte to its last.
-ghost use Rattle.std.specs.Prelude.{◌≡◌, ◌<◌, [], ◌∷◌, length, if◌then◌else◌};
-ghost use Rattle.wire_frames.specs.Reading.{is_in_mid_frame};
+ghost use Rattle.std.specs.Prelude.{◌≡◌, ◌<◌, [], ◌∷◌, None, length, if◌then◌else◌};
+ghost use Rattle.wire_frames.specs.Reading.{is_in_mid_frame, unfinished};
 ghost use Rattle.session_engine.specs.Hearing.{Answering, AnswersPiece, HearsPiece};
 ghost use Rattle.session_engine.specs.Serving.{AnswersInput, Served};
 ghost use Rattle.session_engine.specs.Sessions.{standing};
@@ -8,7 +8,6 @@ ghost use Rattle.session_engine.specs.Sessions.{standing};
 use crate::sending::{flush, flush_before, send};
 use crate::session::{Seat, answer, leave};
 use crate::{Ended, Gate, SessionFault};
-use bytes::Bytes;
 use obj_id::{Refusal, Reply};
 use private_store::Item;
 use std::alloc::Global;
@@ -50,60 +49,155 @@ pub fn serve<R: Read, W: Write, G: Gate>(
     ensures { Served G.gives gate.old gate.new (R.remaining reader.old) (R.remaining reader.new)
         (W.contents writer.old) (W.contents writer.new) result }
 {
-    let mut seat = None;
-    let ended = answer_input(alloc, reader, writer, gate, &mut seat);
-    leave(gate, seat);
+    let mut session = Session::new(alloc);
+    let ended = session.answer_input(reader, writer, gate);
+    leave(gate, session.seat);
     ended
 }
 
-/// Answers all that the reader gives.
-fn answer_input<R: Read, W: Write, G: Gate>(
+/// A session that is being served.
+#[derive(Drop)]
+struct Session {
     alloc: Global,
-    reader: &mut R,
-    writer: &mut W,
-    gate: &mut G,
-    seat: &mut Option<Seat>,
-) -> Result<Ended, SessionFault>
-    ensures { AnswersInput G.gives (standing gate.old seat.old (W.contents writer.old))
-        (standing gate.new seat.new (W.contents writer.new))
-        (R.remaining reader.old) (R.remaining reader.new) result }
-{
-    let Ok(mut buffer) = vec![in alloc; 0u8; PIECE_SIZE] else {
-        return Err(SessionFault::Memory)
-    };
-    answer_pieces(alloc, reader, writer, gate, seat, buffer.as_mut_slice())
+    // keeps what came of a frame that isn't whole yet
+    frames: Reader,
+    // where it sits, once it has entered
+    seat: Option<Seat>,
 }
 
-/// Answers all that the reader gives, piece by piece, as the buffer takes it.
-fn answer_pieces<R: Read, W: Write, G: Gate>(
-    alloc: Global,
-    reader: &mut R,
-    writer: &mut W,
-    gate: &mut G,
-    seat: &mut Option<Seat>,
-    buffer: &mut [u8],
-) -> Result<Ended, SessionFault>
-    requires { 0 < length buffer.old }
-    ensures { AnswersInput G.gives (standing gate.old seat.old (W.contents writer.old))
-        (standing gate.new seat.new (W.contents writer.new))
-        (R.remaining reader.old) (R.remaining reader.new) result }
-{
-    let mut frames = Reader::new(alloc);
-    for _ in 0..u64::MAX {
-        let Ok(count) = reader.read(buffer) else {
-            return Err(SessionFault::Read)
-        };
-        match hear(alloc, &mut frames, writer, gate, seat, &buffer[..count]) {
-            Err(fault) => return Err(fault),
-            Ok(Heard::NoFrame) => return Ok(Ended::Malformed),
-            Ok(Heard::Items) => {}
-        }
-        if count == 0 {
-            return Ok(end_of(&frames));
+impl Session {
+    /// A session before its first byte. Takes no memory.
+    fn new(alloc: Global) -> Session
+        ensures frames { result.frames ≡ unfinished [] }
+        ensures seat { result.seat ≡ None }
+    {
+        Session {
+            alloc,
+            frames: Reader::new(alloc),
+            seat: None,
         }
     }
-    // more reads than there are numbers
-    Err(SessionFault::Read)
+
+    /// Answers all that the reader gives.
+    fn answer_input<R: Read, W: Write, G: Gate>(
+        &mut self,
+        reader: &mut R,
+        writer: &mut W,
+        gate: &mut G,
+    ) -> Result<Ended, SessionFault>
+        requires { self.old.frames ≡ unfinished [] }
+        ensures { AnswersInput G.gives (standing gate.old self.old.seat (W.contents writer.old))
+            (standing gate.new self.new.seat (W.contents writer.new))
+            (R.remaining reader.old) (R.remaining reader.new) result }
+    {
+        let Ok(mut buffer) = vec![in self.alloc; 0u8; PIECE_SIZE] else {
+            return Err(SessionFault::Memory)
+        };
+        self.answer_pieces(reader, writer, gate, buffer.as_mut_slice())
+    }
+
+    /// Answers all that the reader gives, piece by piece, as the buffer takes it.
+    fn answer_pieces<R: Read, W: Write, G: Gate>(
+        &mut self,
+        reader: &mut R,
+        writer: &mut W,
+        gate: &mut G,
+        buffer: &mut [u8],
+    ) -> Result<Ended, SessionFault>
+        requires fresh { self.old.frames ≡ unfinished [] }
+        requires room { 0 < length buffer.old }
+        ensures { AnswersInput G.gives (standing gate.old self.old.seat (W.contents writer.old))
+            (standing gate.new self.new.seat (W.contents writer.new))
+            (R.remaining reader.old) (R.remaining reader.new) result }
+    {
+        for _ in 0..u64::MAX {
+            let Ok(count) = reader.read(buffer) else {
+                return Err(SessionFault::Read)
+            };
+            match self.hear(writer, gate, &buffer[..count]) {
+                Err(fault) => return Err(fault),
+                Ok(Heard::NoFrame) => return Ok(Ended::Malformed),
+                Ok(Heard::Items) => {}
+            }
+            if count == 0 {
+                return Ok(end_of(&self.frames));
+            }
+        }
+        // more reads than there are numbers
+        Err(SessionFault::Read)
+    }
+
+    /// Answers what the piece says, and a fault of the stream after that, and hands all answers over together.
+    fn hear<W: Write, G: Gate>(
+        &mut self,
+        writer: &mut W,
+        gate: &mut G,
+        piece: &[u8],
+    ) -> Result<Heard, SessionFault>
+        ensures { HearsPiece G.gives self.old.frames piece.now
+            (standing gate.old self.old.seat (W.contents writer.old))
+            (standing gate.new self.new.seat (W.contents writer.new)) self.new.frames result }
+    {
+        self.answer_piece(writer, gate, piece)?;
+        if self.frames.has_fault() {
+            send(self.alloc, writer, &Reply::Refused(Refusal::Malformed))?;
+            flush(writer)?;
+            return Ok(Heard::NoFrame);
+        }
+        flush(writer)?;
+        Ok(Heard::Items)
+    }
+
+    /// Answers the items of the piece. A fault of the stream is left to be asked for.
+    fn answer_piece<W: Write, G: Gate>(
+        &mut self,
+        writer: &mut W,
+        gate: &mut G,
+        piece: &[u8],
+    ) -> Result<(), SessionFault>
+        ensures { AnswersPiece G.gives self.old.frames piece.now
+            (standing gate.old self.old.seat (W.contents writer.old))
+            (standing gate.new self.new.seat (W.contents writer.new)) self.new.frames result }
+    {
+        match self.frames.feed(self.alloc, piece) {
+            Ok(items) => self.answer_all(writer, gate, items),
+            Err(Refusal::Malformed) => Ok(()),
+            Err(_) => Err(SessionFault::Memory),
+        }
+    }
+
+    /// Answers the items, in order.
+    fn answer_all<W: Write, G: Gate>(
+        &mut self,
+        writer: &mut W,
+        gate: &mut G,
+        items: Vec<Item>,
+    ) -> Result<(), SessionFault>
+        ensures answers { Answering G.gives items.items (standing gate.old self.old.seat (W.contents writer.old))
+            (standing gate.new self.new.seat (W.contents writer.new)) result }
+        ensures frames { self.new.frames ≡ self.old.frames }
+    {
+        for item in items {
+            self.answer_one(writer, gate, item)?;
+        }
+        Ok(())
+    }
+
+    /// Answers the item, and writes the answer.
+    fn answer_one<W: Write, G: Gate>(
+        &mut self,
+        writer: &mut W,
+        gate: &mut G,
+        item: Item,
+    ) -> Result<(), SessionFault>
+        ensures answers { Answering G.gives (item ∷ []) (standing gate.old self.old.seat (W.contents writer.old))
+            (standing gate.new self.new.seat (W.contents writer.new)) result }
+        ensures frames { self.new.frames ≡ self.old.frames }
+    {
+        flush_before(writer, self.seat, &item)?;
+        let reply = answer(gate, &mut self.seat, item);
+        send(self.alloc, writer, &reply)
+    }
 }
 
 /// How a session ends whose stream has no fault.
@@ -115,80 +209,4 @@ fn end_of(frames: &Reader) -> Ended
     } else {
         Ended::Clean
     }
-}
-
-/// Answers what the piece says, and a fault of the stream after that, and hands all answers over together.
-fn hear<W: Write, G: Gate>(
-    alloc: Global,
-    frames: &mut Reader,
-    writer: &mut W,
-    gate: &mut G,
-    seat: &mut Option<Seat>,
-    piece: &[u8],
-) -> Result<Heard, SessionFault>
-    ensures { HearsPiece G.gives frames.old piece.now
-        (standing gate.old seat.old (W.contents writer.old))
-        (standing gate.new seat.new (W.contents writer.new)) frames.new result }
-{
-    answer_piece(alloc, frames, writer, gate, seat, piece)?;
-    if frames.has_fault() {
-        send(alloc, writer, &Reply::Refused(Refusal::Malformed))?;
-        flush(writer)?;
-        return Ok(Heard::NoFrame);
-    }
-    flush(writer)?;
-    Ok(Heard::Items)
-}
-
-/// Answers the items of the piece. A fault of the stream is left to be asked for.
-fn answer_piece<W: Write, G: Gate>(
-    alloc: Global,
-    frames: &mut Reader,
-    writer: &mut W,
-    gate: &mut G,
-    seat: &mut Option<Seat>,
-    piece: &[u8],
-) -> Result<(), SessionFault>
-    ensures { AnswersPiece G.gives frames.old piece.now
-        (standing gate.old seat.old (W.contents writer.old))
-        (standing gate.new seat.new (W.contents writer.new)) frames.new result }
-{
-    match frames.feed(alloc, piece) {
-        Ok(items) => answer_all(alloc, writer, gate, seat, items),
-        Err(Refusal::Malformed) => Ok(()),
-        Err(_) => Err(SessionFault::Memory),
-    }
-}
-
-/// Answers the items, in order.
-fn answer_all<W: Write, G: Gate>(
-    alloc: Global,
-    writer: &mut W,
-    gate: &mut G,
-    seat: &mut Option<Seat>,
-    items: Vec<Item>,
-) -> Result<(), SessionFault>
-    ensures { Answering G.gives items.items (standing gate.old seat.old (W.contents writer.old))
-        (standing gate.new seat.new (W.contents writer.new)) result }
-{
-    for item in items {
-        answer_one(alloc, writer, gate, seat, item)?;
-    }
-    Ok(())
-}
-
-/// Answers the item, and writes the answer.
-fn answer_one<W: Write, G: Gate>(
-    alloc: Global,
-    writer: &mut W,
-    gate: &mut G,
-    seat: &mut Option<Seat>,
-    item: Item,
-) -> Result<(), SessionFault>
-    ensures { Answering G.gives (item ∷ []) (standing gate.old seat.old (W.contents writer.old))
-        (standing gate.new seat.new (W.contents writer.new)) result }
-{
-    flush_before(writer, *seat, &item)?;
-    let reply = answer(gate, seat, item);
-    send(alloc, writer, &reply)
 }

@@ -1,11 +1,13 @@
+use Rattle.std.proofs.Common.{◌≡◌}
 use Rattle.std.specs.Vec.Iter.{into_iter_items}
 use Rattle.session_engine.specs.Sessions.{standing}
 use Rattle.session_engine.proofs.Answering.{SoFar}
-use Rattle.session_engine.proofs.serving.answer_all.Given as goal
+use Rattle.session_engine.proofs.serving.Session.answer_all.Given as goal
 
 abbrev pub invariant-loop-item : goal.invariant-loop-item
 invariant-loop-item g l = record {
   can : (goal.iterator-loop-item g).can_next l.item-iterator;
   finite : (goal.iterator-loop-item g).is_finite l.item-iterator;
-  so_far : SoFar g.G.Gate.gives l.fn.items.items (into_iter_items l.item-iterator) (standing l.fn.gate l.fn.seat (g.W.Write.contents l.fn.writer)) (standing l.gate l.seat (g.W.Write.contents l.writer));
+  frames : l.self.frames ≡ l.fn.self.frames;
+  so_far : SoFar g.G.Gate.gives l.fn.items.items (into_iter_items l.item-iterator) (standing l.fn.gate l.fn.self.seat (g.W.Write.contents l.fn.writer)) (standing l.gate l.self.seat (g.W.Write.contents l.writer));
 }

@@ -2,7 +2,7 @@ use Rattle.std.proofs.Common.{sym, ◌∙◌}
 use Rattle.session_engine.specs.Serving.{not_a_frame}
 use Rattle.session_engine.proofs.Answering.{passed_on, stopped_after, stopped_sending}
 use Rattle.session_engine.proofs.Hearing.{no_frame_heard}
-use Rattle.session_engine.proofs.serving.hear.Goals as goal
+use Rattle.session_engine.proofs.serving.Session.hear.Goals as goal
 
 pub returns-in_err-send : goal.returns-in_err-send
 returns-in_err-send g c =
@@ -16,7 +16,7 @@ returns-in_err-flush g c =
 
 pub returns-then-has_fault : goal.returns-then-has_fault
 returns-then-has_fault g c =
-    no_frame_heard g.G.Gate.gives c.args.frames.now c.args.piece.now _ _ c.answer_piece.new.frames c.in_ok-answer_piece.ensures
+    no_frame_heard g.G.Gate.gives c.args.self.now.frames c.args.piece.now _ _ c.answer_piece.new.self.frames c.in_ok-answer_piece.ensures
     (g.W.Write.contents c.send.new.writer) _ (sym c.has_fault.ensures ∙ c.if-has_fault.true) c.in_ok-send.ensures c.in_ok-flush.ensures
 
 pub returns-in_err-flush-2 : goal.returns-in_err-flush-2

@@ -1,0 +1,8 @@
+use Rattle.session_engine.specs.Sessions.{standing}
+use Rattle.session_engine.proofs.Progress.{Progress}
+use Rattle.session_engine.proofs.serving.Session.answer_pieces.Given as goal
+
+abbrev pub invariant-loop : goal.invariant-loop
+invariant-loop g l =
+    Progress g.G.Gate.gives (g.R.Read.remaining l.fn.reader) (standing l.fn.gate l.fn.self.seat (g.W.Write.contents l.fn.writer))
+    l.self.frames (g.R.Read.remaining l.reader) (standing l.gate l.self.seat (g.W.Write.contents l.writer))

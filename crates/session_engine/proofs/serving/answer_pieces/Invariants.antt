@@ -1,8 +1,0 @@
-use Rattle.session_engine.specs.Sessions.{standing}
-use Rattle.session_engine.proofs.Progress.{Progress}
-use Rattle.session_engine.proofs.serving.answer_pieces.Given as goal
-
-abbrev pub invariant-loop : goal.invariant-loop
-invariant-loop g l =
-    Progress g.G.Gate.gives (g.R.Read.remaining l.fn.reader) (standing l.fn.gate l.fn.seat (g.W.Write.contents l.fn.writer))
-    l.frames (g.R.Read.remaining l.reader) (standing l.gate l.seat (g.W.Write.contents l.writer))
