@@ -1,7 +1,9 @@
-//! Tests of what stands lowest: ids, windows, orders of use. A module for each:
+//! Tests of what stands lowest: ids, digests, windows, orders of use. A module for each:
 //! what no contract says, and outside values.
 #![tactic(auto)]
 
+#[cfg(test)]
+mod digests;
 #[cfg(test)]
 mod evictor;
 #[cfg(test)]

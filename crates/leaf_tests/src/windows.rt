@@ -4,7 +4,8 @@ ghost use Rattle.obj_id.specs.declared.works.Extent.{Extent};
 ghost use Rattle.job_region.specs.Region.{IsAt};
 
 use assertions::{holds, same};
-use job_region::Window;
+use bytes::Bytes;
+use job_region::{Window, Zeros};
 use obj_id::{Extent, Refusal};
 use std::alloc::Global;
 use std::process::Abort;
@@ -79,5 +80,106 @@ fn is_filled(rt: &impl Abort, window: &mut Window) -> Result<bool, Refusal> {
 fn a_window_is_filled_and_grows(rt: HostRuntime) -> Result<(), Fail> {
     let mut window = window(rt.alloc(), 32)?;
     holds!(rt; is_filled(&rt, &mut window)?);
+    Ok(())
+}
+
+/// So many bytes are shared, and not copied.
+const LONG: u32 = 40_000;
+
+/// The bytes of the extent, shared, once more if memory ran out.
+fn share(window: &mut Window, extent: &Extent) -> Option<Bytes>
+    requires { IsAt extent.now window.old.placed }
+    ensures { window.new ≡ window.old }
+{
+    window.freeze(extent);
+    if let Some(bytes) = window.shared(extent) {
+        return Some(bytes);
+    }
+    window.freeze(extent);
+    window.shared(extent)
+}
+
+/// Whether the bytes are so many, and begin and end with these.
+fn begin_and_end(bytes: &Bytes, first: u8, last: u8) -> bool {
+    bytes.len() == LONG as usize
+        && bytes.as_slice().first() == Some(&first)
+        && bytes.as_slice().last() == Some(&last)
+}
+
+/// Whether what was shared of an extent stays as it is while that is written, and taken back.
+fn what_is_shared_stays(rt: &impl Abort, window: &mut Window) -> Result<bool, Refusal> {
+    let extent = place(rt, window, LONG)?;
+    write(window, &extent, LONG - 1, &[7])?;
+    let Some(before) = share(window, &extent) else {
+        return Ok(false);
+    };
+    write(window, &extent, 0, &[9])?;
+    let Some(after) = share(window, &extent) else {
+        return Ok(false);
+    };
+    window.clear();
+    Ok(begin_and_end(&before, 0, 7) && begin_and_end(&after, 9, 7))
+}
+
+#[test]
+fn shared_bytes_stay(rt: HostRuntime) -> Result<(), Fail> {
+    let mut window = window(rt.alloc(), 65_536)?;
+    holds!(rt; what_is_shared_stays(&rt, &mut window)?);
+    Ok(())
+}
+
+/// Fives, once more if memory ran out.
+fn fives(alloc: Global) -> Result<Bytes, Refusal> {
+    match Bytes::copy_from_slice(alloc, &[5; 40_000]) {
+        Ok(bytes) => Ok(bytes),
+        Err(_) => Ok(Bytes::copy_from_slice(alloc, &[5; 40_000])?),
+    }
+}
+
+/// Whether an extent takes over bytes that it is given, and keeps them until they are written.
+fn what_is_given_is_taken_over(
+    rt: &impl Abort,
+    alloc: Global,
+    window: &mut Window,
+) -> Result<bool, Refusal> {
+    let extent = place(rt, window, LONG)?;
+    let bytes = fives(alloc)?;
+    if bytes.len() as u64 != extent.length {
+        return Ok(false);
+    }
+    window.adopt(&extent, bytes);
+    let Some(taken) = share(window, &extent) else {
+        return Ok(false);
+    };
+    Ok(begin_and_end(&taken, 5, 5))
+}
+
+#[test]
+fn given_bytes_are_taken_over(rt: HostRuntime) -> Result<(), Fail> {
+    let mut window = window(rt.alloc(), 65_536)?;
+    holds!(rt; what_is_given_is_taken_over(&rt, rt.alloc(), &mut window)?);
+    Ok(())
+}
+
+/// Zeros that are made ahead, once more if memory ran out.
+fn zeros(alloc: Global) -> Result<Zeros, Refusal> {
+    match Zeros::for_object(alloc, LONG) {
+        Ok(zeros) => Ok(zeros),
+        Err(_) => Ok(Zeros::for_object(alloc, LONG)?),
+    }
+}
+
+/// Whether an extent is of the zeros that were made ahead, which are then used up.
+fn zeros_are_used(rt: &impl Abort, alloc: Global, window: &mut Window) -> Result<bool, Refusal> {
+    let before = window.keep_zeros(Some(zeros(alloc)?));
+    let extent = place(rt, window, LONG)?;
+    let used = window.keep_zeros(None).is_none();
+    Ok(before.is_none() && used && shows(window, &extent, &[0; 40_000]))
+}
+
+#[test]
+fn zeros_made_ahead_are_used(rt: HostRuntime) -> Result<(), Fail> {
+    let mut window = window(rt.alloc(), 65_536)?;
+    holds!(rt; zeros_are_used(&rt, rt.alloc(), &mut window)?);
     Ok(())
 }

@@ -1,5 +1,5 @@
 //! The row of one job.
-ghost use Rattle.std.specs.Prelude.{◌≡◌, ◌≢◌, ◌||◌, ◌↔◌, ℕ, ◌+◌, ◌^◌, ◌≤◌, ◌<◌, nat_eq, take, drop, length, true, false, Some, None, IfOk, IfErr, IfSome, IfNone, OnOk, OnErr, IsOk, IsErr, IsErrOf, option_to_list, ◌&&◌, is_some};
+ghost use Rattle.std.specs.Prelude.{◌≡◌, ◌≢◌, ◌||◌, ◌↔◌, ℕ, ◌+◌, ◌^◌, ◌≤◌, ◌<◌, nat_eq, take, drop, length, true, false, Some, None, IfOk, IfErr, IfSome, IfNone, OnOk, OnErr, IsOk, IsErr, IsErrOf, option_to_list, option_map, ◌&&◌, is_some};
 ghost use Rattle.std.specs.Map.{set_value};
 ghost use Rattle.obj_id.specs.declared.works.Extent.{Extent};
 ghost use Rattle.obj_id.specs.declared.refusals.Refusal.{Refusal};
@@ -737,12 +737,22 @@ fn is_filling(filled: &[u8], bytes: &[u8], lies: &[u8]) -> bool
     if filled.len() != lies.len() || len > lies.len() {
         return false;
     }
-    &filled[..len] == bytes && &filled[len..] == &lies[len..]
+    if !are_same(&filled[..len], bytes) {
+        return false;
+    }
+    are_same(&filled[len..], &lies[len..])
+}
+
+/// Whether the bytes are the same.
+fn are_same(left: &[u8], right: &[u8]) -> bool
+    ensures { result ≡ true → left.now ≡ right.now }
+{
+    left == right
 }
 
 /// The first `len` of bytes that are shared, or all of them if there are fewer.
 fn first_shared(shared: Option<Bytes>, len: u32) -> Option<Bytes>
-    ensures { IfSome result (λ first. IfSome shared (λ whole. first ≡ take len whole)) }
+    ensures { result ≡ option_map (take len) shared }
 {
     let mut first = shared?;
     first.truncate(len as usize);
