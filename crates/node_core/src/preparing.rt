@@ -3,7 +3,7 @@ ghost use Rattle.std.specs.Prelude.{◌≡◌};
 
 use crate::Node;
 use bytes::Bytes;
-use node_table::{JobRow, Prepared};
+use node_table::{JobRow, Prepared, may_want};
 use obj_id::{Command, JobNo, ObjectId};
 
 impl Node {
@@ -27,6 +27,9 @@ impl Node {
 
     /// Whether something would best be prepared for the job's command.
     pub fn wants(&self, job: JobNo, command: &Command<Bytes>) -> bool {
+        if !may_want(command) {
+            return false;
+        }
         match self.rows.get(&job) {
             Some(row) => row.wants(command),
             None => false,

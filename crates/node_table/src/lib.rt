@@ -41,4 +41,5 @@ pub use device_works::Answered;
 pub use lent::Lent;
 pub use outcome::{Erase, Outcome};
 pub use prepared::Prepared;
+pub use preparing::may_want;
 pub use row::JobRow;

@@ -11,6 +11,15 @@ use std::alloc::Global;
 /// From how many bytes on zeros are made before a step: fewer are made at once.
 const LONG: u32 = 65_536;
 
+/// Whether there are rows at which something would best be prepared for the command.
+pub fn may_want(command: &Command<Bytes>) -> bool {
+    match command {
+        Command::Seal(_) | Command::Get(_) => true,
+        Command::Create(_, _, len) => *len >= LONG,
+        _ => false,
+    }
+}
+
 impl JobRow {
     /// Whether something would best be prepared for the command.
     pub fn wants(&self, command: &Command<Bytes>) -> bool {

@@ -24,16 +24,18 @@ struct Chunk<'a> {
 }
 
 impl<L: Ledger> SharedNode<L> {
-    /// What the command of a session wants.
-    pub(crate) fn prepare_call<R: Wait>(
+    /// What a Seal wants: the digest of the copy's bytes.
+    pub(crate) fn prepare_seal<R: Wait>(&self, rt: &R, job: JobNo, id: &ObjectId) -> Prepared {
+        hashed_first(self.hash_copy(rt, job, id))
+    }
+
+    /// What a command wants that may place a long extent: zeros.
+    pub(crate) fn prepare_place<R: Wait>(
         &self,
         rt: &R,
         job: JobNo,
         command: &Command<Bytes>,
     ) -> Prepared {
-        if let Command::Seal(id) = command {
-            return hashed_first(self.hash_copy(rt, job, id));
-        }
         let zeros = self.zeros_for(rt, job, command);
         Prepared {
             zeros,

@@ -22,6 +22,7 @@ use crate::stepping::{
 use crate::upkeep::Upkeep;
 use crate::waiting::{Moved, Waiting};
 use bytes::Bytes;
+use node_core::Prepared;
 use node_journal::{Access, Entered, Keeper, Kept, Posted, Receipt};
 use obj_id::{Command, JobKey, JobNo, Quota, Refusal, Reply};
 use private_store::{Awaited, Event};
@@ -123,15 +124,36 @@ impl<L: Ledger> SharedNode<L> {
         ensures small { IfOk result (λ s. is_small_reply s.reply ≡ true) }
         ensures memory { IfErr result (λ r. r ≡ NoMemory) }
     {
+        if let Command::Seal(id) = &command {
+            let prepared = self.prepare_seal(rt, job, id);
+            return self.step_with(rt, prepared, job, session, command);
+        }
         self.upkeep.makers.begin(rt);
-        let prepared = self.prepare_call(rt, job, &command);
+        let prepared = self.prepare_place(rt, job, &command);
+        let stepped = self.step_with(rt, prepared, job, session, command);
+        self.upkeep.makers.end(rt);
+        stepped
+    }
+
+    /// The step of a command with what was prepared for it. What is left of that is let go once the node isn't locked.
+    fn step_with<R: Wait>(
+        &self,
+        rt: &R,
+        prepared: Prepared,
+        job: JobNo,
+        session: u32,
+        command: Command<Bytes>,
+    ) -> Result<Stepped<L>, Refusal>
+        ensures called { IfOk result (λ s. (wants_memory s.reply ≡ false) × IsCalled job session command s.reply (witness_of s.receipt)) }
+        ensures small { IfOk result (λ s. is_small_reply s.reply ≡ true) }
+        ensures memory { IfErr result (λ r. r ≡ NoMemory) }
+    {
         let mut kept = self.kept.lock(rt);
         let before = kept.prepare(job, prepared);
         let stepped = step_call(rt, &mut *kept, &self.upkeep, job, session, command);
         let rest = kept.prepare(job, before);
         drop(kept);
         drop(rest);
-        self.upkeep.makers.end(rt);
         stepped
     }
 
