@@ -249,9 +249,10 @@ impl JobRow {
         let Some(extent) = copy.extent() else {
             return Lent::nothing();
         };
+        let length = copy.length();
         Lent {
-            bytes: first_bytes(self.window.bytes_of(&extent), copy.length()),
-            shared: first_shared(self.window.shared(&extent), copy.length()),
+            bytes: first_bytes(self.window.bytes_of(&extent), length),
+            shared: first_shared(self.window.shared(&extent), length),
         }
     }
 
