@@ -45,11 +45,10 @@ impl Node {
     pub fn share_copy(&mut self, job: JobNo, id: &ObjectId) -> Option<Bytes>
         ensures { self.new ≡ self.old }
     {
-        let alloc = self.alloc;
-        match self.rows.get_mut(&job) {
-            Some(row) => row.share_copy(alloc, id),
-            None => None,
-        }
+        let Some(row) = self.rows.get_mut(&job) else {
+            return None;
+        };
+        row.share_copy(self.alloc, id)
     }
 
     /// How long the job's object is of which no chunk but this one is missing, if its fetch of this number would take it.

@@ -29,7 +29,7 @@ impl JobRow {
     /// How long the object is for which the command may place an extent, if that is long.
     pub fn extent_wanted(&self, command: &Command<Bytes>) -> Option<u32> {
         let len = match command {
-            Command::Create(_, _, len) => *len,
+            Command::Create(id, _, len) if !self.copies().has(id) => *len,
             Command::Get(id) => self.length_to_come(id)?,
             _ => return None,
         };

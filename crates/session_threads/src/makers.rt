@@ -1,39 +1,37 @@
-//! How many sessions make something large at once.
-use std::sync::{Condvar, Mutex, Wait};
+//! Who may make something large for a step.
+ghost use Rattle.std.specs.Prelude.{◌<◌};
 
-/// Sessions of a node that may have zeros of their own at once: each may have 16 MiB, which no window counts.
-const MOST_MAKERS: u32 = 4;
+use obj_id::JobNo;
+use std::array;
+use std::sync::Mutex;
 
-/// The sessions of a node that have made something large for a step, and haven't made the step.
+/// How many sessions of a node may have something large that no window counts, 16 MiB each.
+const MAKERS: usize = 16;
+
+/// The places of those who make something large for a step, until the step is made: one for all jobs whose numbers are the same
+/// modulo 16, so that a job waits for few others.
 #[derive(Drop)]
 pub(crate) struct Makers {
-    at_work: Mutex<u32>,
-    fewer: Condvar,
+    places: [Mutex<()>; MAKERS],
 }
 
 impl Makers {
-    /// None does.
+    /// All places are free.
     pub(crate) fn new() -> Makers {
         Makers {
-            at_work: Mutex::new(0),
-            fewer: Condvar::new(),
+            places: array::from_fn(|_| Mutex::new(())),
         }
     }
 
-    /// Waits until one more may begin, and lets it.
-    pub(crate) fn begin<R: Wait>(&self, rt: &R) {
-        let at_work = self.at_work.lock(rt);
-        let mut at_work = self
-            .fewer
-            .wait_while(rt, at_work, |at_work| *at_work >= MOST_MAKERS);
-        *at_work = at_work.saturating_add(1);
+    /// The place of the job's sessions.
+    pub(crate) fn place(&self, job: JobNo) -> &Mutex<()> {
+        &self.places[place_of(job)]
     }
+}
 
-    /// One has made its step.
-    pub(crate) fn end<R: Wait>(&self, rt: &R) {
-        let mut at_work = self.at_work.lock(rt);
-        *at_work = at_work.saturating_sub(1);
-        drop(at_work);
-        self.fewer.notify_one();
-    }
+/// Which place is the job's.
+fn place_of(job: JobNo) -> usize
+    ensures { result < 16 }
+{
+    job.0 as usize % MAKERS
 }

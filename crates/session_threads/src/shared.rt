@@ -34,8 +34,8 @@ use std::time::Clock;
 
 /// A node with its journal, which many threads step.
 //
-// The lock of the node is taken first, and under it at most one of the others, which are let go at once. No device is called
-// under any.
+// The lock of the node is taken first, but for a maker's place, and under it at most one of the others, which are let go at once. No
+// device is called under any.
 #[derive(Drop)]
 pub struct SharedNode<L: Ledger> {
     pub(crate) kept: Mutex<Kept<L>>,
@@ -128,10 +128,10 @@ impl<L: Ledger> SharedNode<L> {
             let prepared = self.prepare_seal(rt, job, id);
             return self.step_with(rt, prepared, job, session, command);
         }
-        self.upkeep.makers.begin(rt);
+        let making = self.upkeep.makers.place(job).lock(rt);
         let prepared = self.prepare_place(rt, job, &command);
         let stepped = self.step_with(rt, prepared, job, session, command);
-        self.upkeep.makers.end(rt);
+        drop(making);
         stepped
     }
 
