@@ -12,10 +12,10 @@ impl Node {
     pub fn prepare(&mut self, job: JobNo, prepared: Prepared) -> Prepared
         ensures { self.new ≡ self.old }
     {
-        match self.rows.get_mut(&job) {
-            Some(row) => row.prepare(prepared),
-            None => prepared,
-        }
+        let Some(row) = self.rows.get_mut(&job) else {
+            return prepared;
+        };
+        row.prepare(prepared)
     }
 
     /// What was kept of the job that ended last, to be let go once the node isn't locked.
