@@ -32,7 +32,7 @@ pub mod Replacing
 pub mod Restoring
 pub mod Dropping
 pub mod Fetching
-pub mod Filling
+pub mod Shared
 pub mod Faults
 pub mod Rooms
 pub mod Pulling

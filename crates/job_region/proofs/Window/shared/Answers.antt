@@ -1,11 +1,11 @@
-use Rattle.std.proofs.Common.{◌≡◌, ◌≤◌, ◌+◌, ℕ, List, length, Option, Some, nat_eq, sym, ap, subst, ◌∙◌, arith}
-use Rattle.std.specs.Prelude.{IsSome, IsSomeAnd}
+use Rattle.std.proofs.Common.{◌≡◌, ℕ, List, length, Option, Some, nat_eq, sym, ap, subst, ◌∙◌}
+use Rattle.std.specs.Prelude.{IsSomeAnd}
 use Rattle.std.specs.Map.{lookup}
 use Rattle.obj_id.specs.declared.works.Extent.{Extent}
-use Rattle.job_region.specs.Layout.{AreFilled, zipped}
+use Rattle.job_region.specs.Layout.{zipped}
 use Rattle.job_region.specs.Region.{Region, IsAt}
 use Rattle.job_region.proofs.Bisected.{laid_rising}
-use Rattle.job_region.proofs.Zipped.{some_of, room_in, size_of}
+use Rattle.job_region.proofs.Zipped.{some_of}
 use Rattle.job_region.proofs.Window.shared.Goals as goal
 
 pub buffer_at-buffer-requires-clause-rising : goal.buffer_at-buffer-requires-clause-rising

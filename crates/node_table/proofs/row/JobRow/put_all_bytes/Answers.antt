@@ -1,5 +1,4 @@
-use Rattle.std.proofs.Common.{nat_eq, length, sym, ap, subst, ◌∙◌, Option, Some}
-use Rattle.std.specs.Option.{option_and_then}
+use Rattle.std.proofs.Common.{sym, ap, subst, ◌∙◌}
 use Rattle.job_region.specs.Region.{Region}
 use Rattle.node_table.specs.Row.{place_of, ArePlaced}
 use Rattle.node_table.proofs.Places.{written_placed}
