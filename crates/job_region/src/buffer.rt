@@ -13,6 +13,22 @@ use std::mem;
 /// an own copy.
 const SHARED_FROM: usize = 32_768;
 
+/// So many bytes are reserved for a buffer of more than a few: the system's allocator then maps them by themselves, so that only
+/// those that are written take memory, and all of it goes back once the buffer is freed. Fewer might come from what some thread has
+/// freed, which stays with that thread.
+const MAPPED: usize = 33_554_432;
+
+/// How many bytes are reserved for a buffer of so many.
+pub(crate) fn reserved(len: usize) -> usize
+    ensures { len ≤ result }
+{
+    if len < SHARED_FROM {
+        len
+    } else {
+        len.max(MAPPED)
+    }
+}
+
 /// The bytes of an extent. A contract sees these alone.
 #[derive(Drop)]
 pub(crate) struct Buffer {
@@ -65,7 +81,7 @@ impl Buffer {
         if !self.shared.is_empty() || self.own.len() < SHARED_FROM {
             return;
         }
-        let Ok(room) = Vec::with_capacity(alloc, self.own.len()) else {
+        let Ok(room) = Vec::with_capacity(alloc, reserved(self.own.len())) else {
             return;
         };
         match Bytes::from_vec(mem::replace(&mut self.own, room)) {
@@ -90,7 +106,7 @@ impl Buffer {
         ensures { self.new ≡ bytes }
     {
         // room that nobody has touched in place of what was written, if there is memory for it
-        match Vec::with_capacity(alloc, bytes.len()) {
+        match Vec::with_capacity(alloc, reserved(bytes.len())) {
             Ok(room) => self.own = room,
             Err(_) => self.own.clear(),
         }

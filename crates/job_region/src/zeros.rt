@@ -1,6 +1,7 @@
 //! Zeros that are made ahead of the extent that they are for.
 ghost use Rattle.std.specs.Prelude.{◌≡◌, IfOk, vec_len, replicate};
 
+use crate::buffer::reserved;
 use private_store::rounded;
 use std::alloc::{AllocError, Global};
 use std::marker::Model;
@@ -52,7 +53,7 @@ impl Zeros {
 fn make_zeros(alloc: Global, len: usize) -> Result<Vec<u8>, AllocError>
     ensures { IfOk result (λ bytes. bytes.items ≡ replicate len 0) }
 {
-    let mut bytes = Vec::with_capacity(alloc, len)?;
+    let mut bytes = Vec::with_capacity(alloc, reserved(len))?;
     bytes.resize(len, 0)?;
     Ok(bytes)
 }

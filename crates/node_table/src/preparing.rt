@@ -42,6 +42,9 @@ impl JobRow {
     /// How long a copy is that has no place yet.
     fn length_to_come(&self, id: &ObjectId) -> Option<u32> {
         let copy = self.copies().get(id)?;
+        if copy.offset().is_some() {
+            return None;
+        }
         match copy.state() {
             CopyState::Away => Some(copy.length()),
             CopyState::Fetching => Some(copy.fetch()?.length()),

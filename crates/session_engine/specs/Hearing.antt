@@ -14,13 +14,6 @@ use Rattle.session_engine.specs.Calls.{Asked, Answered}
 use Rattle.session_engine.specs.Sessions.{Standing}
 use Rattle.session_engine.specs.Serving.{AnswersAll, Concludes, StopsWithin}
 
--- bytes are written, or writing failed
-abbrev pub Writes : List ℕ → Option (List ℕ) → Option (List ℕ) → Result ⊤ SessionFault → Type 0
-Writes bytes written_old written_new (Ok u) = Appends written_old written_new bytes
-Writes bytes written_old written_new (Err Read) = ⊥
-Writes bytes written_old written_new (Err Write) = ⊤
-Writes bytes written_old written_new (Err Memory) = ⊥
-
 -- a reply is written; where it isn't, writing failed or nothing went out
 abbrev pub Sends : Reply (List ℕ) → Option (List ℕ) → Option (List ℕ) → Result ⊤ SessionFault → Type 0
 Sends reply written_old written_new (Ok u) = Appends written_old written_new (reply_frame reply)

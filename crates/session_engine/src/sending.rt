@@ -1,7 +1,7 @@
 //! What a session writes, and when its writer hands that over.
 ghost use Rattle.std.specs.Prelude.{IsTrue};
 ghost use Rattle.wire_frames.specs.Writing.{has_reply_frame};
-ghost use Rattle.session_engine.specs.Hearing.{Flushes, Sends, Writes};
+ghost use Rattle.session_engine.specs.Hearing.{Flushes, Sends};
 
 use crate::SessionFault;
 use crate::session::Seat;
@@ -10,32 +10,23 @@ use obj_id::Reply;
 use private_store::Item;
 use std::alloc::Global;
 use std::io::Write;
-use wire_frames::{encode_head, long_payload};
+use wire_frames::encode_reply;
 
-/// Writes the reply's frame: at once, or a long payload by itself, from where it is.
+/// Writes the reply's frame.
 pub(crate) fn send<W: Write>(
     alloc: Global,
     writer: &mut W,
-    reply: &Reply<Bytes>,
+    reply: Reply<Bytes>,
 ) -> Result<(), SessionFault>
-    requires { IsTrue (has_reply_frame reply.now) }
-    ensures { Sends reply.now (W.contents writer.old) (W.contents writer.new) result }
+    requires { IsTrue (has_reply_frame reply) }
+    ensures { Sends reply (W.contents writer.old) (W.contents writer.new) result }
 {
-    let Ok(head) = encode_head(alloc, reply) else {
+    let Ok(frame) = encode_reply(alloc, &reply) else {
         return Err(SessionFault::Memory)
     };
-    write(writer, &head)?;
-    match long_payload(reply) {
-        None => Ok(()),
-        Some(payload) => write(writer, payload),
-    }
-}
-
-/// Writes all the bytes.
-fn write<W: Write>(writer: &mut W, bytes: &[u8]) -> Result<(), SessionFault>
-    ensures { Writes bytes.now (W.contents writer.old) (W.contents writer.new) result }
-{
-    match writer.write_all(bytes) {
+    // an object of which the reply shares a part isn't kept for as long as a client takes to read it
+    drop(reply);
+    match writer.write_all(&frame) {
         Ok(()) => Ok(()),
         Err(_) => Err(SessionFault::Write),
     }

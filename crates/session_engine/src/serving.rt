@@ -140,7 +140,7 @@ impl Session {
     {
         self.answer_piece(writer, gate, piece)?;
         if self.frames.has_fault() {
-            send(self.alloc, writer, &Reply::Refused(Refusal::Malformed))?;
+            send(self.alloc, writer, Reply::Refused(Refusal::Malformed))?;
             flush(writer)?;
             return Ok(Heard::NoFrame);
         }
@@ -196,7 +196,7 @@ impl Session {
     {
         flush_before(writer, self.seat, &item)?;
         let reply = answer(gate, &mut self.seat, item);
-        send(self.alloc, writer, &reply)
+        send(self.alloc, writer, reply)
     }
 }
 

@@ -17,9 +17,6 @@ const SESSION: u32 = 7;
 /// What is read of any object.
 pub const PAGE: [u8; 2000] = [7; 2000];
 
-/// What is read if more is asked for: as few bytes as aren't copied into their reply's frame.
-pub const LONG_PAGE: [u8; 16_384] = [7; 16_384];
-
 /// A gate that lets sessions into job 1, and keeps the length of the object that was made last. It
 /// promises nothing: tests look at what it counted.
 #[derive(Drop)]
@@ -67,20 +64,10 @@ impl Desk {
             Command::Create(_, _, length) => self.make(*length),
             Command::Seal(_) => Reply::Ok,
             Command::Get(_) => Reply::Got(self.length),
-            Command::Read(_, _, count) => page(*count),
+            Command::Read(..) => Reply::Bytes(Bytes::from_static(&PAGE)),
             Command::Leave => Reply::Ok,
             _ => Reply::Refused(Refusal::Absent),
         }
-    }
-}
-
-fn page(count: u32) -> Reply<Bytes>
-    ensures { IsTrue (has_reply_frame result) }
-{
-    if count <= 2000 {
-        Reply::Bytes(Bytes::from_static(&PAGE))
-    } else {
-        Reply::Bytes(Bytes::from_static(&LONG_PAGE))
     }
 }
 

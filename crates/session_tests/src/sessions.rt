@@ -1,5 +1,5 @@
 //! Sessions over memory.
-use crate::desk::{Desk, LONG_PAGE, PAGE};
+use crate::desk::{Desk, PAGE};
 use assertions::{holds, same};
 use hex::FromHexError;
 use session_engine::{Ended, FaultyStream, SessionFault, serve};
@@ -41,10 +41,6 @@ const CREATE_WAIT: &str =
 const READ: &str =
     "00000025060000000000000000000000000000000000000001000000010000000100000000000007d0";
 
-/// Of 16,384 bytes.
-const LONG_READ: &str =
-    "0000002506000000000000000000000000000000000000000100000001000000010000000000004000";
-
 const LEAVE: &str = "0000000112";
 
 pub(crate) const NO_KIND: &str = "0000000115";
@@ -63,9 +59,6 @@ const EXISTS: &str = "000000028f03";
 
 /// What comes before the 2,000 bytes.
 const BYTES: &str = "000007d183";
-
-/// What comes before the 16,384 bytes.
-const LONG_BYTES: &str = "0000400183";
 
 const MALFORMED: &str = "000000028f14";
 
@@ -102,7 +95,7 @@ impl<R: Read> Read for Drip<R> {
 }
 
 /// More bytes than any session here is answered.
-pub(crate) const ROOM: usize = 20_000;
+pub(crate) const ROOM: usize = 4_096;
 
 /// How a session's input comes, and which of its calls fail: 0 is none.
 #[derive(Clone, Copy)]
@@ -402,11 +395,11 @@ fn each_write_fails_in_turn(rt: HostRuntime) -> Result<(), Fail> {
     Ok(())
 }
 
-/// The answers to a Hello and a Read of this page.
-fn answers_with(alloc: Global, head: &str, page: &[u8]) -> Result<Vec<u8>, FromHexError> {
-    let mut whole = bytes_of(alloc, &[OK, head])?;
-    if whole.extend_from_slice(page).is_err() {
-        whole.extend_from_slice(page)?;
+/// The answers to a Hello and a Read.
+fn long_answers(alloc: Global) -> Result<Vec<u8>, FromHexError> {
+    let mut whole = bytes_of(alloc, &[OK, BYTES])?;
+    if whole.extend_from_slice(&PAGE).is_err() {
+        whole.extend_from_slice(&PAGE)?;
     }
     Ok(whole)
 }
@@ -414,16 +407,8 @@ fn answers_with(alloc: Global, head: &str, page: &[u8]) -> Result<Vec<u8>, FromH
 #[test]
 fn a_long_answer_comes_whole_or_not_at_all(rt: HostRuntime) -> Result<(), Fail> {
     let input = bytes_of(rt.alloc(), &[HELLO, READ])?;
-    let whole = answers_with(rt.alloc(), BYTES, &PAGE)?;
+    let whole = long_answers(rt.alloc())?;
     fail_writes(&rt, rt.alloc(), &input, &whole, &[(1, 0), (2, 5)])?;
-    Ok(())
-}
-
-#[test]
-fn a_long_payload_is_a_write_of_its_own(rt: HostRuntime) -> Result<(), Fail> {
-    let input = bytes_of(rt.alloc(), &[HELLO, LONG_READ])?;
-    let whole = answers_with(rt.alloc(), LONG_BYTES, &LONG_PAGE)?;
-    fail_writes(&rt, rt.alloc(), &input, &whole, &[(1, 0), (2, 5), (3, 10)])?;
     Ok(())
 }
 

@@ -1,5 +1,5 @@
 -- What has a frame.
-use Rattle.std.specs.Prelude.{ℕ, Bool, true, false, ◌&&◌, nat_lt, nat_le, if◌then◌else◌, List, [], length, Option, Some, None, unwrap_or}
+use Rattle.std.specs.Prelude.{ℕ, Bool, true, false, ◌&&◌, nat_lt, nat_le, List, length, Option, Some, None}
 use Rattle.std.specs.List.{list_all}
 use Rattle.obj_id.specs.declared.commands.Reply.{Reply}
 use Rattle.obj_id.specs.declared.commands.Reply.TheVariants as reply
@@ -25,12 +25,3 @@ has_byte_depths _ = true
 -- a reply that isn't a device worker's, and no more bytes than a reply's frame holds
 abbrev pub has_reply_frame : Reply (List ℕ) → Bool
 has_reply_frame r = is_some_of_length is_reply_length (reply_body r) && has_byte_depths r
-
--- the payload that is long enough not to be copied into its reply's frame
-abbrev pub payload_apart : Reply (List ℕ) → Option (List ℕ)
-payload_apart (reply.Bytes bytes) = if nat_le 16384 (length bytes) then Some bytes else None
-payload_apart _ = None
-
--- its bytes; none of another reply
-abbrev pub bytes_apart : Reply (List ℕ) → List ℕ
-bytes_apart r = unwrap_or (payload_apart r) []

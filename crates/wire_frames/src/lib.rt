@@ -13,4 +13,4 @@ mod replies;
 
 pub use encode::encode_command;
 pub use reader::Reader;
-pub use replies::{encode_head, encode_reply, long_payload};
+pub use replies::encode_reply;

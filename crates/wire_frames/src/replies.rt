@@ -1,20 +1,13 @@
 //! The frames of replies.
-ghost use Rattle.std.specs.Prelude.{◌≡◌, ◌+◌, ◌<◌, ◌++◌, ◌^◌, ◌∷◌, IsTrue, IfOk, flat_map, length, nat_lt, option_map};
+ghost use Rattle.std.specs.Prelude.{◌≡◌, ◌<◌, ◌++◌, ◌^◌, ◌∷◌, IsTrue, IfOk, flat_map, length, nat_lt};
 ghost use Rattle.std.specs.List.{list_all};
 ghost use Rattle.private_store.specs.Frames.{be4, be8, frame, granted_bytes as granted_bytes_lem, own_bytes as own_bytes_lem, reply_frame, state_byte as state_byte_lem};
-ghost use Rattle.wire_frames.specs.Writing.{bytes_apart, has_reply_frame, payload_apart};
+ghost use Rattle.wire_frames.specs.Writing.{has_reply_frame};
 
 use crate::encode::{frame_of, kind_byte};
 use bytes::Bytes;
 use obj_id::{CopyState, GrantedItem, OwnItem, Reply, Usage};
 use std::alloc::{AllocError, Global};
-
-/// From so many bytes on a payload isn't copied into its reply's frame, but can be written from where it is. To copy fewer
-/// costs less than one more write does.
-const LONG_PAYLOAD: usize = 16_384;
-
-/// The byte of a reply that has a payload.
-const BYTES: u8 = 0x83;
 
 /// The frame of a reply, of at most 262,144 bytes after its length. What a device worker is answered has none,
 /// and a granted item's depth is below 256.
@@ -30,49 +23,12 @@ pub fn encode_reply(alloc: Global, reply: &Reply<Bytes>) -> Result<Vec<u8>, Allo
             &[&offset.to_be_bytes(), &extent.to_be_bytes()],
         ),
         Reply::Got(length) => frame_of(alloc, 0x82, &[&length.to_be_bytes()]),
-        Reply::Bytes(bytes) => frame_of(alloc, BYTES, &[bytes.as_slice()]),
+        Reply::Bytes(bytes) => frame_of(alloc, 0x83, &[bytes.as_slice()]),
         Reply::List(own, granted) => list_frame(alloc, own.as_slice(), granted.as_slice()),
         Reply::Usage(usage) => usage_frame(alloc, usage),
         Reply::Work(_) | Reply::NoWork => Ok(Vec::new(alloc)),
         Reply::Refused(refusal) => frame_of(alloc, 0x8f, &[&[refusal.number()]]),
     }
-}
-
-/// The frame of a reply without its long payload, which comes after it: the bytes that `long_payload` gives. If there is
-/// none it is the whole frame.
-pub fn encode_head(alloc: Global, reply: &Reply<Bytes>) -> Result<Vec<u8>, AllocError>
-    requires { IsTrue (has_reply_frame reply.now) }
-    ensures { IfOk result (λ head. head.items ++ bytes_apart reply.now ≡ reply_frame reply.now) }
-{
-    match long_payload(reply) {
-        None => encode_reply(alloc, reply),
-        Some(payload) => head_before(alloc, payload),
-    }
-}
-
-/// The payload at the end of a reply's frame, if it has at least 16,384 bytes: such a one isn't copied into the frame.
-pub fn long_payload(reply: &Reply<Bytes>) -> Option<&[u8]>
-    ensures { option_map (λ payload. payload.now) result ≡ payload_apart reply.now }
-{
-    let Reply::Bytes(bytes) = reply else {
-        return None
-    };
-    if bytes.len() < LONG_PAYLOAD {
-        return None;
-    }
-    Some(bytes.as_slice())
-}
-
-/// What a frame has before its payload: its length and its kind.
-fn head_before(alloc: Global, payload: &[u8]) -> Result<Vec<u8>, AllocError>
-    requires { 1 + length payload.now < 2 ^ 32 }
-    ensures { IfOk result (λ head. head.items ++ payload.now ≡ frame (0x83 ∷ payload.now)) }
-{
-    let size = (1 + payload.len()) as u32;
-    let mut head = Vec::with_capacity(alloc, 5)?;
-    head.extend_from_slice(&size.to_be_bytes())?;
-    head.push(BYTES)?;
-    Ok(head)
 }
 
 /// The frame of a list: each part's count, and its items.
