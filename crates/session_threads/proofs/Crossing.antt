@@ -18,6 +18,7 @@ use Rattle.obj_id.proofs.ids.TaskNo.TheSendSync.{the_send as task_send}
 use Rattle.job_region.proofs.Crossing.{window_send}
 use Rattle.lru_evictor.proofs.Crossing.{order_send}
 use Rattle.hashed_bytes.proofs.Hashed.TheSendSync.{the_send as hashed_send}
+use Rattle.bytes.proofs.shared.Bytes.TheSendSync.{the_send as bytes_send}
 use Rattle.spill_work.proofs.Works.TheSendSync.{the_send as works_send}
 use Rattle.job_admission.proofs.Admission.TheSendSync.{the_send as admission_send}
 use Rattle.node_table.specs.contracts.row.JobRow as JobRow
@@ -32,7 +33,7 @@ use Rattle.session_threads.proofs.posting.Ways.TheSendSync.{the_send as ways_sen
 use Rattle.session_threads.specs.contracts.shared.SharedNode as Shared
 
 pub row_send : IsSend JobRow.the_row
-row_send = search (window_send, copies_send, order_send, set_send, task_send, hashed_send, sendable, crosses) depth 40
+row_send = search (window_send, copies_send, order_send, set_send, task_send, hashed_send, bytes_send, sendable, crosses) depth 40 fits 20000
 
 pub node_send : IsSend Node.the_row
 node_send = search (row_send, works_send, admission_send, map_send, job_send, sendable, crosses) depth 40
