@@ -1,4 +1,4 @@
--- Extents that are placed stay where one of them is written.
+-- Extents that are placed stay where one of them is written, or takes bytes over.
 use Rattle.std.proofs.Common.{◌≡◌, ℕ, ◌+◌, ◌<◌, ◌≤◌, Bool, true, false, List, [], length, Option, Some, None, Ok, Err, refl, sym, ap, subst, ◌∙◌, arith, nat_eq, cond, ⊎_elim}
 use Rattle.std.specs.Prelude.{IsSome, IsSomeAnd}
 use Rattle.std.specs.Option.{unwrap_or}
@@ -37,3 +37,15 @@ module _ (old : List (ℕ × List ℕ)) (e : Extent) (was : IsAt e old) where
           let same : x.offset ≡ e.offset = grind (arith, nat_tests, t) in
           long ∙ ap (λ k. length (unwrap_or (lookup (nat_eq k) old) [])) same ∙ (some_long e.length (lookup (nat_eq e.offset) old) was).1
       by long false t = was
+
+-- an extent that takes bytes over stays where it is
+pub stays-adopted : (old : List (ℕ × List ℕ)) (e : Extent) (bytes : List ℕ) → IsAt e old → length bytes ≡ e.length → (new : List (ℕ × List ℕ)) → new ≡ set_value (nat_eq e.offset) old bytes → IsAt e new
+stays-adopted old e bytes was long new is =
+    let found = some_long e.length (lookup (nat_eq e.offset) old) was in
+    let looked : lookup (nat_eq e.offset) new ≡ cond (nat_eq e.offset e.offset) (Some bytes) (lookup (nat_eq e.offset) old) =
+    ap (lookup (nat_eq e.offset)) is ∙ lookup-set_value nat_eq_equiv (nat_eq e.offset) (nat_eq_equiv.congr e.offset) e.offset bytes old found.0 in
+    subst (Long e.length) (sym looked) (by (nat_eq e.offset e.offset))
+  where
+    by : (b : Bool) → Long e.length (cond b (Some bytes) (lookup (nat_eq e.offset) old))
+    by true = long
+    by false = was
