@@ -6,13 +6,16 @@ With them it is tested by examples/cluster/test.py, over several hosts.
 from __future__ import annotations
 
 import array
+import asyncio
 import concurrent.futures
 import importlib.util
 import pickle
 import threading
 import time
 import unittest
+from types import SimpleNamespace
 from typing import Any, List
+from unittest import mock
 
 from support import PATIENCE, Server, key
 
@@ -67,6 +70,16 @@ class Names(unittest.TestCase):
             again = pickle.loads(pickle.dumps(error))
             self.assertEqual((type(again), str(again), vars(again)), (type(error), str(error), vars(error)))
         self.assertEqual(str(dask.ValueLost("A", "an array", "gone")), "an array of host A is lost: gone")
+
+    def test_in_a_worker_whose_store_isn_t_there(self) -> None:
+        plugin = dask.StoreWorkers("/nowhere/store", key_file="/nowhere/key")
+        with self.assertRaises(FileNotFoundError):
+            asyncio.run(plugin.setup(None))
+        with mock.patch.object(reference, "get_worker", lambda: SimpleNamespace(plugins={reference.PLUGIN: plugin})):
+            with self.assertRaisesRegex(RuntimeError, "has no store, as FileNotFoundError: .*/nowhere/key"):
+                dask.put(1)
+        client = SimpleNamespace(run=lambda asked: {"a1": asked(SimpleNamespace(plugins={reference.PLUGIN: plugin}))})
+        self.assertEqual((dask.usage(client), dask.counts(client)), ({}, {}))
 
     def test_outside_of_a_task(self) -> None:
         with self.assertRaisesRegex(RuntimeError, "to be called in a task"):
@@ -243,22 +256,22 @@ class Scheduling(unittest.IsolatedAsyncioTestCase):
 
     async def test_who_keeps_it(self) -> None:
         epoch = await self.put("one")
-        self.assertTrue(await self.plugin.store_keep(epoch, "two"))
+        self.assertTrue(await self.plugin.store_keep(prefix("one", epoch), "two"))
         self.release("one")
         self.assertEqual(await self.removed(), [])
         self.release("two")
         self.assertEqual(await self.removed(), [names.Name.of("one", epoch).prefix])
-        self.assertFalse(await self.plugin.store_keep(epoch, "two"))
+        self.assertFalse(await self.plugin.store_keep(prefix("one", epoch), "two"))
 
     async def test_what_is_lost_is_computed_again_once(self) -> None:
         epoch = await self.put("one")
-        await self.plugin.store_keep(epoch, "two")
+        await self.plugin.store_keep(prefix("one", epoch), "two")
         for task in self.scheduler.tasks.values():
             task.state = "memory"
         self.scheduler.tasks["reader"], self.scheduler.tasks["stranger"] = Task("reader"), Task("stranger")
         self.scheduler.tasks["reader"].dependencies = [self.scheduler.tasks["one"]]
         # who depends on it is to run again, but not for ever; who was given the reference otherwise is not
-        told = [await self.plugin.store_lost(epoch, asker) for asker in ("reader", "stranger", "reader", "")]
+        told = [await self.plugin.store_lost(prefix("one", epoch), asker) for asker in ("reader", "stranger", "reader", "")]
         self.assertEqual(told, [True, False, False, False])
         self.assertEqual(self.scheduler.changed, [{"one": "released", "two": "released"}])
 
@@ -266,8 +279,19 @@ class Scheduling(unittest.IsolatedAsyncioTestCase):
         epoch = await self.put("one", with_key=False)
         self.plugin.transition("one", "released", "forgotten")
         self.assertEqual(await self.removed(), [])
-        await self.plugin.store_release(epoch)
+        await self.plugin.store_release(prefix("one", epoch))
         self.assertEqual(await self.removed(), [names.Name.of("one", epoch).prefix])
+
+    async def test_a_value_of_another_scheduler_with_the_same_epoch(self) -> None:
+        epoch = await self.put("one")
+        self.scheduler.tasks["one"].state = "memory"
+        theirs = prefix("theirs", epoch)
+        self.assertFalse(await self.plugin.store_keep(theirs, "two"))
+        self.assertFalse(await self.plugin.store_lost(theirs, "two"))
+        await self.plugin.store_release(theirs)
+        self.assertEqual((await self.removed(), self.scheduler.changed), ([], []))
+        self.release("one")
+        self.assertEqual(await self.removed(), [prefix("one", epoch)])
 
     async def test_a_key_that_is_gone_puts_nothing(self) -> None:
         self.assertIsNone(await self.plugin.store_begin("three", "a1", True))
@@ -278,6 +302,10 @@ class Scheduling(unittest.IsolatedAsyncioTestCase):
         self.plugin.remove_worker(None, "a2")
         self.assertEqual(await self.plugin.store_hosts("A", "C"), {"own": [], "others": ["b1"], "known": True})
         self.assertFalse((await self.plugin.store_hosts("Z", "A"))["known"])
+
+
+def prefix(key: str, epoch: int) -> bytes:
+    return names.Name.of(key, epoch).prefix
 
 
 async def settled(plugin: Any) -> None:

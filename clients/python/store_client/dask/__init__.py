@@ -55,7 +55,9 @@ def attach(
     Values of more than `small` bytes are stored, in parts of at most `part` bytes, the others lie in their references. A worker that
     fetches something, and shows no progress for `lease` seconds, is taken for dead by the others of its host.
 
-    Raises what a worker meets: `ConnectionLost` if its host has no store, `NotAdmitted` if the job's key isn't right.
+    Raises what a worker meets: `ConnectionLost` if its host has no store, `NotAdmitted` if the job isn't live
+    there or the key isn't its own, `ValueError` or `OSError` if the key file isn't right there. A worker that joins later and meets it
+    stays, without a store: its tasks raise `RuntimeError` when they put or load, until `attach` is called again.
     """
     client.register_scheduler_plugin(StoreScheduler(), idempotent=True)
     client.register_worker_plugin(StoreWorkers(socket, job, key_file, nodes, part, small, lease))
@@ -65,21 +67,21 @@ def counts(client: Any) -> Dict[str, Dict[str, int]]:
     """Of each host what its workers have moved since they began, in bytes: `put`; `local`, read from the host's store; `fetched` from
     other hosts, and `served` to them."""
     sums: Dict[str, Dict[str, int]] = {}
-    for host, told in client.run(_counts).values():
+    for host, told in filter(None, client.run(_counts).values()):
         sums[host] = {what: sums.get(host, {}).get(what, 0) + told.get(what, 0) for what in MOVES}
     return sums
 
 
 def usage(client: Any) -> Dict[str, List[Usage]]:
-    """Of each host what the job has and uses of each node of its store."""
-    return dict(client.run(_usage).values())
+    """Of each host what the job has and uses of each node of its store. `ConnectionLost` if one is away just now."""
+    return dict(filter(None, client.run(_usage).values()))
 
 
-def _counts(dask_worker: Any) -> Tuple[str, Dict[str, int]]:
+def _counts(dask_worker: Any) -> Optional[Tuple[str, Dict[str, int]]]:
     plugin = dask_worker.plugins[PLUGIN]
-    return plugin.host, plugin.counts()
+    return None if plugin.fault else (plugin.host, plugin.counts())
 
 
-def _usage(dask_worker: Any) -> Tuple[str, List[Usage]]:
+def _usage(dask_worker: Any) -> Optional[Tuple[str, List[Usage]]]:
     plugin = dask_worker.plugins[PLUGIN]
-    return plugin.host, plugin.usage()
+    return None if plugin.fault else (plugin.host, plugin.usage())

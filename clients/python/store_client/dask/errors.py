@@ -9,7 +9,7 @@ class ValueLost(StoreError):
     """Nobody has the value any more: its host is gone, or its store, or the value was removed there.
 
     A task that depends on the value's key doesn't meet it: the scheduler computes the key again, and then the task. It is raised in a
-    task that was given the reference in another way.
+    task that was given the reference in another way, and in all tasks once the value was removed by `release`.
     """
 
     def __init__(self, host: str, about: str, why: str) -> None:

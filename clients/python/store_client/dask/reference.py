@@ -60,7 +60,7 @@ class StoreRef:
             worker.release(self)
         elif not self.inline:
             client = default_client()
-            client.sync(client.scheduler.store_release, epoch=self.name.epoch)
+            client.sync(client.scheduler.store_release, name=self.name.prefix)
 
     def grant(self, job: int) -> None:
         """In a task on the value's host: another job may load it there, with a reference that it is given."""
@@ -143,7 +143,11 @@ def in_worker() -> Any:
         return None
     if PLUGIN not in worker.plugins:
         raise RuntimeError("this worker has no store: store_client.dask.attach(client, ..) gives it one")
-    return worker.plugins[PLUGIN]
+    plugin = worker.plugins[PLUGIN]
+    if plugin.fault:
+        why = f"{type(plugin.fault).__name__}: {plugin.fault}"
+        raise RuntimeError(f"this worker has no store, as {why}: store_client.dask.attach(client, ..) tries it again") from plugin.fault
+    return plugin
 
 
 def _this_worker() -> Any:

@@ -39,9 +39,9 @@ class StoreScheduler(SchedulerPlugin):  # type: ignore[misc]
         self._keys: Dict[int, Set[str]] = {}
         self._epochs: Dict[str, Set[int]] = {}
         self._earlier: Dict[str, Set[int]] = {}
-        # of each lost epoch the keys for which it stayed, and the tasks that said so
-        self._lost: Dict[int, Set[str]] = {}
-        self._askers: Dict[int, Set[str]] = {}
+        # of each lost value the keys for which it stayed, and the tasks that said so
+        self._lost: Dict[Name, Set[str]] = {}
+        self._askers: Dict[Name, Set[str]] = {}
         self._released: List[Name] = []
         self._telling: Set[asyncio.Task[None]] = set()
 
@@ -72,30 +72,31 @@ class StoreScheduler(SchedulerPlugin):  # type: ignore[misc]
         self._keep(self._epoch, key if with_key else _FOREVER)
         return self._epoch
 
-    async def store_keep(self, epoch: int, key: str) -> bool:
-        """The value stays for this key too. False if it is gone already."""
-        if epoch not in self._names or key not in self._scheduler.tasks:
+    async def store_keep(self, name: bytes, key: str) -> bool:
+        """The value stays for this key too. False if it is gone already, or another scheduler's."""
+        if not self._has(Name(bytes(name))) or key not in self._scheduler.tasks:
             return False
-        self._keep(epoch, key)
+        self._keep(Name(bytes(name)).epoch, key)
         return True
 
-    async def store_release(self, epoch: int) -> None:
+    async def store_release(self, name: bytes) -> None:
         """The value goes, whoever keeps it."""
-        self._drop(epoch)
+        self._drop_value(Name(bytes(name)))
 
-    async def store_lost(self, epoch: int, asker: str) -> bool:
+    async def store_lost(self, name: bytes, asker: str) -> bool:
         """A task found the value to be lost: the keys for which it stayed are computed again.
 
         Whether the task is to be run again after them, since it depends on one; each is told so once of a value.
         """
-        keys = self._lost.setdefault(epoch, self._drop(epoch))
-        tasks = [self._scheduler.tasks.get(key) for key in keys if not self._askers.get(epoch)]
+        value = Name(bytes(name))
+        keys = self._lost.setdefault(value, self._drop_value(value))
+        tasks = [self._scheduler.tasks.get(key) for key in keys if not self._askers.get(value)]
         lost = {task.key: "released" for task in tasks if task is not None and task.state == "memory"}
         if lost:
             self._scheduler.transitions(lost, f"store-lost-{time.time()}")
         task = self._scheduler.tasks.get(asker)
-        is_first = asker not in self._askers.setdefault(epoch, set())
-        self._askers[epoch].add(asker)
+        is_first = asker not in self._askers.setdefault(value, set())
+        self._askers[value].add(asker)
         return is_first and task is not None and any(dependency.key in keys for dependency in task.dependencies)
 
     # ---- what the scheduler tells
@@ -123,6 +124,10 @@ class StoreScheduler(SchedulerPlugin):  # type: ignore[misc]
     def _workers_of(self, host: str) -> List[str]:
         return [address for address, one in self._hosts.items() if one == host]
 
+    def _has(self, value: Name) -> bool:
+        """Whether it is one of here: another scheduler, of another job, may have given out the same epoch."""
+        return self._names.get(value.epoch) == value
+
     def _keep(self, epoch: int, key: str) -> None:
         self._keys.setdefault(epoch, set()).add(key)
         self._epochs.setdefault(key, set()).add(epoch)
@@ -133,6 +138,9 @@ class StoreScheduler(SchedulerPlugin):  # type: ignore[misc]
             self._forget_pair(epoch, key)
             if not self._keys.get(epoch):
                 self._drop(epoch)
+
+    def _drop_value(self, value: Name) -> Set[str]:
+        return self._drop(value.epoch) if self._has(value) else set()
 
     def _drop(self, epoch: int) -> Set[str]:
         """The value goes. The keys that kept it."""

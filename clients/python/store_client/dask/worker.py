@@ -50,6 +50,8 @@ class StoreWorkers(WorkerPlugin):  # type: ignore[misc]
     """
 
     name = PLUGIN
+    #: why the worker has no store, if it has none: Dask doesn't say it of a worker that joins later
+    fault: Optional[Exception] = None
 
     def __init__(
         self,
@@ -70,6 +72,13 @@ class StoreWorkers(WorkerPlugin):  # type: ignore[misc]
 
     async def setup(self, worker: Any) -> None:
         """The worker starts, or the plugin is registered once more: what runs goes on with the one before, so there is no teardown."""
+        try:
+            await self._begin(worker)
+        except Exception as fault:
+            self.fault = fault
+            raise
+
+    async def _begin(self, worker: Any) -> None:
         said: Dict[str, Any] = {**self._words, **os.environ}
         self._worker = worker
         self.host = os.environ.get("STORE_HOST") or socket.gethostname()
@@ -155,7 +164,7 @@ class StoreWorkers(WorkerPlugin):  # type: ignore[misc]
                 all_of(self._threads, lambda part: self._load_part(ref, part, body[ref.place(part)], route, deadline), order)
         except ValueLost:
             # a task that depends on the key isn't to fail, however late its end is heard of: it runs again after the key has
-            if self._ask(self._worker.scheduler.store_lost(epoch=ref.name.epoch, asker=self._asker())):
+            if self._ask(self._worker.scheduler.store_lost(name=ref.name.prefix, asker=self._asker())):
                 raise Reschedule() from None
             raise
         return ref.decode(body.toreadonly(), self._job)
@@ -183,13 +192,13 @@ class StoreWorkers(WorkerPlugin):  # type: ignore[misc]
 
     def keep(self, ref: StoreRef) -> None:
         """See `StoreRef.keep`."""
-        if not ref.inline and not self._ask(self._worker.scheduler.store_keep(epoch=ref.name.epoch, key=self._task_key())):
+        if not ref.inline and not self._ask(self._worker.scheduler.store_keep(name=ref.name.prefix, key=self._task_key())):
             raise ValueLost(ref.host, ref.about, "it was released before it was kept")
 
     def release(self, ref: StoreRef) -> None:
         """See `StoreRef.release`."""
         if not ref.inline:
-            self._ask(self._worker.scheduler.store_release(epoch=ref.name.epoch))
+            self._ask(self._worker.scheduler.store_release(name=ref.name.prefix))
 
     def grant(self, ref: StoreRef, job: int) -> None:
         """See `StoreRef.grant`."""
