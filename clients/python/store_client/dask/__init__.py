@@ -67,14 +67,19 @@ def counts(client: Any) -> Dict[str, Dict[str, int]]:
     """Of each host what its workers have moved since they began, in bytes: `put`; `local`, read from the host's store; `fetched` from
     other hosts, and `served` to them."""
     sums: Dict[str, Dict[str, int]] = {}
-    for host, told in filter(None, client.run(_counts).values()):
+    for host, told in _answers(client, _counts):
         sums[host] = {what: sums.get(host, {}).get(what, 0) + told.get(what, 0) for what in MOVES}
     return sums
 
 
 def usage(client: Any) -> Dict[str, List[Usage]]:
     """Of each host what the job has and uses of each node of its store. `ConnectionLost` if one is away just now."""
-    return dict(filter(None, client.run(_usage).values()))
+    return dict(_answers(client, _usage))
+
+
+def _answers(client: Any, asked: Any) -> List[Tuple[str, Any]]:
+    """What the workers that have a store answer, each with its host."""
+    return [answer for answer in client.run(asked).values() if answer is not None]
 
 
 def _counts(dask_worker: Any) -> Optional[Tuple[str, Dict[str, int]]]:
