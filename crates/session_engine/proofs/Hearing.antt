@@ -12,8 +12,8 @@ use Rattle.session_engine.specs.declared.ending.SessionFault.{SessionFault}
 use Rattle.session_engine.specs.Calls.{Asked, Answered}
 use Rattle.session_engine.specs.Sessions.{Standing, standing}
 use Rattle.session_engine.specs.Serving.{AnswersAll, not_a_frame}
-use Rattle.session_engine.specs.Hearing.{Sends, Answering, AnswersPiece, HearsNoFrame}
-use Rattle.session_engine.proofs.Answering.{Appends-replies, Appends-reply, answered_none}
+use Rattle.session_engine.specs.Hearing.{Sends, Flushes, StopsAnswering, Answering, AnswersPiece, HearsNoFrame}
+use Rattle.session_engine.proofs.Answering.{Appends-replies, Appends-reply, answered_none, stopped_before, stopped_refusing, stopped_after_refusing}
 
 answer_at-ok : (end : End) (xs ys : List Item) → answer_at end xs ≡ Ok ys → xs ≡ ys
 answer_at-ok clean xs ys h = cc
@@ -37,7 +37,7 @@ module _ {G : Type 0} (gives : G → Asked → Answered → G → Type 0) (readi
         (sym (ap (λ f. f.reader) is), subst (λ l. AnswersAll gives l a b) (sym (answer_at-ok now.end now.items items (ap (λ f. f.answer) is))) h)
     items_answered items (Err fault) is h =
         let now = continued reading piece in
-        subst (λ l. Answering gives l a b (Err fault)) (sym (answer_at-ok now.end now.items items (ap (λ f. f.answer) is))) h
+        subst (λ l. StopsAnswering gives fault now.end l a b) (sym (answer_at-ok now.end now.items items (ap (λ f. f.answer) is))) (stopped_before gives fault now.end items a b h)
 
   pub no_items_answered : (a : Standing G) (new : Reading) → fed reading piece ≡ told (Err NotAFrame) new → AnswersPiece gives reading piece a a new (Ok tt)
   no_items_answered a new is =
@@ -45,11 +45,25 @@ module _ {G : Type 0} (gives : G → Asked → Answered → G → Type 0) (readi
       (sym (ap (λ f. f.reader) is), subst (λ l. AnswersAll gives l a a) (sym (answer_at-fault now.end now.items (ap (λ f. f.answer) is))) (answered_none gives a))
 
   module _ (a b : Standing G) (new : Reading) (answered : AnswersPiece gives reading piece a b new (Ok tt)) where
+    fault_heard : is_fault (fed new []).answer ≡ true → malformed ≡ (continued reading piece).end
+    fault_heard faulty = sym (fault_met reading piece (subst (λ at. is_fault (fed at []).answer ≡ true) answered.0 faulty))
+
+    module _ (fault : SessionFault) (faulty : is_fault (fed new []).answer ≡ true) (w : Option (List ℕ)) where
+      abbrev Stops : Option (List ℕ) → End → Type 0
+      Stops written end = StopsAnswering gives fault end (continued reading piece).items a (standing b.gate b.seat written)
+
+      pub refusing_stopped : Sends not_a_frame b.written w (Err fault) → Stops w (continued reading piece).end
+      refusing_stopped sends = subst (Stops w) (fault_heard faulty) (stopped_refusing gives fault (continued reading piece).items a b w answered.1 sends)
+
+      pub refused_stopped : (w1 : Option (List ℕ)) → Sends not_a_frame b.written w (Ok tt) → Flushes w w1 (Err fault) → Stops w1 (continued reading piece).end
+      refused_stopped w1 sent flushes =
+          subst (Stops w1) (fault_heard faulty) (stopped_after_refusing gives fault (continued reading piece).items a b w w1 answered.1 sent flushes)
+
     pub no_frame_heard : (w w1 : Option (List ℕ)) → is_fault (fed new []).answer ≡ true → Sends not_a_frame b.written w (Ok tt) → Keeps w w1 → HearsNoFrame gives reading piece a (standing b.gate b.seat w1)
     no_frame_heard w w1 faulty sent k =
         let replies = answered.1.replies in
         record {
-          faulty = fault_met reading piece (subst (λ at. is_fault (fed at []).answer ≡ true) answered.0 faulty);
+          faulty = sym (fault_heard faulty);
           concluded = record {
             replies = replies;
             run = answered.1.run;

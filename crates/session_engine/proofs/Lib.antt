@@ -1,3 +1,4 @@
+mod Writing
 mod Answering
 mod Hearing
 mod Ends

@@ -90,7 +90,7 @@ module _ {G : Type 0} (gives : G → Asked → Answered → G → Type 0) (r : O
   begun = record { bytes = []; consumed = Consumes-none r; reading = refl; sound = λ e. cc; answered = answered_none gives a }
 
   pub no_buffer : AnswersInput gives a a r r (Err Memory)
-  no_buffer = record { bytes = []; consumed = Consumes-none r; outcome = no_memory_before gives [] a }
+  no_buffer = record { bytes = []; consumed = Consumes-none r; outcome = no_memory_before gives clean [] a }
 
   -- the input is at its end, and all of it is answered
   input_ended : (frames : Reading) (r1 : Option (List ℕ)) (b : Standing G) → Progress frames r1 b → IsAtEnd r1 → (ended : Ended) → ended ≡ (if is_in_mid_frame frames then MidFrame else Clean) → AnswersInput gives a b r r1 (Ok ended)
@@ -151,12 +151,17 @@ module _ {G : Type 0} (gives : G → Asked → Answered → G → Type 0) (r : O
         pub heard_no_frame : what ≡ NoFrame → AnswersInput gives a c r r2 (Ok Malformed)
         heard_no_frame is = no_frame_heard (subst (λ w. HearsPiece gives frames piece b c frames2 (Ok w)) is hears)
 
-      stopped : (fault : SessionFault) → StopsAnswering gives fault (continued frames piece).items b c → StopsAnswering gives fault (stream_of (so_far.bytes ++ piece)).items a c
-      stopped fault stops =
-          subst (λ l. StopsAnswering gives fault l a c) (sym items_on)
-          (stopped_then gives fault (stream_of so_far.bytes).items (continued frames piece).items a b c so_far.answered stops)
+      module _ (fault : SessionFault) where
+        abbrev Stops : End → List Item → Standing G → Type 0
+        Stops end items old = StopsAnswering gives fault end items old c
 
-      pub hearing_stopped : (fault : SessionFault) → StopsAnswering gives fault (continued frames piece).items b c → AnswersInput gives a c r r2 (Err fault)
+        stopped : Stops (continued frames piece).end (continued frames piece).items b → Stops (stream_of (so_far.bytes ++ piece)).end (stream_of (so_far.bytes ++ piece)).items a
+        stopped stops =
+            subst (λ end. Stops end (stream_of (so_far.bytes ++ piece)).items a) (sym end_on)
+            (subst (λ l. Stops (continued frames piece).end l a) (sym items_on)
+            (stopped_then gives fault (continued frames piece).end (stream_of so_far.bytes).items (continued frames piece).items a b c so_far.answered stops))
+
+      pub hearing_stopped : (fault : SessionFault) → StopsAnswering gives fault (continued frames piece).end (continued frames piece).items b c → AnswersInput gives a c r r2 (Err fault)
       hearing_stopped Read stops = absurd stops
       hearing_stopped Write stops = record { bytes = so_far.bytes ++ piece; consumed = consumed_on; outcome = stopped Write stops }
       hearing_stopped Memory stops = record { bytes = so_far.bytes ++ piece; consumed = consumed_on; outcome = stopped Memory stops }

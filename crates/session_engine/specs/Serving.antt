@@ -1,11 +1,11 @@
 -- A session as a whole: what it reads and writes, and how it ends.
-use Rattle.std.specs.Prelude.{◌≡◌, ◌≢◌, ℕ, List, [], ◌∷◌, ◌++◌, Option, None, IfSome, Result, Ok, Err, ⊤}
+use Rattle.std.specs.Prelude.{◌≡◌, ◌≢◌, ℕ, List, [], ◌∷◌, ◌++◌, take, Option, Some, None, IfSome, option_to_list, Result, Ok, Err}
 use Rattle.std.specs.Io.KnownBytes.{Appends, Consumes}
 use Rattle.obj_id.specs.declared.refusals.Refusal.TheVariants as refusal
 use Rattle.obj_id.specs.declared.commands.Reply.{Reply}
 use Rattle.obj_id.specs.declared.commands.Reply.TheVariants as reply
 use Rattle.private_store.specs.declared.frames.Item.{Item}
-use Rattle.private_store.specs.Frames.{clean, mid_frame, malformed, stream_of, replies_bytes}
+use Rattle.private_store.specs.Frames.{End, clean, mid_frame, malformed, stream_of, reply_frame, replies_bytes}
 use Rattle.session_engine.specs.declared.session.Seat.{Seat}
 use Rattle.session_engine.specs.declared.ending.Ended.{Ended}
 use Rattle.session_engine.specs.declared.ending.Ended.TheVariants.{Clean, MidFrame, Malformed}
@@ -30,11 +30,21 @@ EndsIn Clean bytes input = ((stream_of bytes).end ≡ clean) × IfSome input (λ
 EndsIn MidFrame bytes input = ((stream_of bytes).end ≡ mid_frame) × ((stream_of bytes).rest ≢ []) × IfSome input (λ all. all ≡ bytes)
 EndsIn Malformed bytes input = (stream_of bytes).end ≡ malformed
 
--- what went out before a fault; where writing failed, nobody knows
-abbrev pub IsSent : SessionFault → Option (List ℕ) → Option (List ℕ) → List (Reply (List ℕ)) → Type 0
-IsSent Read written_old written_new sent = Appends written_old written_new (replies_bytes sent)
-IsSent Write written_old written_new sent = ⊤
-IsSent Memory written_old written_new sent = Appends written_old written_new (replies_bytes sent)
+-- known bytes grow by these, and by a beginning of the next ones
+abbrev pub AppendsPart : Option (List ℕ) → Option (List ℕ) → List ℕ → List ℕ → Type 0
+AppendsPart written_old written_new whole next = (count : ℕ) × Appends written_old written_new (whole ++ take count next)
+
+-- what went out before a fault: whole frames, and if writing failed a beginning of the one that was due
+abbrev pub IsSent : SessionFault → Option (List ℕ) → Option (List ℕ) → List (Reply (List ℕ)) → List ℕ → Type 0
+IsSent Read written_old written_new sent due = Appends written_old written_new (replies_bytes sent)
+IsSent Write written_old written_new sent due = AppendsPart written_old written_new (replies_bytes sent) due
+IsSent Memory written_old written_new sent due = Appends written_old written_new (replies_bytes sent)
+
+-- the frame that is due after the replies that were sent: of the reply that wasn't, or of the refusal of what isn't a frame once no item waits
+abbrev pub due_frame : Option (Reply (List ℕ)) → List Item → End → List ℕ
+due_frame (Some reply) waiting end = reply_frame reply
+due_frame None [] malformed = reply_frame not_a_frame
+due_frame None _ _ = []
 
 module _ {G : Type 0} (gives : G → Asked → Answered → G → Type 0) where
   -- all items are answered, and the session ends so
@@ -49,22 +59,22 @@ module _ {G : Type 0} (gives : G → Asked → Answered → G → Type 0) where
     pub run : Run gives items replies old.gate old.seat new.gate new.seat
     pub written : Appends old.written new.written (replies_bytes replies)
 
-  -- a fault came: a beginning of the items is answered, and a beginning of the answers written
-  pub record StopsWithin (fault : SessionFault) (items : List Item) (old new : Standing G) : Type 0 where
+  -- a fault came: a beginning of the items is answered, and all of its answers are sent, or all but the last
+  pub record StopsWithin (fault : SessionFault) (end : End) (items : List Item) (old new : Standing G) : Type 0 where
     pub answered : List Item
     pub waiting : List Item
     pub parted : items ≡ answered ++ waiting
     pub sent : List (Reply (List ℕ))
-    pub unsent : List (Reply (List ℕ))
-    pub run : Run gives answered (sent ++ unsent) old.gate old.seat new.gate new.seat
-    pub written : IsSent fault old.written new.written sent
+    pub unsent : Option (Reply (List ℕ))
+    pub run : Run gives answered (sent ++ option_to_list unsent) old.gate old.seat new.gate new.seat
+    pub written : IsSent fault old.written new.written sent (due_frame unsent waiting end)
 
   -- how a session ended or stopped that had read these bytes of its input
   abbrev pub IsOutcome : List ℕ → Option (List ℕ) → Standing G → Standing G → Result Ended SessionFault → Type 0
   IsOutcome bytes input old new (Ok ended) = EndsIn ended bytes input × Concludes ended (stream_of bytes).items old new
   IsOutcome bytes input old new (Err Read) = AnswersAll (stream_of bytes).items old new
-  IsOutcome bytes input old new (Err Write) = StopsWithin Write (stream_of bytes).items old new
-  IsOutcome bytes input old new (Err Memory) = StopsWithin Memory (stream_of bytes).items old new
+  IsOutcome bytes input old new (Err Write) = StopsWithin Write (stream_of bytes).end (stream_of bytes).items old new
+  IsOutcome bytes input old new (Err Memory) = StopsWithin Memory (stream_of bytes).end (stream_of bytes).items old new
 
   -- the input is answered
   pub record AnswersInput (old new : Standing G) (read_old read_new : Option (List ℕ)) (result : Result Ended SessionFault) : Type 0 where

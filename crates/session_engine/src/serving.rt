@@ -37,9 +37,9 @@ pub enum Heard {
 /// over before a call that waits.
 ///
 /// `Read` comes if a read fails, or is past the 18,446,744,073,709,551,615th: all that was read is answered
-/// then. `Write` comes if a write or a flush fails, and nothing is said of how much was written. `Memory`
-/// comes if the process is out of memory for what is read or for an answer's frame: what was written then
-/// is the frames of the first replies.
+/// then. `Write` comes if a write or a flush fails: what was written then is the frames of the first replies, and a
+/// beginning of the next one's. `Memory` comes if the process is out of memory for what is read or for an answer's
+/// frame: what was written then is the frames of the first replies.
 pub fn serve<R: Read, W: Write, G: Gate>(
     alloc: Global,
     reader: &mut R,

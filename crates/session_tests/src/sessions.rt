@@ -4,7 +4,7 @@ use assertions::{holds, same};
 use hex::FromHexError;
 use session_engine::{Ended, FaultyStream, SessionFault, serve};
 use std::alloc::{AllocError, Global};
-use std::io::{self, Read, Write};
+use std::io::{self, ErrorKind, Read, Write};
 use std::process::Abort;
 use std::test::Fail;
 
@@ -105,6 +105,8 @@ struct Way {
     at_once: usize,
     failing_read: u64,
     failing_write: u64,
+    /// How many bytes the writer takes at once, after an interruption each time. `None` is all, and no interruption.
+    sip: Option<usize>,
 }
 
 /// All at once, and no call fails.
@@ -113,6 +115,16 @@ const PLAIN: Way = Way {
     at_once: usize::MAX,
     failing_read: 0,
     failing_write: 0,
+    sip: None,
+};
+
+/// The same, with a writer that takes 4 bytes at once.
+const SIPPING: Way = Way {
+    cut: 0,
+    at_once: usize::MAX,
+    failing_read: 0,
+    failing_write: 0,
+    sip: Some(4),
 };
 
 /// What came of a session.
@@ -154,6 +166,32 @@ impl Write for Outbox {
     }
 }
 
+/// An outbox that may take only some bytes at once, after an interruption each time.
+#[derive(Drop)]
+struct Sips {
+    outbox: Outbox,
+    at_once: Option<usize>,
+    interrupted: bool,
+}
+
+impl Write for Sips {
+    fn write(&mut self, buf: &[u8]) -> io::Result<usize> {
+        let Some(at_once) = self.at_once else {
+            return self.outbox.write(buf);
+        };
+        self.interrupted = !self.interrupted;
+        if self.interrupted {
+            return Err(io::Error::from(ErrorKind::Interrupted));
+        }
+        let len = buf.len().min(at_once);
+        self.outbox.write(&buf[..len])
+    }
+
+    fn flush(&mut self) -> io::Result<()> {
+        self.outbox.flush()
+    }
+}
+
 fn session_once(alloc: Global, input: &[u8], way: Way) -> Result<Session, AllocError> {
     let cut = way.cut.min(input.len());
     let pieces = Read::chain(&input[..cut], &input[cut..]);
@@ -162,12 +200,17 @@ fn session_once(alloc: Global, input: &[u8], way: Way) -> Result<Session, AllocE
         at_once: way.at_once,
     };
     let mut reader = FaultyStream::new(drip, way.failing_read);
-    let mut writer = FaultyStream::new(Outbox::new(alloc)?, way.failing_write);
+    let sips = Sips {
+        outbox: Outbox::new(alloc)?,
+        at_once: way.sip,
+        interrupted: false,
+    };
+    let mut writer = FaultyStream::new(sips, way.failing_write);
     let mut desk = Desk::new();
     let outcome = serve(alloc, &mut reader, &mut writer, &mut desk);
     Ok(Session {
         outcome,
-        outbox: writer.inner,
+        outbox: writer.inner.outbox,
         desk,
     })
 }
@@ -365,11 +408,12 @@ fn fail_writes(
     input: &[u8],
     whole: &[u8],
     writes: &[(u64, usize)],
+    plain: Way,
 ) -> Result<(), AllocError> {
     for (turn, written) in writes {
         let way = Way {
             failing_write: *turn,
-            ..PLAIN
+            ..plain
         };
         let session = served(rt, alloc, input, way, whole)?;
         assert_eq!(rt; session.outcome, Err(SessionFault::Write), "write {turn}");
@@ -378,7 +422,7 @@ fn fail_writes(
     }
     let way = Way {
         failing_write: writes.len() as u64 + 1,
-        ..PLAIN
+        ..plain
     };
     let session = served(rt, alloc, input, way, whole)?;
     same!(rt; session.outcome, Ok(Ended::Clean));
@@ -391,7 +435,42 @@ fn each_write_fails_in_turn(rt: HostRuntime) -> Result<(), Fail> {
     let input = worked_session(rt.alloc())?;
     let whole = worked_answers(rt.alloc())?;
     let writes = [(1, 0), (2, 5), (3, 18), (4, 23)];
-    fail_writes(&rt, rt.alloc(), &input, &whole, &writes)?;
+    fail_writes(&rt, rt.alloc(), &input, &whole, &writes, PLAIN)?;
+    Ok(())
+}
+
+/// Of each write of the worked answers that may fail, by a writer that takes 4 bytes of a frame at once and is interrupted before
+/// each, how many bytes were written before it.
+const SIPS: [(u64, usize); 22] = [
+    (1, 0),
+    (2, 0),
+    (3, 4),
+    (4, 4),
+    (5, 5),
+    (6, 5),
+    (7, 9),
+    (8, 9),
+    (9, 13),
+    (10, 13),
+    (11, 17),
+    (12, 17),
+    (13, 18),
+    (14, 18),
+    (15, 22),
+    (16, 22),
+    (17, 23),
+    (18, 23),
+    (19, 27),
+    (20, 27),
+    (21, 31),
+    (22, 31),
+];
+
+#[test]
+fn an_answer_goes_on_after_short_writes(rt: HostRuntime) -> Result<(), Fail> {
+    let input = worked_session(rt.alloc())?;
+    let whole = worked_answers(rt.alloc())?;
+    fail_writes(&rt, rt.alloc(), &input, &whole, &SIPS, SIPPING)?;
     Ok(())
 }
 
@@ -408,7 +487,7 @@ fn long_answers(alloc: Global) -> Result<Vec<u8>, FromHexError> {
 fn a_long_answer_comes_whole_or_not_at_all(rt: HostRuntime) -> Result<(), Fail> {
     let input = bytes_of(rt.alloc(), &[HELLO, READ])?;
     let whole = long_answers(rt.alloc())?;
-    fail_writes(&rt, rt.alloc(), &input, &whole, &[(1, 0), (2, 5)])?;
+    fail_writes(&rt, rt.alloc(), &input, &whole, &[(1, 0), (2, 5)], PLAIN)?;
     Ok(())
 }
 

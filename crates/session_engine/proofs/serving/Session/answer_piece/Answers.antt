@@ -13,4 +13,4 @@ returns-in-Err-Malformed g c =
     no_items_answered g.G.Gate.gives c.args.self.now.frames c.args.piece.now _ c.feed.new.self (c.in-Err-Malformed.ensures.fault (ap Err c.in-Err-Malformed.field-0-is))
 
 pub returns-in-Err : goal.returns-in-Err
-returns-in-Err g c = no_memory_before g.G.Gate.gives _ _
+returns-in-Err g c = no_memory_before g.G.Gate.gives _ _ _

@@ -1,18 +1,19 @@
 use Rattle.std.proofs.Common.{sym, ◌∙◌}
-use Rattle.session_engine.specs.Serving.{not_a_frame}
-use Rattle.session_engine.proofs.Answering.{passed_on, stopped_after, stopped_sending}
-use Rattle.session_engine.proofs.Hearing.{no_frame_heard}
+use Rattle.session_engine.proofs.Answering.{passed_on, stopped_after}
+use Rattle.session_engine.proofs.Hearing.{no_frame_heard, refusing_stopped, refused_stopped}
 use Rattle.session_engine.proofs.serving.Session.hear.Goals as goal
 
 pub returns-in_err-send : goal.returns-in_err-send
 returns-in_err-send g c =
     rw (passed_on _ c.in_err-send.field-0.0 c.from_residual-in_err-send.ensures.1)
-    (stopped_sending g.G.Gate.gives _ _ not_a_frame _ _ _ c.in_ok-answer_piece.ensures.1 c.in_err-send.ensures)
+    (refusing_stopped g.G.Gate.gives c.args.self.now.frames c.args.piece.now _ _ c.answer_piece.new.self.frames c.in_ok-answer_piece.ensures _
+    (sym c.has_fault.ensures ∙ c.if-has_fault.true) (g.W.Write.contents c.send.new.writer) c.in_err-send.ensures)
 
 pub returns-in_err-flush : goal.returns-in_err-flush
 returns-in_err-flush g c =
     rw (passed_on _ c.in_err-flush.field-0.0 c.from_residual-in_err-flush.ensures.1)
-    (stopped_after g.G.Gate.gives _ _ _ _ (g.W.Write.contents c.send.new.writer) _ c.in_ok-answer_piece.ensures.1 c.in_err-flush.ensures)
+    (refused_stopped g.G.Gate.gives c.args.self.now.frames c.args.piece.now _ _ c.answer_piece.new.self.frames c.in_ok-answer_piece.ensures _
+    (sym c.has_fault.ensures ∙ c.if-has_fault.true) (g.W.Write.contents c.send.new.writer) _ c.in_ok-send.ensures c.in_err-flush.ensures)
 
 pub returns-then-has_fault : goal.returns-then-has_fault
 returns-then-has_fault g c =
@@ -22,4 +23,4 @@ returns-then-has_fault g c =
 pub returns-in_err-flush-2 : goal.returns-in_err-flush-2
 returns-in_err-flush-2 g c =
     rw (passed_on _ c.in_err-flush-2.field-0.0 c.from_residual-in_err-flush-2.ensures.1)
-    (stopped_after g.G.Gate.gives _ _ _ _ (g.W.Write.contents c.answer_piece.new.writer) _ c.in_ok-answer_piece.ensures.1 c.in_err-flush-2.ensures)
+    (stopped_after g.G.Gate.gives _ _ _ _ _ _ c.in_ok-answer_piece.ensures.1 c.in_err-flush-2.ensures)
