@@ -13,7 +13,7 @@ use Rattle.session_engine.specs.Calls.{Asked, Answered}
 use Rattle.session_engine.specs.Sessions.{Standing, standing}
 use Rattle.session_engine.specs.Serving.{AnswersAll, not_a_frame}
 use Rattle.session_engine.specs.Hearing.{Sends, Flushes, StopsAnswering, Answering, AnswersPiece, HearsNoFrame}
-use Rattle.session_engine.proofs.Answering.{Appends-replies, Appends-reply, answered_none, stopped_before, stopped_refusing, stopped_after_refusing}
+use Rattle.session_engine.proofs.Answering.{Appends-replies, Appends-reply, answered_none, stopped_refusing, stopped_after_refusing}
 
 answer_at-ok : (end : End) (xs ys : List Item) → answer_at end xs ≡ Ok ys → xs ≡ ys
 answer_at-ok clean xs ys h = cc
@@ -37,7 +37,7 @@ module _ {G : Type 0} (gives : G → Asked → Answered → G → Type 0) (readi
         (sym (ap (λ f. f.reader) is), subst (λ l. AnswersAll gives l a b) (sym (answer_at-ok now.end now.items items (ap (λ f. f.answer) is))) h)
     items_answered items (Err fault) is h =
         let now = continued reading piece in
-        subst (λ l. StopsAnswering gives fault now.end l a b) (sym (answer_at-ok now.end now.items items (ap (λ f. f.answer) is))) (stopped_before gives fault now.end items a b h)
+        subst (λ l. Answering gives l a b (Err fault)) (sym (answer_at-ok now.end now.items items (ap (λ f. f.answer) is))) h
 
   pub no_items_answered : (a : Standing G) (new : Reading) → fed reading piece ≡ told (Err NotAFrame) new → AnswersPiece gives reading piece a a new (Ok tt)
   no_items_answered a new is =

@@ -1,5 +1,6 @@
 mod Writing
 mod Answering
 mod Hearing
+mod Parts
 mod Ends
 mod Progress

@@ -1,11 +1,10 @@
 -- A session so far, and how it ends.
-use Rattle.std.proofs.Common.{◌≡◌, ◌≢◌, ℕ, Bool, true, false, List, [], ◌∷◌, ◌++◌, Option, IfSome, Ok, Err, refl, sym, ap, subst, ◌∙◌, append-nil, append_assoc}
+use Rattle.std.proofs.Common.{◌≡◌, ◌≢◌, ℕ, Bool, true, false, List, [], ◌∷◌, ◌++◌, Option, IfSome, Ok, Err, refl, sym, ap, subst, ◌∙◌, append_assoc}
 use Rattle.std.specs.Prelude.{if◌then◌else◌}
 use Rattle.std.specs.Io.KnownBytes.{Appends, Consumes, IsAtEnd}
 use Rattle.private_store.specs.declared.frames.Item.{Item}
 use Rattle.private_store.specs.Frames.{End, clean, mid_frame, malformed, replies_bytes, stream_of}
 use Rattle.wire_frames.specs.Reading.{Reading, unfinished, continued, is_in_mid_frame, reading_at, reading_after}
-use Rattle.wire_frames.proofs.Pieces.{onward_at, stream_of-append}
 use Rattle.session_engine.specs.declared.ending.Ended.{Ended}
 use Rattle.session_engine.specs.declared.ending.Ended.TheVariants.{Clean, MidFrame, Malformed}
 use Rattle.session_engine.specs.declared.ending.SessionFault.{SessionFault}
@@ -19,37 +18,7 @@ use Rattle.session_engine.specs.Hearing.{StopsAnswering, Hears, HearsNoFrame, He
 use Rattle.private_store.proofs.KnownBytes.{Consumes-none, Consumes-then, Consumes-all}
 use Rattle.session_engine.proofs.Answering.{Appends-replies, Run-then, answered_none, answered_then, stopped_then, no_memory_before}
 use Rattle.session_engine.proofs.Ends.{IsRest, rest_of_stream}
-
--- what a stream says that goes on
-pub record GoesOn (bytes piece : List ℕ) : Type 0 where
-  pub items : (stream_of (bytes ++ piece)).items ≡ (stream_of bytes).items ++ (continued (reading_after (stream_of bytes)) piece).items
-  pub end : (stream_of (bytes ++ piece)).end ≡ (continued (reading_after (stream_of bytes)) piece).end
-  pub reading : reading_after (stream_of (bytes ++ piece)) ≡ reading_after (continued (reading_after (stream_of bytes)) piece)
-
-onward_items : (end : End) (items : List Item) (rest piece : List ℕ) → (onward_at end items rest piece).items ≡ items ++ (continued (reading_at end rest) piece).items
-onward_items clean items rest piece = refl
-onward_items mid_frame items rest piece = refl
-onward_items malformed items rest piece = sym (append-nil items)
-
-onward_end : (end : End) (items : List Item) (rest piece : List ℕ) → (onward_at end items rest piece).end ≡ (continued (reading_at end rest) piece).end
-onward_end clean items rest piece = refl
-onward_end mid_frame items rest piece = refl
-onward_end malformed items rest piece = refl
-
-onward_reading : (end : End) (items : List Item) (rest piece : List ℕ) → reading_after (onward_at end items rest piece) ≡ reading_after (continued (reading_at end rest) piece)
-onward_reading clean items rest piece = refl
-onward_reading mid_frame items rest piece = refl
-onward_reading malformed items rest piece = refl
-
-goes_on : (bytes piece : List ℕ) → GoesOn bytes piece
-goes_on bytes piece =
-    let s = stream_of bytes in
-    let on = stream_of-append bytes piece in
-    record {
-      items = ap (λ t. t.items) on ∙ onward_items s.end s.items s.rest piece;
-      end = ap (λ t. t.end) on ∙ onward_end s.end s.items s.rest piece;
-      reading = ap reading_after on ∙ onward_reading s.end s.items s.rest piece;
-    }
+use Rattle.session_engine.proofs.Parts.{stream_on}
 
 -- the end by what the reader keeps
 ended_in : (end : End) (rest : List ℕ) (input : Option (List ℕ)) (bytes : List ℕ) → (stream_of bytes).end ≡ end → (stream_of bytes).rest ≡ rest → end ≢ malformed → IsRest end rest → IfSome input (λ all. all ≡ bytes)
@@ -112,17 +81,17 @@ module _ {G : Type 0} (gives : G → Asked → Answered → G → Type 0) (r : O
       consumed_on = Consumes-then r r1 r2 so_far.bytes piece so_far.consumed read
 
       items_on : (stream_of (so_far.bytes ++ piece)).items ≡ (stream_of so_far.bytes).items ++ (continued frames piece).items
-      items_on = (goes_on so_far.bytes piece).items ∙ ap (λ at. (stream_of so_far.bytes).items ++ (continued at piece).items) so_far.reading
+      items_on = (stream_on so_far.bytes piece).items_on ∙ ap (λ at. (stream_of so_far.bytes).items ++ (continued at piece).items) so_far.reading
 
       end_on : (stream_of (so_far.bytes ++ piece)).end ≡ (continued frames piece).end
-      end_on = (goes_on so_far.bytes piece).end ∙ ap (λ at. (continued at piece).end) so_far.reading
+      end_on = (stream_on so_far.bytes piece).end_on ∙ ap (λ at. (continued at piece).end) so_far.reading
 
       items_heard : (frames2 : Reading) → Hears gives frames piece b c frames2 → Progress frames2 r2 c
       items_heard frames2 hears =
           record {
             bytes = so_far.bytes ++ piece;
             consumed = consumed_on;
-            reading = (goes_on so_far.bytes piece).reading ∙ ap (λ at. reading_after (continued at piece)) so_far.reading ∙ sym hears.kept;
+            reading = (stream_on so_far.bytes piece).kept_on ∙ ap (λ at. reading_after (continued at piece)) so_far.reading ∙ sym hears.kept;
             sound = subst (λ e. e ≢ malformed) (sym end_on) hears.sound;
             answered =
                 subst (λ l. AnswersAll gives l a c) (sym items_on)

@@ -50,7 +50,7 @@ module _ {G : Type 0} (gives : G → Asked → Answered → G → Type 0) where
   -- what becomes of the items of a piece, and what the reader keeps
   abbrev pub AnswersPiece : Reading → List ℕ → Standing G → Standing G → Reading → Result ⊤ SessionFault → Type 0
   AnswersPiece reading piece old new reading_new (Ok u) = (reading_new ≡ reading_after (continued reading piece)) × AnswersAll gives (continued reading piece).items old new
-  AnswersPiece reading piece old new reading_new (Err fault) = StopsAnswering fault (continued reading piece).end (continued reading piece).items old new
+  AnswersPiece reading piece old new reading_new (Err fault) = StopsAnswering fault clean (continued reading piece).items old new
 
   -- what a piece says is answered, and the stream has no fault
   pub record Hears (reading : Reading) (piece : List ℕ) (old new : Standing G) (reading_new : Reading) : Type 0 where

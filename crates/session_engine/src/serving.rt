@@ -1,5 +1,5 @@
 //! A session from its first byte to its last.
-ghost use Rattle.std.specs.Prelude.{◌≡◌, ◌<◌, [], ◌∷◌, None, length, if◌then◌else◌};
+ghost use Rattle.std.specs.Prelude.{◌≡◌, ◌<◌, [], ◌∷◌, None, vec_len, if◌then◌else◌};
 ghost use Rattle.wire_frames.specs.Reading.{is_in_mid_frame, unfinished};
 ghost use Rattle.session_engine.specs.Hearing.{Answering, AnswersPiece, HearsPiece};
 ghost use Rattle.session_engine.specs.Serving.{AnswersInput, Served};
@@ -14,8 +14,14 @@ use std::alloc::Global;
 use std::io::{Read, Write};
 use wire_frames::Reader;
 
-/// How many bytes are read at once, at most.
+/// How many bytes are read at once, at most, before an accepted Hello: so who never says one takes little memory.
+const FIRST_PIECE_SIZE: usize = 4_096;
+
+/// How many bytes are read at once, at most, after it.
 const PIECE_SIZE: usize = 65_536;
+
+/// Of how many bytes the items are there at once, at most.
+const PART_SIZE: usize = 4_096;
 
 /// What was heard in a piece of the input.
 #[derive(Clone, Copy, Debug)]
@@ -90,10 +96,10 @@ impl Session {
             (standing gate.new self.new.seat (W.contents writer.new))
             (R.remaining reader.old) (R.remaining reader.new) result }
     {
-        let Ok(mut buffer) = vec![in self.alloc; 0u8; PIECE_SIZE] else {
+        let Ok(buffer) = vec![in self.alloc; 0u8; FIRST_PIECE_SIZE] else {
             return Err(SessionFault::Memory)
         };
-        self.answer_pieces(reader, writer, gate, buffer.as_mut_slice())
+        self.answer_pieces(reader, writer, gate, buffer)
     }
 
     /// Answers all that the reader gives, piece by piece, as the buffer takes it.
@@ -102,19 +108,20 @@ impl Session {
         reader: &mut R,
         writer: &mut W,
         gate: &mut G,
-        buffer: &mut [u8],
+        mut buffer: Vec<u8>,
     ) -> Result<Ended, SessionFault>
         requires fresh { self.old.frames ≡ unfinished [] }
-        requires room { 0 < length buffer.old }
+        requires room { 0 < vec_len buffer }
         ensures { AnswersInput G.gives (standing gate.old self.old.seat (W.contents writer.old))
             (standing gate.new self.new.seat (W.contents writer.new))
             (R.remaining reader.old) (R.remaining reader.new) result }
     {
         for _ in 0..u64::MAX {
-            let Ok(count) = reader.read(buffer) else {
+            let room = buffer.as_mut_slice();
+            let Ok(count) = reader.read(room) else {
                 return Err(SessionFault::Read)
             };
-            match self.hear(writer, gate, &buffer[..count]) {
+            match self.hear(writer, gate, &room[..count]) {
                 Err(fault) => return Err(fault),
                 Ok(Heard::NoFrame) => return Ok(Ended::Malformed),
                 Ok(Heard::Items) => {}
@@ -122,9 +129,23 @@ impl Session {
             if count == 0 {
                 return Ok(end_of(&self.frames));
             }
+            self.widen(&mut buffer);
         }
         // more reads than there are numbers
         Err(SessionFault::Read)
+    }
+
+    /// Makes room for more at once, once the session has entered. Without memory for it the session goes on as it did.
+    fn widen(&self, buffer: &mut Vec<u8>)
+        requires { 0 < vec_len buffer.old }
+        ensures { 0 < vec_len buffer.new }
+    {
+        if self.seat.is_none() || buffer.len() == PIECE_SIZE {
+            return;
+        }
+        if let Ok(wider) = vec![in self.alloc; 0u8; PIECE_SIZE] {
+            *buffer = wider;
+        }
     }
 
     /// Answers what the piece says, and a fault of the stream after that, and hands all answers over together.
@@ -148,7 +169,8 @@ impl Session {
         Ok(Heard::Items)
     }
 
-    /// Answers the items of the piece. A fault of the stream is left to be asked for.
+    /// Answers the items of the piece, a part of it after another: so only the items of a part take memory at once. A fault
+    /// of the stream is left to be asked for.
     fn answer_piece<W: Write, G: Gate>(
         &mut self,
         writer: &mut W,
@@ -159,7 +181,27 @@ impl Session {
             (standing gate.old self.old.seat (W.contents writer.old))
             (standing gate.new self.new.seat (W.contents writer.new)) self.new.frames result }
     {
-        match self.frames.feed(self.alloc, piece) {
+        let mut rest = piece;
+        while PART_SIZE < rest.len() {
+            let (part, others) = rest.split_at(PART_SIZE);
+            self.answer_part(writer, gate, part)?;
+            rest = others;
+        }
+        self.answer_part(writer, gate, rest)
+    }
+
+    /// Answers the items of the part of a piece. A fault of the stream is left to be asked for.
+    fn answer_part<W: Write, G: Gate>(
+        &mut self,
+        writer: &mut W,
+        gate: &mut G,
+        part: &[u8],
+    ) -> Result<(), SessionFault>
+        ensures { AnswersPiece G.gives self.old.frames part.now
+            (standing gate.old self.old.seat (W.contents writer.old))
+            (standing gate.new self.new.seat (W.contents writer.new)) self.new.frames result }
+    {
+        match self.frames.feed(self.alloc, part) {
             Ok(items) => self.answer_all(writer, gate, items),
             Err(Refusal::Malformed) => Ok(()),
             Err(_) => Err(SessionFault::Memory),

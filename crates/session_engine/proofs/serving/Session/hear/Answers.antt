@@ -1,7 +1,11 @@
 use Rattle.std.proofs.Common.{sym, ◌∙◌}
-use Rattle.session_engine.proofs.Answering.{passed_on, stopped_after}
+use Rattle.session_engine.proofs.Answering.{passed_on, stopped_after, stopped_before}
 use Rattle.session_engine.proofs.Hearing.{no_frame_heard, refusing_stopped, refused_stopped}
 use Rattle.session_engine.proofs.serving.Session.hear.Goals as goal
+
+pub returns-in_err-answer_piece : goal.returns-in_err-answer_piece
+returns-in_err-answer_piece g c =
+    rw (passed_on _ c.in_err-answer_piece.field-0.0 c.from_residual.ensures.1) (stopped_before g.G.Gate.gives _ _ _ _ _ c.in_err-answer_piece.ensures)
 
 pub returns-in_err-send : goal.returns-in_err-send
 returns-in_err-send g c =

@@ -1,0 +1,157 @@
+//! How much a session reads at once, and what comes of a piece that is read in parts.
+use crate::desk::Desk;
+use crate::sessions::{GET, HELLO, HELLO_WITH_ANOTHER_KEY, NO_KIND, bytes_of};
+use assertions::same;
+use hex::FromHexError;
+use session_engine::{Ended, SessionFault, serve};
+use std::alloc::Global;
+use std::io::{self, Read, Write};
+use std::process::Abort;
+use std::test::Fail;
+
+/// A writer that only counts: what it takes, and how often it is asked to hand that over.
+#[derive(Drop)]
+struct Count {
+    written: usize,
+    flushes: usize,
+}
+
+impl Write for Count {
+    fn write(&mut self, buf: &[u8]) -> io::Result<usize> {
+        self.written = self.written.saturating_add(buf.len());
+        Ok(buf.len())
+    }
+
+    fn flush(&mut self) -> io::Result<()> {
+        self.flushes = self.flushes.saturating_add(1);
+        Ok(())
+    }
+}
+
+/// What was seen of a session: how it ended, how many bytes it wrote, and how often it handed them over.
+#[derive(Clone, Copy, Debug, PartialEq)]
+struct Seen {
+    outcome: Result<Ended, SessionFault>,
+    written: usize,
+    flushes: usize,
+}
+
+fn served_over<R: Read>(alloc: Global, reader: &mut R) -> Seen {
+    let mut count = Count {
+        written: 0,
+        flushes: 0,
+    };
+    let outcome = serve(alloc, reader, &mut count, &mut Desk::new());
+    Seen {
+        outcome,
+        written: count.written,
+        flushes: count.flushes,
+    }
+}
+
+const LEAVE_FRAME: [u8; 5] = [0, 0, 0, 1, 0x12];
+
+/// A reader of one piece after another, a read each, that keeps how many bytes each read had room for.
+#[derive(Drop)]
+struct Rooms<'a> {
+    pieces: &'a [&'a [u8]],
+    rooms: [usize; 4],
+    reads: usize,
+}
+
+impl<'a> Read for Rooms<'a> {
+    fn read(&mut self, buf: &mut [u8]) -> io::Result<usize> {
+        if let Some(room) = self.rooms.get_mut(self.reads) {
+            *room = buf.len();
+        }
+        let Some(mut piece) = self.pieces.get(self.reads).copied() else {
+            return Ok(0);
+        };
+        self.reads = self.reads.saturating_add(1);
+        piece.read(buf)
+    }
+}
+
+fn rooms_of(alloc: Global, pieces: &[&[u8]]) -> [usize; 4] {
+    let mut reader = Rooms {
+        pieces,
+        rooms: [0; 4],
+        reads: 0,
+    };
+    let _ = served_over(alloc, &mut reader);
+    reader.rooms
+}
+
+/// The room of each read, once more if memory may have run out.
+fn look_at_rooms(rt: &impl Abort, alloc: Global, pieces: &[&[u8]], wanted: [usize; 4]) {
+    let mut found = rooms_of(alloc, pieces);
+    if found != wanted {
+        found = rooms_of(alloc, pieces);
+    }
+    same!(rt; found, wanted);
+}
+
+#[test]
+fn little_is_read_at_once_until_a_hello_is_accepted(rt: HostRuntime) -> Result<(), Fail> {
+    let alloc = rt.alloc();
+    let get = bytes_of(alloc, &[GET])?;
+    let hello = bytes_of(alloc, &[HELLO])?;
+    let stranger = bytes_of(alloc, &[HELLO_WITH_ANOTHER_KEY])?;
+    let pieces = [get.as_slice(), stranger.as_slice(), get.as_slice()];
+    look_at_rooms(&rt, alloc, &pieces, [4_096; 4]);
+    let pieces = [get.as_slice(), hello.as_slice(), get.as_slice()];
+    look_at_rooms(&rt, alloc, &pieces, [4_096, 4_096, 65_536, 65_536]);
+    Ok(())
+}
+
+/// More bytes than any long piece here has.
+const LONG: usize = 10_010;
+
+/// The bytes of these frames, and then 2,000 Leaves.
+fn with_leaves(alloc: Global, texts: &[&str]) -> Result<Vec<u8>, FromHexError> {
+    let first = bytes_of(alloc, texts)?;
+    let mut bytes = match Vec::with_capacity(alloc, LONG) {
+        Ok(bytes) => bytes,
+        Err(_) => Vec::with_capacity(alloc, LONG)?,
+    };
+    bytes.extend_from_slice(&first)?;
+    for _ in 0..2_000 {
+        bytes.extend_from_slice(&LEAVE_FRAME)?;
+    }
+    Ok(bytes)
+}
+
+fn pieced(alloc: Global, first: &[u8], second: &[u8]) -> Seen {
+    served_over(alloc, &mut Read::chain(first, second))
+}
+
+/// What is seen of a session whose input comes in two pieces, once more if memory ran out.
+fn look_at_pieces(rt: &impl Abort, alloc: Global, first: &[u8], second: &[u8], wanted: Seen) {
+    let mut found = pieced(alloc, first, second);
+    if found.outcome == Err(SessionFault::Memory) {
+        found = pieced(alloc, first, second);
+    }
+    same!(rt; found, wanted);
+}
+
+#[test]
+fn a_long_piece_is_answered_in_one(rt: HostRuntime) -> Result<(), Fail> {
+    let alloc = rt.alloc();
+    let hello = bytes_of(alloc, &[HELLO])?;
+    let leaves = with_leaves(alloc, &[])?;
+    let wanted = Seen {
+        outcome: Ok(Ended::Clean),
+        written: 5 + 2_000 * 5,
+        flushes: 3,
+    };
+    look_at_pieces(&rt, alloc, &hello, &leaves, wanted);
+    // what stands after a fault isn't answered, though it is most of the piece
+    let no_frame = with_leaves(alloc, &[NO_KIND])?;
+    let wanted = Seen {
+        outcome: Ok(Ended::Malformed),
+        written: 5 + 6,
+        flushes: 2,
+    };
+    look_at_pieces(&rt, alloc, &hello, &no_frame, wanted);
+    Ok(())
+}
