@@ -1,5 +1,5 @@
 //! Tests of sessions: streams that were written by hand, cut and ended at every byte, each read and each write failing in turn,
-//! and long pieces.
+//! many reads, and long pieces.
 #![tactic(auto)]
 
 #[cfg(test)]

@@ -1,4 +1,4 @@
-//! How much a session reads at once, and what comes of a piece that is read in parts.
+//! How often a session reads, how much at once, and what comes of a piece that is read in parts.
 use crate::desk::Desk;
 use crate::sessions::{GET, HELLO, HELLO_WITH_ANOTHER_KEY, NO_KIND, bytes_of};
 use assertions::same;
@@ -49,7 +49,44 @@ fn served_over<R: Read>(alloc: Global, reader: &mut R) -> Seen {
     }
 }
 
+/// A reader that gives the frame of a Leave again and again, a byte at a time.
+#[derive(Drop)]
+struct Trickle {
+    left: usize,
+}
+
 const LEAVE_FRAME: [u8; 5] = [0, 0, 0, 1, 0x12];
+
+impl Read for Trickle {
+    fn read(&mut self, buf: &mut [u8]) -> io::Result<usize> {
+        if self.left == 0 || buf.is_empty() {
+            return Ok(0);
+        }
+        self.left -= 1;
+        buf[0] = LEAVE_FRAME[4 - self.left % 5];
+        Ok(1)
+    }
+}
+
+fn trickled(alloc: Global) -> Seen {
+    served_over(alloc, &mut Trickle { left: 200_000 })
+}
+
+#[test]
+fn a_session_is_answered_however_often_it_reads(rt: HostRuntime) -> Result<(), Fail> {
+    let mut found = trickled(rt.alloc());
+    if found.outcome == Err(SessionFault::Memory) {
+        found = trickled(rt.alloc());
+    }
+    // a refusal of 6 bytes to each frame of 5, and the read that tells the end
+    let wanted = Seen {
+        outcome: Ok(Ended::Clean),
+        written: 240_000,
+        flushes: 200_001,
+    };
+    same!(rt; found, wanted);
+    Ok(())
+}
 
 /// A reader of one piece after another, a read each, that keeps how many bytes each read had room for.
 #[derive(Drop)]
