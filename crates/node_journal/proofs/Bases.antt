@@ -30,7 +30,7 @@ last_is low (x ∷ y ∷ ys) l e = last_is (step_of x) (y ∷ ys) l (sym (ap (sl
 
 -- ---- the base of one list
 
-Brief-set : IsSet Brief
+pub Brief-set : IsSet Brief
 Brief-set = Coded-set plain.the_row.coded
 
 -- what the node shows is what the journal tells of

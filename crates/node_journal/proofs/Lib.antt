@@ -13,3 +13,4 @@ mod Rooms
 mod Bisected
 mod Posting
 mod Receipts
+mod Swept

@@ -1,5 +1,5 @@
 -- What a journal tells of its node.
-use Rattle.std.specs.Prelude.{◌≡◌, ℕ, ◌+◌, ◌-◌, ◌==◌, nat_lt, nat_le, Bool, true, false, not, ◌&&◌, if◌then◌else◌, List, [], ◌∷◌, ◌++◌, length, map, filter, count_by, Option, Some, None, option_map, option_to_list}
+use Rattle.std.specs.Prelude.{◌≡◌, ◌⊎◌, ℕ, ◌+◌, ◌-◌, ◌==◌, nat_lt, nat_le, Bool, true, false, not, ◌&&◌, if◌then◌else◌, List, [], ◌∷◌, ◌++◌, length, map, filter, count_by, Option, Some, None, is_some, option_map, option_to_list}
 use Rattle.std.specs.List.{list_all, list_any}
 use Rattle.std.specs.Option.{option_map_or}
 use Rattle.obj_id.specs.declared.ids.JobNo.{JobNo}
@@ -16,6 +16,8 @@ use Rattle.private_store.specs.declared.schedules.NodeEvent.{NodeEvent}
 use Rattle.private_store.specs.declared.schedules.NodeEvent.TheVariants.{Own, Arrive}
 use Rattle.private_store.specs.Contents.{View}
 use Rattle.private_store.specs.Hands.{Hand}
+use Rattle.plain_store.specs.Parts.{has_begun}
+use Rattle.job_admission.specs.Admissions.{live_at}
 use Rattle.spill_work.specs.declared.queue.Queued.{Queued}
 use Rattle.spill_work.specs.Line.{taken_by}
 use Rattle.private_store.specs.Kept.{IsViewKept}
@@ -39,7 +41,7 @@ use Rattle.node_journal.specs.Replies.{unlisted, kept_reply}
 pub record Journal : Type 0 where
   -- the store without contents as it was after what was folded, and how many of its works were taken
   pub base : Base
-  -- the number of the step that the last folded line is of, or 0
+  -- the number of the step that the last folded line is of, notes that were settled aside, or 0
   pub covered : ℕ
   -- what came after it, oldest first
   pub list : List Line
@@ -221,6 +223,53 @@ abbrev pub journal_after : Hosted → ℕ → NodeEvent → Option Judged → Gi
 journal_after node number e was given job journal =
     with_lines (folded_if (is_folded_by node e job journal.list) journal) (lines_made number (event_name e) (job_at node.works.works e) was given job)
 
+-- ---- sweeping
+
+-- the lines from which on a sweep folds a list that has entries
+abbrev pub many_lines : ℕ
+many_lines = 64
+
+-- whether the line is an entry, of any number
+abbrev pub is_some_entry : Line → Bool
+is_some_entry (line.Entry entry) = true
+is_some_entry (line.Note number x) = false
+
+abbrev pub has_entries : Journal → Bool
+has_entries journal = list_any is_some_entry journal.list
+
+-- notes are part of the base, and nothing more is covered: no receipt is of a note
+abbrev pub settled : Journal → Journal
+settled journal = record { base = base_after journal; covered = journal.covered; list = [] }
+
+abbrev pub settled_if : Bool → Journal → Journal
+settled_if some journal = if some then settled journal else journal
+
+-- what a sweep makes of the journal of a job that isn't live: notes alone are settled, and a long list with entries is folded
+abbrev pub swept : Journal → Journal
+swept journal = if has_entries journal then folded_if (nat_le many_lines (length journal.list)) journal else settled journal
+
+abbrev pub swept_if : Bool → Journal → Journal
+swept_if dead journal = if dead then swept journal else journal
+
+-- a job's journal after sweeps: it is as it was, or the job isn't live and it was swept
+abbrev pub IsSwept : Bool → Journal → Journal → Type 0
+IsSwept live before after = (after ≡ before) ⊎ ((live ≡ false) × (after ≡ swept before))
+
+abbrev pub is_live_at : Hosted → ℕ → Bool
+is_live_at node job = is_some (live_at node.admissions (record { 0 = job }))
+
+-- whether the base has a hand to the job that stood
+abbrev pub has_hands : Base → Bool
+has_hands base = nat_lt 0 (length base.store.shape.received)
+
+-- whether the job had not begun, no hand to it stood and no work of it was taken
+abbrev pub is_blank : Base → Bool
+is_blank base = base.taken == 0 && (not (has_begun base.store.shape.life) && not (has_hands base))
+
+-- whether no step was of the job, as far as a journal of one that isn't live tells
+abbrev pub seems_fresh : Journal → Bool
+seems_fresh journal = journal.covered == 0 && (length journal.list == 0 && is_blank journal.base)
+
 -- ---- beginnings
 
 abbrev pub is_begin : Judged → Bool
@@ -253,6 +302,10 @@ agreement here entry journal =
     if not here then agree.No else
     (if nat_le entry.number journal.covered then agree.Folded else
     (if list_any (is_this entry) journal.list then agree.Yes else agree.No))
+
+-- what is said of a receipt later: the same, or that it is folded
+abbrev pub StillAgrees : Bool → Entry → Journal → Journal → Type 0
+StillAgrees here entry before after = (agreement here entry after ≡ agreement here entry before) ⊎ (agreement here entry after ≡ agree.Folded)
 
 -- ---- events
 

@@ -2,7 +2,7 @@
 ghost use Rattle.std.specs.Prelude.{◌≡◌};
 ghost use Rattle.private_store.specs.declared.schedules.NodeEvent.TheVariants as node_event;
 ghost use Rattle.node_core.specs.Steps.{job_at};
-ghost use Rattle.node_journal.specs.Journals.{arrival_name, begins, entry_for, event_name, is_entry, same_entry, step_of};
+ghost use Rattle.node_journal.specs.Journals.{arrival_name, begins, entry_for, event_name, is_entry, is_some_entry, same_entry, step_of};
 ghost use Rattle.node_journal.specs.Replies.{kept_reply};
 
 use bytes::Bytes;
@@ -80,6 +80,13 @@ impl Line {
             Line::Entry(entry) => entry.number,
             Line::Note(number, _) => *number,
         }
+    }
+
+    /// Whether it is an entry, of any number.
+    pub(crate) fn is_some_entry(&self) -> bool
+        ensures { result ≡ is_some_entry self.now }
+    {
+        matches!(self, Line::Entry(_))
     }
 
     /// Whether it is the entry of this number.

@@ -1,6 +1,6 @@
 //! Which lists a step folds, and the bases that they are folded into.
 ghost use Rattle.std.specs.Prelude.{◌≡◌, ℕ, ◌+◌, ◌<◌, ◌≤◌, ◌==◌, ◌&&◌, ◌||◌, length, IfOk, OnOk};
-ghost use Rattle.node_journal.specs.Journals.{Tells, most_lines, has_no_room as has_no_room_lem, lines_due as lines_due_lem, base_after};
+ghost use Rattle.node_journal.specs.Journals.{Tells, most_lines, has_no_room as has_no_room_lem, lines_due as lines_due_lem, base_after, has_hands as has_hands_lem, is_blank as is_blank_lem};
 ghost use Rattle.node_journal.specs.Logs.{journal_of, list_of, AreBases, has_base as has_base_lem};
 
 use crate::logs::Logs;
@@ -19,6 +19,22 @@ pub(crate) struct Base {
     pub store: PlainStore,
     /// How many of its works were taken and not answered then: in the order asked, the first ones.
     pub taken: usize,
+}
+
+impl Base {
+    /// Whether it has a hand to the job that stood.
+    pub(crate) fn has_hands(&self) -> bool
+        ensures { result ≡ has_hands_lem self.now }
+    {
+        !self.store.received.is_empty()
+    }
+
+    /// Whether the job had not begun, no hand to it stood and no work of it was taken.
+    pub(crate) fn is_blank(&self) -> bool
+        ensures { result ≡ is_blank_lem self.now }
+    {
+        self.taken == 0 && !self.store.has_begun() && !self.has_hands()
+    }
 }
 
 /// The base that the job's lines are folded into: its store at the node, without contents.

@@ -1,7 +1,8 @@
 //! A node with its journal, under one name.
-ghost use Rattle.std.specs.Prelude.{◌≡◌, ◌≢◌, ◌↔◌, ℕ, ◌+◌, ◌==◌, ◌⊎◌, ◌<◌, ◌≤◌, [], true, false, length, Some, None, IfOk, IfErr, OnOk, OnErr, IsErrOf, IsOk, is_some};
+ghost use Rattle.std.specs.Prelude.{◌≡◌, ◌≢◌, ◌↔◌, ℕ, ◌+◌, ◌==◌, ◌&&◌, ◌⊎◌, ◌<◌, ◌≤◌, Bool, [], true, false, not, length, Some, None, IfOk, IfErr, OnOk, OnErr, IsErrOf, IsOk, is_some};
 ghost use Rattle.std.specs.List.{list_any, IsDistinct};
 ghost use Rattle.std.specs.List.Sorted.{IsNonDecreasingBy};
+ghost use Rattle.std.specs.Map.{lookup};
 ghost use Rattle.obj_id.specs.declared.ids.JobNo.{JobNo};
 ghost use Rattle.obj_id.specs.declared.commands.Reply.TheVariants as reply;
 ghost use Rattle.obj_id.specs.declared.refusals.Refusal.{Refusal};
@@ -14,18 +15,20 @@ ghost use Rattle.node_core.specs.Steps.{job_at, Steps};
 ghost use Rattle.node_core.specs.Judged.{IsJudged, IsArrivalJudged, IsSmall};
 ghost use Rattle.node_core.specs.Outcomes.{given_of};
 ghost use Rattle.node_journal.specs.declared.entries.Agreement.TheVariants.{No};
+ghost use Rattle.node_journal.specs.declared.entries.Entry.{Entry};
 ghost use Rattle.node_journal.specs.Logs.{journal_of, list_of, was_kept};
 ghost use Rattle.node_journal.specs.Posts.{IsAstray, is_entered};
 ghost use Rattle.private_store.specs.Cluster.{arrival_of};
 ghost use Rattle.private_store.specs.Jobs.{same_job};
 ghost use Rattle.obj_id.specs.declared.messages.Arrival.{Arrival};
-ghost use Rattle.node_journal.specs.Journals.{entry_for, event_name, is_this, rise_above, Tells, AreNumbered, agreement, folded_if, journal_after, most_lines, is_call};
+ghost use Rattle.node_journal.specs.Journals.{entry_for, event_name, is_this, rise_above, Tells, AreNumbered, agreement, folded_if, journal_after, most_lines, is_call, IsSwept, StillAgrees, fresh, has_entries, is_live_at, settled, swept_if};
 
 use crate::entered::Entered;
 use crate::entries::{Agreement, Entry, Line, Receipt, entry_of, job_of, name_of, name_of_arrival};
 use crate::folding::{MOST_LINES, base_of, bases_of};
 use crate::logs::Logs;
 use crate::posts::{Made, Posted, arrival};
+use crate::sweeping::sweep_job;
 use bytes::Bytes;
 use node_core::{JobRow, Node, Outcome, Prepared};
 use obj_id::{Arrival, Items, JobKey, JobNo, ObjectId, Place, Refusal};
@@ -36,6 +39,10 @@ use std::sync::ledger::{Ledger, Share};
 
 /// The number of the last entry that a journal can have.
 const LAST_ENTRY: u64 = (1 << 60) - 1;
+
+/// How many lists a sweep looks at. A step that ends the hands of 64 steps before it leaves 64 that are of no use: with two a step
+/// there are never many more of these than of others.
+const LISTS_SWEPT: usize = 2;
 
 /// A node with its journal, which holds one part of the ledger that its name is: nothing else of that part's name can be
 /// stepped, since nobody else gets the part.
@@ -247,6 +254,60 @@ impl<L: Ledger> Kept<L> {
         Ok(())
     }
 
+    /// Sweeps the lists of the two jobs whose turn it is, so that what is kept of jobs that aren't live stays small: each in turn as
+    /// `sweep_job` does. Nothing else changes. A receipt that the journal said Yes of is then there or folded, and one that it said
+    /// Folded of is folded. Takes no time that grows with the number of jobs; if there is no memory for a base the job's next turn
+    /// makes up for it. No event.
+    pub fn sweep(&mut self)
+        ensures same { (self.new.node ≡ self.old.node) × (self.new.count ≡ self.old.count) × (self.new.number ≡ self.old.number) }
+        ensures journals { (job : ℕ) → IsSwept (is_live_at self.old.node job) (journal_of self.old.logs job) (journal_of self.new.logs job) }
+        ensures agreed { (here : Bool) (entry : Entry) (job : ℕ) → StillAgrees here entry (journal_of self.old.logs job) (journal_of self.new.logs job) }
+    {
+        for _ in 0..LISTS_SWEPT {
+            if let Some(job) = self.in_turn() {
+                let _ = self.sweep_job(job);
+            }
+        }
+    }
+
+    /// The job that is next in turn to be swept, if there is one. No event: nothing changes.
+    fn in_turn(&mut self) -> Option<JobNo>
+        ensures node { (self.new.node ≡ self.old.node) × (self.new.number ≡ self.old.number) }
+        ensures journal { (self.new.logs ≡ self.old.logs) × (self.new.count ≡ self.old.count) }
+    {
+        let Kept {
+            alloc: _,
+            node: _,
+            number: _,
+            logs,
+            count: _,
+            seat: _,
+        } = self;
+        logs.in_turn()
+    }
+
+    /// Sweeps the job's list, if the job isn't live. If it has notes alone, they become part of the base, and nothing more is covered;
+    /// if then it is as that of a job that no step was of, nothing is kept of it. If it has entries and 64 lines or more, it is folded
+    /// as by `checkpoint`. All else stays. The error is out of memory, and then nothing has changed.
+    pub fn sweep_job(&mut self, job: JobNo) -> Result<(), Refusal>
+        ensures journal { OnOk result ((other : ℕ) → journal_of self.new.logs other ≡ swept_if (job.0 == other && not (is_live_at self.old.node other)) (journal_of self.old.logs other)) }
+        ensures forgotten { OnOk result (is_live_at self.old.node job.0 ≡ false → has_entries (journal_of self.old.logs job.0) ≡ false → settled (journal_of self.old.logs job.0) ≡ fresh job.0 → lookup (same_job job) self.new.logs ≡ None) }
+        ensures same { (self.new.node ≡ self.old.node) × (self.new.count ≡ self.old.count) × (self.new.number ≡ self.old.number) }
+        ensures memory { (r : Refusal) → IsErrOf result r → r ≡ NoMemory }
+        ensures unchanged { OnErr result (self.new.logs ≡ self.old.logs) }
+    {
+        let Kept {
+            alloc: _,
+            node,
+            number: _,
+            logs,
+            count: _,
+            seat: _,
+        } = self;
+        sweep_job(node, logs, job)?;
+        Ok(())
+    }
+
     /// The job's next session, whose number, from 1, is as `Node::enter` gives it. It makes no entry. Takes no memory.
     pub fn enter(&mut self, job: JobNo, key: &JobKey) -> Result<Entered<L>, Refusal>
         ensures session { IfOk result (λ e. e.session ≡ sessions_entered self.old.node.admissions job + 1) }
@@ -370,8 +431,8 @@ impl<L: Ledger> Kept<L> {
         }
     }
 
-    /// The job numbers under which there ever was an entry or a note, each once and rising: 0 among them, if there was one of no
-    /// job. Takes a walk over them, a sort, and memory for each. The error is out of memory.
+    /// The job numbers whose journal has a line, or one that was folded, or a hand in its base, each once and rising: 0 among them,
+    /// if there was an entry of no job. Takes a walk over them, a sort, and memory for each. The error is out of memory.
     pub fn jobs(&self) -> Result<Items<JobNo>, AllocError>
         ensures kept { IfOk result (λ jobs. (job : ℕ) → list_any (λ own. own.0 == job) jobs ≡ was_kept (journal_of self.now.logs job)) }
         ensures once { IfOk result (λ jobs. IsDistinct same_job jobs) }
@@ -380,7 +441,7 @@ impl<L: Ledger> Kept<L> {
         self.logs.jobs()
     }
 
-    /// The number of the step that the last folded line of a job number is of; 0 if nothing was folded.
+    /// The number of the step that the last folded line of a job number is of, notes that were settled aside; 0 if there is none.
     pub fn covered(&self, job: JobNo) -> u64
         ensures { result ≡ (journal_of self.now.logs job.0).covered }
     {

@@ -10,6 +10,7 @@ mod kept;
 pub mod laws;
 mod logs;
 mod posts;
+mod sweeping;
 
 pub use beside::{Access, Keeper, nothing_beside};
 pub use entered::Entered;

@@ -1,13 +1,14 @@
 //! The journals of all jobs: all growth comes before a step, and what the step adds then takes no memory. A contract sees the
 //! journal of every job number, and how many more lines of a job take no memory.
-ghost use Rattle.std.specs.Prelude.{◌≡◌, ℕ, ◌==◌, ◌+◌, ◌∷◌, ◌<◌, ◌≤◌, ◌||◌, [], true, length, map, if◌then◌else◌, OnOk, IfOk};
+ghost use Rattle.std.specs.Prelude.{◌≡◌, ℕ, ◌==◌, ◌+◌, ◌∷◌, ◌<◌, ◌≤◌, ◌||◌, [], true, length, map, if◌then◌else◌, None, OnOk, IfOk};
+ghost use Rattle.std.specs.Map.{lookup};
 ghost use Rattle.std.specs.List.{list_any, IsDistinct};
 ghost use Rattle.std.specs.List.Sorted.{IsPermutation, IsNonDecreasingBy};
 ghost use Rattle.obj_id.specs.declared.ids.JobNo.{JobNo};
 ghost use Rattle.private_store.specs.Jobs.{same_job};
 ghost use Rattle.plain_store.specs.Parts.{has_begun as has_begun_lem};
 ghost use Rattle.node_core.specs.Outcomes.{inputs_noted};
-ghost use Rattle.node_journal.specs.Journals.{notes_for, begins, fresh, folded_if, last_of, base_after, with_lines};
+ghost use Rattle.node_journal.specs.Journals.{notes_for, begins, fresh, folded_if, last_of, base_after, with_lines, settled_if, seems_fresh as seems_fresh_lem};
 ghost use Rattle.node_journal.specs.Logs.{journal_of, list_of, spare_of, AreBases, has_base, was_kept as was_kept_lem};
 
 use crate::entries::Line;
@@ -23,7 +24,7 @@ use std::marker::Model;
 #[derive(Drop)]
 struct Log {
     base: Base,
-    // the number of the step that the last folded line is of, or 0
+    // the number of the step that the last folded line is of, notes that were settled aside, or 0
     covered: u64,
     // oldest first
     lines: Vec<Line>,
@@ -90,6 +91,21 @@ impl Log {
         self.base = base;
     }
 
+    /// The notes go, and this is the base from now on: nothing more is covered. Gives the memory of the lines back.
+    fn settle(&mut self, alloc: Global, base: Base)
+        ensures { self.new.journal ≡ record { base = base; covered = self.old.journal.covered; list = [] } }
+    {
+        self.lines = Vec::new(alloc);
+        self.base = base;
+    }
+
+    /// Whether no step was of the job, as far as the journal of one that isn't live tells.
+    fn seems_fresh(&self) -> bool
+        ensures { result ≡ seems_fresh_lem self.now.journal }
+    {
+        self.covered == 0 && self.lines.is_empty() && self.base.is_blank()
+    }
+
     /// Whether the job was ever admitted.
     fn has_begun(&self) -> bool
         ensures { result ≡ (has_begun_lem self.now.journal.base.store.shape.life || list_any begins self.now.journal.list) }
@@ -97,11 +113,11 @@ impl Log {
         self.base.store.has_begun() || any_begins(&self.lines)
     }
 
-    /// Whether it ever had a line.
+    /// Whether it says something: it has a line, or one that was folded, or a hand in its base.
     fn was_kept(&self) -> bool
         ensures { result ≡ was_kept_lem self.now.journal }
     {
-        self.covered > 0 || !self.lines.is_empty()
+        self.covered > 0 || !self.lines.is_empty() || self.base.has_hands()
     }
 
     fn covered(&self) -> u64
@@ -139,6 +155,8 @@ fn any_begins(lines: &[Line]) -> bool
 pub struct Logs {
     alloc: Global,
     logs: IndexMap<JobNo, Log>,
+    // the place of the job that was last in turn
+    turn: usize,
 }
 
 impl Model for Logs {
@@ -159,6 +177,7 @@ impl Logs {
         Logs {
             alloc,
             logs: IndexMap::new(alloc),
+            turn: 0,
         }
     }
 
@@ -249,6 +268,50 @@ impl Logs {
         }
     }
 
+    /// The notes of a job are part of its base, which is then this one, and nothing more is covered. Gives the memory of the lines
+    /// back, and takes none.
+    pub(crate) fn settle(&mut self, job: JobNo, base: Base)
+        requires { base ≡ base_after (journal_of self.old job.0) }
+        ensures { (other : ℕ) → journal_of self.new other ≡ settled_if (job.0 == other) (journal_of self.old other) }
+    {
+        let Some(log) = self.logs.get_mut(&job) else {
+            return;
+        };
+        log.settle(self.alloc, base);
+    }
+
+    /// Lets go what is kept of a job that no step was of. Takes no memory.
+    pub(crate) fn forget(&mut self, job: JobNo)
+        requires { journal_of self.old job.0 ≡ fresh job.0 }
+        ensures journals { (other : ℕ) → journal_of self.new other ≡ journal_of self.old other }
+        ensures forgotten { lookup (same_job job) self.new ≡ None }
+    {
+        self.logs.swap_remove(&job);
+    }
+
+    /// The job that is next in turn, if there is one. Turns go from the last job to the first, so that none is passed over if one is
+    /// forgotten.
+    pub(crate) fn in_turn(&mut self) -> Option<JobNo>
+        ensures { self.new ≡ self.old }
+    {
+        if self.turn == 0 {
+            self.turn = self.logs.len();
+        }
+        self.turn = self.turn.checked_sub(1)?;
+        let (job, _) = self.logs.get_index(self.turn)?;
+        Some(*job)
+    }
+
+    /// Whether no step was of the job, as far as the journal of one that isn't live tells.
+    pub(crate) fn seems_fresh(&self, job: JobNo) -> bool
+        ensures { result ≡ seems_fresh_lem (journal_of self.now job.0) }
+    {
+        match self.logs.get(&job) {
+            Some(log) => log.seems_fresh(),
+            None => true,
+        }
+    }
+
     /// Whether the job was ever admitted. Takes a walk over its lines.
     pub fn has_begun(&self, job: JobNo) -> bool
         ensures { result ≡ (has_begun_lem (journal_of self.now job.0).base.store.shape.life || list_any begins (list_of self.now job.0)) }
@@ -259,7 +322,7 @@ impl Logs {
         }
     }
 
-    /// The jobs that ever had a line, each once and by rising number. Takes a walk over all jobs, a sort, and memory for each.
+    /// The jobs whose journal says something, each once and by rising number. Takes a walk over all jobs, a sort, and memory for each.
     pub fn jobs(&self) -> Result<Items<JobNo>, AllocError>
         ensures kept { IfOk result (λ jobs. (job : ℕ) → list_any (λ own. own.0 == job) jobs ≡ was_kept_lem (journal_of self.now job)) }
         ensures once { IfOk result (λ jobs. IsDistinct same_job jobs) }
@@ -270,7 +333,7 @@ impl Logs {
         Ok(Items::from_vec(jobs))
     }
 
-    /// The number of the step that the job's last folded line is of, or 0.
+    /// The number of the step that the job's last folded line is of, notes that were settled aside, or 0.
     pub fn covered(&self, job: JobNo) -> u64
         ensures { result ≡ (journal_of self.now job.0).covered }
     {
@@ -291,7 +354,7 @@ impl Logs {
     }
 }
 
-/// The jobs that ever had a line, in the order of their first steps.
+/// The jobs whose journal says something.
 fn jobs_of(alloc: Global, logs: &IndexMap<JobNo, Log>) -> Result<Vec<JobNo>, AllocError>
     ensures kept { IfOk result (λ jobs. (job : ℕ) → list_any (λ own. own.0 == job) jobs.items ≡ was_kept_lem (journal_of logs.now.entries job)) }
     ensures once { IfOk result (λ jobs. IsDistinct same_job jobs.items) }
