@@ -1,14 +1,12 @@
 -- An entry that a receipt names has the answer that is due.
-use Rattle.std.proofs.Common.{◌≡◌, ℕ, Bool, true, false, cond, ◌&&◌, ◌||◌, List, [], ◌∷◌, ◌++◌, map, append_assoc, Option, Some, None, refl, sym, ap, subst, ◌∙◌}
-use Rattle.std.specs.Prelude.{if◌then◌else◌, not, nat_le, option_map, option_to_list}
+use Rattle.std.proofs.Common.{◌≡◌, ℕ, Bool, true, false, ◌||◌, List, [], ◌∷◌, ◌++◌, map, Option, Some, None, refl, sym, ap, subst, ◌∙◌}
+use Rattle.std.specs.Prelude.{if◌then◌else◌, nat_le, option_map, option_to_list}
 use Rattle.std.specs.List.{list_any}
 use Rattle.std.proofs.Math.Logic.{∥∥₁_map}
-use Rattle.obj_id.specs.declared.commands.Reply.{Reply}
 use Rattle.private_store.specs.declared.inputs.Judged.{Judged}
 use Rattle.private_store.specs.Replay.{Brief, Line as Replayed, replayed, brief_after, brief_step}
 use Rattle.private_store.proofs.Tests.{both_right}
 use Rattle.node_core.specs.Hosted.{Hosted}
-use Rattle.node_journal.specs.declared.entries.Agreement.{Agreement}
 use Rattle.node_journal.specs.declared.entries.Agreement.TheVariants as agree
 use Rattle.node_journal.specs.declared.entries.Entry.{Entry}
 use Rattle.node_journal.specs.declared.entries.Line.{Line}

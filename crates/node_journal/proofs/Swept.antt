@@ -19,7 +19,7 @@ use Rattle.node_journal.specs.declared.entries.Agreement.TheVariants as agree
 use Rattle.node_journal.specs.declared.entries.Entry.{Entry}
 use Rattle.node_journal.specs.declared.entries.Line.{Line}
 use Rattle.node_journal.specs.declared.entries.Line.TheVariants as line
-use Rattle.node_journal.specs.Journals.{AreNumbered, IsSwept, IsTold, Journal, StillAgrees, Tells, agreement, fresh, folded, folded_if, follows, has_entries, has_hands, is_some_entry, is_this, last_of, lines_of, many_lines, most_lines, rise_above, same_entry, seems_fresh, settled, settled_if, step_of, swept, swept_if, taken_of}
+use Rattle.node_journal.specs.Journals.{AreNumbered, IsSwept, IsTold, Journal, StillAgrees, Tells, agreement, fresh, folded, folded_if, follows, has_entries, has_hands, is_some_entry, is_this, last_of, lines_of, many_lines, most_lines, rise_above, same_entry, seems_fresh, settled, settled_if, step_of, swept_if, taken_of}
 use Rattle.node_journal.specs.Logs.{JobLog, journal_of}
 use Rattle.node_journal.proofs.Bases.{Brief-set}
 use Rattle.node_journal.proofs.Logging.{journal_in}
@@ -199,11 +199,11 @@ module _ (job : JobNo) (old new : List (JobNo × JobLog)) (updated : (q : JobNo)
   job_is_gone = updated job ∙ ap (λ b. cond b None (lookup (same_job job) old)) (itself job.0)
 
 -- swept if there was memory for it
-pub swept_if_ok : {E : Type 0} (r : Result (Unit {0}) E) (dead : ℕ → Bool) (old new : List (JobNo × JobLog))
-    → OnOk r ((other : ℕ) → journal_of new other ≡ swept_if (dead other) (journal_of old other)) → OnErr r (new ≡ old)
-    → (other : ℕ) → journal_of new other ≡ swept_if (is_ok r && dead other) (journal_of old other)
-swept_if_ok (Ok u) dead old new ok err other = ok other
-swept_if_ok (Err e) dead old new ok err other = ap (λ m. journal_of m other) err
+pub swept_if_ok : {E : Type 0} (r : Result (Unit {0}) E) (dead : ℕ → Bool) (first last : List (JobNo × JobLog))
+    → OnOk r ((other : ℕ) → journal_of last other ≡ swept_if (dead other) (journal_of first other)) → OnErr r (last ≡ first)
+    → (other : ℕ) → journal_of last other ≡ swept_if (is_ok r && dead other) (journal_of first other)
+swept_if_ok (Ok u) dead first last ok err other = ok other
+swept_if_ok (Err e) dead first last ok err other = ap (λ m. journal_of m other) err
 
 -- ---- receipts
 

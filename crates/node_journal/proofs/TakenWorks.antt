@@ -2,7 +2,7 @@
 use Rattle.std.proofs.Common.{◌≡◌, ℕ, ◌+◌, ◌-◌, ◌≤◌, suc, Bool, true, false, not, cond, ◌==◌, ◌&&◌, List, [], ◌∷◌, ◌++◌, map, filter, length, Option, Some, None, is_some, refl, sym, ap, subst, ◌∙◌, arith}
 use Rattle.std.specs.Prelude.{if◌then◌else◌, option_map}
 use Rattle.std.specs.Option.{option_map_or, option_and_then}
-use Rattle.std.specs.List.{find, list_any}
+use Rattle.std.specs.List.{find}
 use Rattle.std.proofs.lemmas.Bool.Decides.{nat_tests}
 use Rattle.obj_id.specs.declared.ids.JobNo.{JobNo}
 use Rattle.obj_id.specs.declared.commands.Reply.{Reply}
@@ -14,7 +14,6 @@ use Rattle.obj_id.specs.declared.refusals.Refusal.{Refusal}
 use Rattle.obj_id.specs.declared.refusals.Refusal.TheVariants.{NotAdmitted}
 use Rattle.obj_id.specs.declared.works.DeviceAnswer.{DeviceAnswer}
 use Rattle.obj_id.specs.declared.works.Work.{Work}
-use Rattle.private_store.specs.declared.inputs.Input.{Input}
 use Rattle.private_store.specs.declared.inputs.Input.TheVariants as input
 use Rattle.private_store.specs.declared.inputs.Judged.{Judged}
 use Rattle.private_store.specs.declared.schedules.Event.{Event}
@@ -26,13 +25,13 @@ use Rattle.private_store.specs.Contents.{View, judge}
 use Rattle.private_store.specs.NodeInputs.{JobInput, own_here}
 use Rattle.private_store.specs.Private.{view_step}
 use Rattle.private_store.proofs.KeptLists.{find-passes}
-use Rattle.private_store.proofs.Tests.{none_some, some_value, true_false}
+use Rattle.private_store.proofs.Tests.{none_some, some_value}
 use Rattle.spill_work.specs.declared.queue.Asked.{Asked}
 use Rattle.spill_work.specs.declared.queue.Queued.{Queued}
 use Rattle.spill_work.specs.Line.{same_job, is_of, is_at, front_of}
 use Rattle.node_core.specs.Hosted.{Hosted, ShowsAll}
 use Rattle.node_core.specs.OneJob.{input_of}
-use Rattle.node_core.specs.Steps.{Given, JobJudged, StepsFrom, IsEventAnswer, before_of, job_of_event, job_at, is_taken, taken_if, line_left, queued, asked_now, answered, end_check, requota_check, stale_unless, work_given, work_of}
+use Rattle.node_core.specs.Steps.{Given, JobJudged, StepsFrom, IsEventAnswer, before_of, job_of_event, job_at, is_taken, taken_if, line_left, asked_now, answered, requota_check, stale_unless, work_given, work_of}
 use Rattle.node_core.proofs.AllJobs.{works_shown}
 use Rattle.node_core.proofs.Taking.{one_each}
 use Rattle.job_admission.specs.Admissions.{admit_check, live_at}

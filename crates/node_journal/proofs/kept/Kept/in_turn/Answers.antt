@@ -1,4 +1,3 @@
-use Rattle.std.proofs.Common.{ℕ, sym, ap, subst, ◌∙◌}
 use Rattle.node_journal.proofs.kept.Kept.in_turn.Goals as goal
 
 pub invariant_of-self : goal.invariant_of-self

@@ -1,4 +1,4 @@
-use Rattle.std.proofs.Common.{sym, subst, ap, ◌∙◌}
+use Rattle.std.proofs.Common.{ap, ◌∙◌}
 use Rattle.node_journal.proofs.kept.Kept.take_gone.Goals as goal
 
 pub invariant_of-self : goal.invariant_of-self
