@@ -21,7 +21,7 @@ const FIRST_PIECE_SIZE: usize = 4_096;
 const PIECE_SIZE: usize = 65_536;
 
 /// Of how many bytes the items are there at once, at most.
-const PART_SIZE: usize = 4_096;
+const PART_SIZE: usize = 1_024;
 
 /// What was heard in a piece of the input.
 #[derive(Clone, Copy, Debug)]

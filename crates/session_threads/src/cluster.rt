@@ -2,7 +2,7 @@
 ghost use Rattle.std.specs.Prelude.{◌≡◌, ◌↔◌, ◌≤◌, ◌<◌, vec_len, IfOk, IsSome};
 ghost use Rattle.job_admission.specs.Admissions.{largest_memory};
 
-use crate::posting::{WayIn, Ways, receive};
+use crate::posting::{Inbox, Ways, receive};
 use crate::tally::Tally;
 use crate::waiting::Waiting;
 use crate::{SharedNode, Working};
@@ -51,13 +51,16 @@ impl Report {
     }
 }
 
-/// The nodes of a process, by number, with one directory and a link from each node to each other one.
+/// How many threads hand in the messages that come to a node: while one hashes what it received, another one hands in.
+const RECEIVERS: usize = 4;
+
+/// The nodes of a process, by number, with one directory and a way from each node to each other one.
 #[derive(Drop)]
 pub struct Cluster<L: Ledger> {
     nodes: Vec<Arc<SharedNode<L>>>,
     waiting: Arc<Waiting>,
-    // links that nobody receives from yet
-    ends: Vec<WayIn<L>>,
+    // by node, while nobody receives from them
+    inboxes: Vec<Inbox<L>>,
     receiving: Vec<JoinHandle<()>>,
     alloc: Global,
 }
@@ -78,12 +81,15 @@ impl<L: Ledger> Cluster<L> {
     {
         let mut seats = seats;
         let mut all = Vec::new(alloc);
-        let mut ends = Vec::new(alloc);
+        let mut inboxes = Vec::new(alloc);
+        for _ in 0..nodes {
+            inboxes.push(Inbox::new(alloc, nodes.saturating_sub(1))?)?;
+        }
         let directory = Arc::new(alloc, Mutex::new(Directory::new(alloc)))?;
         let waiting = Arc::new(alloc, Waiting::new())?;
         for number in 0..nodes {
             let seat = seats.split_off(1, 0);
-            let ways = Ways::open(alloc, number, nodes, &directory, &mut ends)?;
+            let ways = Ways::open(alloc, number, &directory, &mut inboxes)?;
             let woken = Arc::try_clone(&waiting)?;
             let node = SharedNode::new(alloc, number, memory, seat, ways, woken);
             all.push(Arc::new(alloc, node)?)?;
@@ -91,24 +97,45 @@ impl<L: Ledger> Cluster<L> {
         Ok(Cluster {
             nodes: all,
             waiting,
-            ends,
+            inboxes,
             receiving: Vec::new(alloc),
             alloc,
         })
     }
 
-    /// Lets each node receive what the others send it, each link in a thread of its own.
+    /// Lets each node receive what the others send it, in threads of its own. A cluster of one node has nothing to receive.
     pub fn connect<R: Threads + Wait + Copy + Send + 'static>(&mut self, rt: R) -> io::Result<()>
     where
         L: Send + Sync + 'static,
     {
-        let ends = mem::replace(&mut self.ends, Vec::new(self.alloc));
-        self.receiving.reserve(ends.len())?;
-        for way in ends {
-            if let Some(node) = self.nodes.get(way.node as usize) {
-                let thread = receive(rt, Arc::try_clone(node)?, way)?;
-                self.receiving.push(thread)?;
-            }
+        let inboxes = mem::replace(&mut self.inboxes, Vec::new(self.alloc));
+        if inboxes.len() < 2 {
+            return Ok(());
+        }
+        for (number, inbox) in inboxes.into_iter().enumerate() {
+            self.receive_at(rt, number, inbox)?;
+        }
+        Ok(())
+    }
+
+    /// Lets the node of this number receive what comes to its inbox.
+    fn receive_at<R: Threads + Wait + Copy + Send + 'static>(
+        &mut self,
+        rt: R,
+        number: usize,
+        inbox: Inbox<L>,
+    ) -> io::Result<()>
+    where
+        L: Send + Sync + 'static,
+    {
+        let inbox = Arc::new(self.alloc, inbox)?;
+        let Some(node) = self.nodes.get(number) else {
+            return Ok(());
+        };
+        for _ in 0..RECEIVERS {
+            self.receiving.reserve(1)?;
+            let thread = receive(rt, Arc::try_clone(node)?, Arc::try_clone(&inbox)?)?;
+            self.receiving.push(thread)?;
         }
         Ok(())
     }

@@ -13,7 +13,7 @@ use std::sync::Wait;
 use std::sync::ledger::Ledger;
 
 /// The receipts that an actor gathers at most until it looks for them.
-pub(crate) const MOST_RECEIPTS: usize = 4_096;
+pub(crate) const MOST_RECEIPTS: usize = 128;
 
 /// The receipts of one actor at one node that weren't looked for yet: a session's, a worker's or those of a link's end.
 #[derive(Drop)]
@@ -36,7 +36,7 @@ impl<L: Ledger> Gathered<L> {
         }
     }
 
-    /// Makes room for the receipt of a step, before the step. If 4,096 are there, all but the last are looked for under one lock
+    /// Makes room for the receipt of a step, before the step. If 128 are there, all but the last are looked for under one lock
     /// of the node, and forgotten. The error is out of memory, and then nothing has changed.
     pub(crate) fn make_room<R: Wait>(
         &mut self,

@@ -2,6 +2,7 @@
 //! in a thread of its own, workers that carry out its device works, and links between the nodes.
 #![tactic(auto)]
 
+mod client;
 mod cluster;
 mod device_calls;
 mod frames;
@@ -15,7 +16,9 @@ mod preparing;
 mod session;
 mod shared;
 mod stepping;
+mod sweeping;
 mod tally;
+mod turns;
 mod upkeep;
 mod waiting;
 mod waiting_keys;

@@ -16,6 +16,10 @@ use std::{io, thread};
 /// once.
 const REST: u64 = 10;
 
+/// How many descriptors are left to the workers' devices: two for each of the most nodes that there may be. A stream that would take one of
+/// them isn't served.
+const SPARE: usize = 16;
+
 /// A listener that accepts streams in a thread.
 #[derive(Drop)]
 pub struct Listening {
@@ -36,8 +40,8 @@ impl Listening {
 
 /// Serves each stream that the listener accepts, in a thread of its own, until the node is shut and the listener ended.
 ///
-/// A stream that can't be accepted, that comes while 1,024 sessions of the node are open, or for which there is no memory or no
-/// thread, is closed without an answer, and the others are served.
+/// A stream that can't be accepted, that comes while 1,024 sessions of the node are open or fewer than 16 descriptors are left, or for
+/// which there is no memory or no thread, is closed without an answer, and the others are served.
 pub fn listen<L: Ledger + Send + Sync + 'static, R: Threads + Wait + Clock + Copy + Send + 'static>(
     rt: R,
     alloc: Global,
@@ -76,7 +80,7 @@ fn start_session<
     R: Threads + Wait + Clock + Copy + Send + 'static,
 >(rt: R, alloc: Global, node: &Arc<SharedNode<L>>, stream: UnixStream) -> Result<(), AllocError> {
     let theirs = Arc::try_clone(node)?;
-    if !node.upkeep.sessions.begin(&rt) {
+    if !has_spare(alloc, &stream) || !node.upkeep.sessions.begin(&rt) {
         return Ok(());
     }
     let job = move || serve_stream(&rt, alloc, &*theirs, &stream);
@@ -86,6 +90,22 @@ fn start_session<
     Ok(())
 }
 
+/// Whether the process has descriptors to spare beside the stream: so many can be had at once, and are given back.
+fn has_spare(alloc: Global, stream: &UnixStream) -> bool {
+    let Ok(mut spare) = Vec::with_capacity(alloc, SPARE) else {
+        return false;
+    };
+    for _ in 0..SPARE {
+        match stream.try_clone() {
+            Ok(one) => {
+                let _ = spare.push(one);
+            }
+            Err(_) => return false,
+        }
+    }
+    true
+}
+
 /// Serves a session over the stream, to its end.
 fn serve_stream<L: Ledger, R: Wait + Clock>(
     rt: &R,
@@ -93,7 +113,7 @@ fn serve_stream<L: Ledger, R: Wait + Clock>(
     node: &SharedNode<L>,
     stream: &UnixStream,
 ) {
-    let mut session = Session::new(rt, node);
+    let mut session = Session::of_stream(rt, node, stream);
     let mut reader = stream;
     // so that the answers to what came in one piece leave together; without memory for it the stream is closed
     if let Ok(mut writer) = BufWriter::new(alloc, stream) {

@@ -1,6 +1,7 @@
 //! The ways out of a node: what a step sends is handed over once the node's lock is left.
 use crate::SharedNode;
 use crate::gathered::Gathered;
+use crate::turns::{LANES, Turn, Turns, lane_of};
 use fetch_link::{LinkReceiver, LinkSender, Sent, open};
 use node_journal::{Mail, Posted};
 use obj_id::{Message, PeerMessage, Place};
@@ -11,48 +12,133 @@ use std::sync::{Arc, Mutex, Wait};
 use std::thread::{JoinHandle, Threads};
 use std::{io, thread};
 
-/// The directory of the cluster, and a link to each other node, by number.
+/// The directory of the cluster, and a way to each other node, by number.
 #[derive(Drop)]
 pub(crate) struct Ways<L: Ledger> {
     directory: Arc<Mutex<Directory>>,
-    links: Vec<Option<Mutex<LinkSender<Posted<L>>>>>,
+    nodes: Vec<Option<WayOut<L>>>,
 }
 
-/// The end of a link at the node that receives.
+/// The links to another node, by lane: a job that sends more than a link holds loses its own messages alone, and those of other lanes
+/// come in turn with them.
+#[derive(Drop)]
+struct WayOut<L: Ledger> {
+    // the node that sends
+    source: usize,
+    lanes: Vec<Mutex<LinkSender<Posted<L>>>>,
+    // of the node that receives
+    turns: Arc<Turns>,
+}
+
+/// The other ends of these links.
 #[derive(Drop)]
 pub(crate) struct WayIn<L: Ledger> {
-    pub node: u32,
-    pub link: LinkReceiver<Posted<L>>,
+    source: usize,
+    lanes: Vec<Mutex<LinkReceiver<Posted<L>>>>,
+}
+
+/// All by which messages come to a node.
+#[derive(Drop)]
+pub(crate) struct Inbox<L: Ledger> {
+    turns: Arc<Turns>,
+    ways: Vec<WayIn<L>>,
+}
+
+impl<L: Ledger> WayOut<L> {
+    /// New links from the node of this number to one that has these turns, with their other ends.
+    fn open(
+        alloc: Global,
+        number: u32,
+        turns: Arc<Turns>,
+    ) -> Result<(WayOut<L>, WayIn<L>), AllocError> {
+        let source = number as usize;
+        let mut senders = Vec::with_capacity(alloc, LANES)?;
+        let mut receivers = Vec::with_capacity(alloc, LANES)?;
+        for _ in 0..LANES {
+            let (sender, receiver) = open(alloc)?;
+            senders.push(Mutex::new(sender))?;
+            receivers.push(Mutex::new(receiver))?;
+        }
+        let way_out = WayOut {
+            source,
+            lanes: senders,
+            turns,
+        };
+        let way_in = WayIn {
+            source,
+            lanes: receivers,
+        };
+        Ok((way_out, way_in))
+    }
+
+    /// Sends a message by the lane of its job: whether the link took it. That it has a turn is known before the link can be closed.
+    fn send<R: Wait>(&self, rt: &R, posted: Posted<L>) -> bool {
+        let lane = lane_of(posted.job());
+        let Some(link) = self.lanes.get(lane) else {
+            return false;
+        };
+        let mut link = link.lock(rt);
+        let sent = link.send_next(rt, posted);
+        if sent == Sent::Accepted {
+            self.turns.add(rt, lane, self.source);
+        }
+        drop(link);
+        sent == Sent::Accepted
+    }
+
+    /// Closes the links: what was accepted is still received.
+    fn close<R: Wait>(&self, rt: &R) {
+        for link in &self.lanes {
+            link.lock(rt).close();
+        }
+        self.turns.close(rt);
+    }
+}
+
+impl<L: Ledger> Inbox<L> {
+    /// Of a node to which none of so many others can send yet.
+    pub(crate) fn new(alloc: Global, others: u32) -> Result<Inbox<L>, AllocError> {
+        Ok(Inbox {
+            turns: Arc::new(alloc, Turns::new(others))?,
+            ways: Vec::new(alloc),
+        })
+    }
+
+    /// The message whose turn it is.
+    fn receive<R: Wait>(&self, rt: &R, turn: Turn) -> Option<Posted<L>> {
+        let way = self.ways.iter().find(|way| way.source == turn.source)?;
+        way.lanes.get(turn.lane)?.lock(rt).receive_next(rt)
+    }
 }
 
 impl<L: Ledger> Ways<L> {
-    /// The ways out of the node of this number, one of so many. Their other ends come after those that are there.
+    /// The ways out of the node of this number, one to each other node that has an inbox.
     pub(crate) fn open(
         alloc: Global,
         number: u32,
-        nodes: u32,
         directory: &Arc<Mutex<Directory>>,
-        ends: &mut Vec<WayIn<L>>,
+        inboxes: &mut [Inbox<L>],
     ) -> Result<Ways<L>, AllocError> {
-        let mut links = Vec::new(alloc);
-        for node in 0..nodes {
-            if node == number {
-                links.push(None)?;
+        let mut nodes = Vec::new(alloc);
+        for (node, inbox) in inboxes.iter_mut().enumerate() {
+            if node == number as usize {
+                nodes.push(None)?;
             } else {
-                let (sender, link) = open(alloc)?;
-                links.push(Some(Mutex::new(sender)))?;
-                ends.push(WayIn { node, link })?;
+                let turns = Arc::try_clone(&inbox.turns)?;
+                let (way_out, way_in) = WayOut::open(alloc, number, turns)?;
+                nodes.push(Some(way_out))?;
+                inbox.ways.push(way_in)?;
             }
         }
         Ok(Ways {
             directory: Arc::try_clone(directory)?,
-            links,
+            nodes,
         })
     }
 
-    /// The link to the node of this number, if there is one.
-    fn link(&self, node: u32) -> Option<&Mutex<LinkSender<Posted<L>>>> {
-        self.links.get(node as usize)?.as_ref()
+    /// The way to the node of this number, if there is one.
+    fn way(&self, node: u32) -> Option<&WayOut<L>> {
+        self.nodes.get(node as usize)?.as_ref()
     }
 
     /// Hands a message over to its place.
@@ -63,21 +149,18 @@ impl<L: Ledger> Ways<L> {
                 Ok(None) => Handed::Over,
                 Ok(Some(located)) => Handed::Answered(located),
             },
-            Place::Node(node) => match self.link(node) {
-                None => Handed::Lost,
-                Some(link) => match link.lock(rt).send_next(rt, posted) {
-                    Sent::Accepted => Handed::Over,
-                    _ => Handed::Lost,
-                },
+            Place::Node(node) => match self.way(node) {
+                Some(way) if way.send(rt, posted) => Handed::Over,
+                _ => Handed::Lost,
             },
         }
     }
 
     /// Closes the ways out to other nodes: what was accepted is still received.
     pub(crate) fn close<R: Wait>(&self, rt: &R) {
-        for link in &self.links {
-            if let Some(link) = link {
-                link.lock(rt).close();
+        for way in &self.nodes {
+            if let Some(way) = way {
+                way.close(rt);
             }
         }
     }
@@ -132,26 +215,28 @@ impl<L: Ledger> SharedNode<L> {
     }
 }
 
-/// Hands the messages of a link to its node, in a thread of its own, until the link is closed.
+/// Hands the messages that come to the node in, in a thread of its own, until no node sends any more.
 pub(crate) fn receive<L: Ledger + Send + Sync + 'static, R: Threads + Wait + Copy + Send + 'static>(
     rt: R,
     node: Arc<SharedNode<L>>,
-    way: WayIn<L>,
+    inbox: Arc<Inbox<L>>,
 ) -> io::Result<JoinHandle<()>> {
-    let job = move || receive_all(&rt, &*node, way);
+    let job = move || receive_all(&rt, &*node, &*inbox);
     let thread = thread::spawn(&rt, job)?;
     Ok(thread)
 }
 
-/// Hands the messages of a link to its node, until it is closed.
-fn receive_all<L: Ledger, R: Wait>(rt: &R, node: &SharedNode<L>, way: WayIn<L>) {
-    let WayIn { node: _, mut link } = way;
+/// Hands the messages in whose turn it is, until no node sends any more.
+fn receive_all<L: Ledger, R: Wait>(rt: &R, node: &SharedNode<L>, inbox: &Inbox<L>) {
     let mut gathered = Gathered::new(node.upkeep.alloc);
     for _ in rt.forever() {
-        let Some(posted) = link.receive_next(rt) else {
+        let Some(turn) = inbox.turns.next(rt) else {
             break;
         };
-        node.receive_one(rt, posted, &mut gathered);
+        if let Some(posted) = inbox.receive(rt, turn) {
+            node.receive_one(rt, posted, &mut gathered);
+        }
+        inbox.turns.end(rt, turn);
     }
     gathered.look_for_all(rt, node);
 }

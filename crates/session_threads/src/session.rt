@@ -8,6 +8,7 @@ use node_journal::Entered;
 use obj_id::{Command, JobKey, JobNo, Refusal, Reply};
 use private_store::Awaited;
 use session_engine::Gate;
+use std::os::unix::net::UnixStream;
 use std::sync::Wait;
 use std::sync::ledger::Ledger;
 use std::time::Clock;
@@ -20,6 +21,8 @@ pub struct Session<'a, L: Ledger, R: Wait + Clock> {
     gathered: Gathered<L>,
     // the session that the node let in last
     entered: Option<Entered<L>>,
+    // whose end is looked for while a call waits
+    client: Option<&'a UnixStream>,
 }
 
 impl<'a, L: Ledger, R: Wait + Clock> Session<'a, L, R> {
@@ -30,6 +33,22 @@ impl<'a, L: Ledger, R: Wait + Clock> Session<'a, L, R> {
             node,
             gathered: Gathered::new(node.upkeep.alloc),
             entered: None,
+            client: None,
+        }
+    }
+
+    /// The same of a client's stream: its calls wait no longer than its other end is open.
+    pub(crate) fn of_stream(
+        rt: &'a R,
+        node: &'a SharedNode<L>,
+        client: &'a UnixStream,
+    ) -> Session<'a, L, R> {
+        Session {
+            rt,
+            node,
+            gathered: Gathered::new(node.upkeep.alloc),
+            entered: None,
+            client: Some(client),
         }
     }
 
@@ -70,7 +89,9 @@ impl<'a, L: Ledger, R: Wait + Clock> Gate for Session<'a, L, R> {
         if self.gathered.make_room(self.rt, self.node).is_err() {
             return framed(Reply::Refused(Refusal::NoMemory));
         }
-        let (reply, receipt) = self.node.call_wait(self.rt, job, session, awaited);
+        let (reply, receipt) = self
+            .node
+            .call_wait_of(self.rt, job, session, awaited, self.client);
         if let Some(receipt) = receipt {
             self.gathered.add(receipt);
         }

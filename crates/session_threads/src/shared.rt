@@ -12,6 +12,7 @@ ghost use Rattle.session_threads.specs.DeviceCalls.{IsHandedIn, IsTaken};
 ghost use Rattle.session_threads.specs.Gathering.{in_order};
 ghost use Rattle.session_threads.specs.Witnesses.{IsCalled, IsArrived, IsOf, tried, witness_of};
 
+use crate::client::is_gone;
 use crate::gathered::{Gathered, look_for};
 use crate::posting::Ways;
 use crate::preparing::prepare_finish;
@@ -19,6 +20,7 @@ use crate::stepping::{
     Stepped, step_arrival, step_call, step_call_after, step_end, step_event, step_located,
     step_order, step_take,
 };
+use crate::sweeping::{may_reach_others, sweep_after};
 use crate::upkeep::Upkeep;
 use crate::waiting::{Moved, Waiting};
 use bytes::Bytes;
@@ -27,6 +29,7 @@ use node_journal::{Access, Entered, Keeper, Kept, Posted, Receipt};
 use obj_id::{Command, JobKey, JobNo, Quota, Refusal, Reply};
 use private_store::{Awaited, Event};
 use std::alloc::Global;
+use std::os::unix::net::UnixStream;
 use std::slice;
 use std::sync::ledger::{Ledger, Share};
 use std::sync::{Arc, Mutex, Wait};
@@ -87,7 +90,9 @@ impl<L: Ledger> SharedNode<L> {
             drop(kept);
             return self.call_prepared(rt, job, session, command);
         }
+        let reaches_others = may_reach_others(&command);
         let stepped = step_call(rt, &mut *kept, &self.upkeep, job, session, command);
+        sweep_after(&mut *kept, job, reaches_others, &stepped);
         drop(kept);
         match stepped {
             Ok(stepped) => self.hand_out(rt, stepped),
@@ -174,7 +179,9 @@ impl<L: Ledger> SharedNode<L> {
     {
         self.leave_marked(rt);
         let mut kept = self.kept.lock(rt);
+        let reaches_others = may_reach_others(&command);
         let stepped = step_call_after(rt, &mut *kept, &self.upkeep, receipt, job, session, command);
+        sweep_after(&mut *kept, job, reaches_others, &stepped);
         drop(kept);
         match stepped {
             Ok(stepped) => self.hand_out(rt, stepped),
@@ -185,7 +192,7 @@ impl<L: Ledger> SharedNode<L> {
 
     /// The same as `call`, tried again while the answer is Pending and the node isn't shut, each time that something may have
     /// moved for the job, or chunks that were asked for don't come for two seconds. Each try is an entry; the answer and the
-    /// receipt are those of the last, and the entries of the others are looked for at once.
+    /// receipt are those of the last, and the entries of the others are looked for before the next try.
     pub fn call_wait<R: Wait + Clock>(
         &self,
         rt: &R,
@@ -196,8 +203,24 @@ impl<L: Ledger> SharedNode<L> {
         ensures called { MatchOption result.1 (result.0 ≡ reply.Refused NoMemory) (λ r. (wants_memory result.0 ≡ false) × IsCalled job session (tried awaited) result.0 (witness_of r)) }
         ensures small { is_small_reply result.0 ≡ true }
     {
+        self.call_wait_of(rt, job, session, awaited, None)
+    }
+
+    /// The same of a client's stream: it isn't tried again if its other end was closed, which is looked at after each wait and every
+    /// two seconds of it.
+    pub(crate) fn call_wait_of<R: Wait + Clock>(
+        &self,
+        rt: &R,
+        job: JobNo,
+        session: u32,
+        awaited: Awaited,
+        client: Option<&UnixStream>,
+    ) -> (Reply<Bytes>, Option<Receipt<L>>)
+        ensures called { MatchOption result.1 (result.0 ≡ reply.Refused NoMemory) (λ r. (wants_memory result.0 ≡ false) × IsCalled job session (tried awaited) result.0 (witness_of r)) }
+        ensures small { is_small_reply result.0 ≡ true }
+    {
         for _ in rt.forever() {
-            let (reply, receipt, is_over) = self.try_once(rt, job, session, &awaited);
+            let (reply, receipt, is_over) = self.try_once(rt, job, session, &awaited, client);
             if is_over {
                 return (reply, receipt);
             }
@@ -212,6 +235,7 @@ impl<L: Ledger> SharedNode<L> {
         job: JobNo,
         session: u32,
         awaited: &Awaited,
+        client: Option<&UnixStream>,
     ) -> (Reply<Bytes>, Option<Receipt<L>>, bool)
         ensures called { MatchOption result.1 (result.0 ≡ reply.Refused NoMemory) (λ r. (wants_memory result.0 ≡ false) × IsCalled job session (tried awaited.now) result.0 (witness_of r)) }
         ensures small { is_small_reply result.0 ≡ true }
@@ -227,12 +251,16 @@ impl<L: Ledger> SharedNode<L> {
             ) => {
                 let is_pulling = self.post(rt, mail);
                 let is_pending = matches!(&reply, Reply::Refused(Refusal::Pending));
-                let is_over = !is_pending || self.upkeep.waiting.is_shut();
-                if !is_over {
-                    self.check(rt, &receipt);
-                    self.upkeep.waiting.await_next(rt, job, seen, is_pulling);
+                if !is_pending || self.upkeep.waiting.is_shut() {
+                    return (reply, Some(receipt), true);
                 }
-                (reply, Some(receipt), is_over)
+                let waiting = &self.upkeep.waiting;
+                waiting.await_next(rt, job, seen, is_pulling, client);
+                if is_gone(client) {
+                    return (reply, Some(receipt), true);
+                }
+                self.check(rt, &receipt);
+                (reply, Some(receipt), false)
             }
             Err(refusal) => (Reply::Refused(refusal), None, true),
         }
@@ -259,6 +287,7 @@ impl<L: Ledger> SharedNode<L> {
             return (self.step_prepared(rt, job, session, command), seen);
         }
         let stepped = step_call(rt, &mut *kept, &self.upkeep, job, session, command);
+        sweep_after(&mut *kept, job, false, &stepped);
         (stepped, self.upkeep.waiting.seen(rt, job))
     }
 

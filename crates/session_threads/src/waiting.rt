@@ -1,17 +1,20 @@
 //! How a call waits: until something may have moved for its job, at any node.
 ghost use Rattle.std.specs.Prelude.{◌<◌};
 
+use crate::client::is_gone;
 use bytes::Bytes;
 use node_journal::Receipt;
 use obj_id::{Command, JobNo, Refusal, Reply};
 use private_store::{ChunkVerdict, Judged};
 use std::array;
+use std::os::unix::net::UnixStream;
 use std::sync::atomic::{AtomicBool, Ordering};
 use std::sync::ledger::Ledger;
 use std::sync::{Condvar, CondvarTimeouts, Mutex, Wait};
 use std::time::{Clock, Duration};
 
-/// How long a call waits for the next of the chunks that it has asked for until it asks again, in milliseconds: some may be lost.
+/// How long a call waits until it looks whether its client is still there, and for the next of the chunks that it has asked for until
+/// it asks again, in milliseconds: some may be lost.
 const PATIENCE: u64 = 2_000;
 
 /// What a step may have moved for the job's calls that wait.
@@ -98,41 +101,71 @@ impl Waiting {
         }
     }
 
-    /// Waits for what the next try of a call may find, by the counts of the last one, and whether that asked for chunks.
+    /// Waits for what the next try of a call may find, by the counts of the last one, and whether that asked for chunks; no longer than
+    /// its client is there.
     pub(crate) fn await_next<R: Wait + Clock>(
         &self,
         rt: &R,
         job: JobNo,
         seen: Moved,
         is_pulling: bool,
+        client: Option<&UnixStream>,
     ) {
         if is_pulling {
-            self.await_chunks(rt, job, seen);
+            self.await_chunks(rt, job, seen, client);
         } else {
-            self.await_move(rt, job, seen);
+            self.await_move(rt, job, seen, client);
         }
     }
 
-    /// Waits until something may have moved for the job since these were its counts, or the nodes are shut.
-    fn await_move<R: Wait>(&self, rt: &R, job: JobNo, seen: Moved) {
-        let bell = self.bell(job);
-        let moved = bell.moved.lock(rt);
-        let moved = bell.changed.wait_while(rt, moved, |moved| {
-            !self.is_shut() && moved.copies == seen.copies
-        });
-        drop(moved);
+    /// Waits until something may have moved for the job since these were its counts, the nodes are shut, or the client is gone.
+    fn await_move<R: Wait + Clock>(
+        &self,
+        rt: &R,
+        job: JobNo,
+        seen: Moved,
+        client: Option<&UnixStream>,
+    ) {
+        for _ in rt.forever() {
+            let moved = self.await_copies(rt, job, seen.copies);
+            if self.is_shut() || moved.copies != seen.copies || is_gone(client) {
+                return;
+            }
+        }
     }
 
     /// The same for a fetch that has asked for chunks, which waits no longer than its patience after the last of them that came.
-    fn await_chunks<R: Wait + Clock>(&self, rt: &R, job: JobNo, seen: Moved) {
+    fn await_chunks<R: Wait + Clock>(
+        &self,
+        rt: &R,
+        job: JobNo,
+        seen: Moved,
+        client: Option<&UnixStream>,
+    ) {
         let mut chunks = seen.chunks;
         for _ in rt.forever() {
             let moved = self.await_fetch(rt, job, seen.fetches);
             if self.is_shut() || moved.fetches != seen.fetches || moved.chunks == chunks {
                 return;
             }
+            if is_gone(client) {
+                return;
+            }
             chunks = moved.chunks;
         }
+    }
+
+    /// The counts once the job's copies have moved from this count, the nodes are shut, or the patience is over.
+    fn await_copies<R: Wait + Clock>(&self, rt: &R, job: JobNo, copies: u64) -> Moved {
+        let bell = self.bell(job);
+        let moved = bell.moved.lock(rt);
+        let patience = Duration::from_millis(PATIENCE);
+        let (moved, _) = bell
+            .changed
+            .wait_timeout_while(rt, moved, patience, |moved| {
+                !self.is_shut() && moved.copies == copies
+            });
+        *moved
     }
 
     /// The counts once the job's fetches have moved from this count, the nodes are shut, or the patience is over.
