@@ -8,7 +8,8 @@ from support import Script, documented, key
 from spelling import CALLS, call, spelled
 
 import store_client
-from store_client import ObjectId, Task, frames
+from store_client import ObjectId, Task, frames, stream
+from store_client.requests import Requests
 
 # for each reply a call that may get it
 ASKED_BY = {"ok": "seal t1.1", "refused": "seal t1.1", "placed": "create t1.1 20", "got": "get t1.1", "bytes": "read t1.1 0 5"}
@@ -64,6 +65,72 @@ class Frames(unittest.TestCase):
                 self.ask("list", bytes.fromhex(digits))
         with self.assertRaises(store_client.ConnectionLost):
             self.ask("list", bytes.fromhex("00000009" "84" "000000"))
+
+
+class Cut:
+    """A socket that has so many bytes at each call, and then nothing."""
+
+    def __init__(self, sent: bytes, length: int) -> None:
+        self.sent = sent
+        self.length = length
+        self.calls = 0
+
+    def recvmsg_into(self, spaces: list[memoryview]) -> tuple[int]:
+        if not self.sent:
+            raise BlockingIOError
+        self.calls += 1
+        came, taken = self.sent[: self.length], 0
+        for space in spaces:
+            space[: len(came) - taken] = came[taken : taken + len(space)]
+            taken = min(len(came), taken + len(space))
+        self.sent = self.sent[taken:]
+        return (taken,)
+
+
+class Bursts(unittest.TestCase):
+    """Replies that come together, or cut anywhere: what Reads bring goes to its place, whatever comes between."""
+
+    LENGTH, STEP = 75, 10
+
+    def data(self) -> bytes:
+        return (bytes(range(251)) * (self.LENGTH // 251 + 1))[: self.LENGTH]
+
+    def ask(self, length: int, other: dict[int, bytes]) -> tuple[list[object], list[bytes], int]:
+        """What is made of Reads between a Get and a Release, of which some are answered otherwise: the answers, what lies in the places
+        of the Reads, and how many calls it took."""
+        id, requests = Task.numbered(1).object(1, job=1), Requests(1)
+        data, into = self.data(), memoryview(bytearray(self.LENGTH))
+        places = [slice(at, min(at + self.STEP, self.LENGTH)) for at in range(0, self.LENGTH, self.STEP)]
+        reads = [requests.read(id, place.start, len(into[place]), into[place]) for place in places]
+        replies = [other.get(number, frames.frame(frames.Reply.BYTES, data[place])) for number, place in enumerate(places)]
+        got, ok = frames.frame(frames.Reply.GOT, frames.numbers(self.LENGTH)), frames.frame(frames.Reply.OK)
+        answers: list[object] = []
+        all, cut, replied = [requests.get(id), *reads, requests.release(id)], Cut(b"".join([got, *replies, ok]), length), stream._Replies()
+        while len(answers) < len(all):
+            self.assertTrue(replied.receive(cut, all, answers), "it waits for what has come already")  # type: ignore[arg-type]
+        self.assertEqual((answers[0], answers[-1]), (self.LENGTH, None))
+        return answers[1:-1], [bytes(into[place]) for place in places], cut.calls
+
+    def test_cut_anywhere(self) -> None:
+        pending = frames.frame(frames.Reply.REFUSED, bytes([10]))
+        for other in ({}, {0: pending}, {3: pending}, {2: pending, 3: pending, 7: pending}, dict.fromkeys(range(8), pending)):
+            for length in (*range(1, 40), 1000):
+                answers, places, _ = self.ask(length, other)
+                for number, (answer, place) in enumerate(zip(answers, places)):
+                    if number in other:
+                        self.assertIsInstance(answer, store_client.Pending)
+                    else:
+                        due = self.data()[self.STEP * number : self.STEP * (number + 1)]
+                        self.assertEqual((answer, place), (b"", due), (other, length, number))
+
+    def test_one_call_brings_several(self) -> None:
+        self.LENGTH, self.STEP = 75_000, 10_000
+        self.assertLessEqual(self.ask(self.LENGTH * 2, {})[2], 3)
+
+    def test_bytes_of_another_length(self) -> None:
+        for length in (1, 7, 1000):
+            with self.assertRaisesRegex(store_client.ProtocolError, "9 bytes came, and 10 were asked for"):
+                self.ask(length, {4: frames.frame(frames.Reply.BYTES, bytes(9))})
 
 
 class Texts(unittest.TestCase):
