@@ -255,6 +255,23 @@ class Sharing(OfCluster):
 class Losses(OfCluster):
     """A store is killed, and a host."""
 
+    def test_0_a_worker_that_starts_before_its_store(self) -> None:
+        self.hosts.kill_store("B")
+        self.hosts.kill_worker("B1.0")
+        self.restart("B1.0")
+        with self.assertRaisesRegex(RuntimeError, "this worker has no store, as ConnectionLost: .* looks for it again"):
+            self.on("B1.0", faults.put_numbers, count(1), 1).result(PATIENCE)
+        self.hosts.serve(self.hosts.hosts["B"])
+        put: List[Any] = []
+
+        def is_put() -> bool:
+            put[:] = [self.on("B1.0", faults.put_numbers, count(2), 19)]
+            return put[0].exception(PATIENCE) is None
+
+        wait_until(is_put, "a store", PATIENCE)
+        # the others know that the worker is there
+        self.assertEqual(self.on("A1.0", faults.total, put[0]).result(PATIENCE), expected(2, 19))
+
     def test_1_a_store_that_is_killed(self) -> None:
         future = self.on("B1.0", faults.put_numbers, count(3), 20)
         ref = future.result(PATIENCE)

@@ -13,6 +13,7 @@ import pickle
 import threading
 import time
 import unittest
+from pathlib import Path
 from types import SimpleNamespace
 from typing import Any, List
 from unittest import mock
@@ -26,7 +27,7 @@ from store_client.steps import Deadline
 HAS_DASK = importlib.util.find_spec("distributed") is not None
 if HAS_DASK:
     from store_client import dask
-    from store_client.dask import host, names, reference, scheduler, sharing
+    from store_client.dask import again, host, names, reference, scheduler, sharing
 
 LEASE = 1.0
 
@@ -84,6 +85,97 @@ class Names(unittest.TestCase):
     def test_outside_of_a_task(self) -> None:
         with self.assertRaisesRegex(RuntimeError, "to be called in a task"):
             dask.put(1)
+
+    def test_a_plugin_can_be_pickled(self) -> None:
+        plugin = pickle.loads(pickle.dumps(dask.StoreWorkers("/run/store", 2, "/key", nodes=3, part=64, small=32, lease=1.5)))
+        self.assertEqual(plugin.__reduce__()[1], ("/run/store", 2, "/key", 3, 64, 32, 1.5))
+
+    def test_pauses_between_tries_grow_to_a_bound(self) -> None:
+        now = 100.0
+        tries, pauses = again.Tries(lambda: now), []
+        self.assertEqual(tries.seconds_left, 0)
+        for _ in range(9):
+            tries.failed()
+            pauses.append(tries.seconds_left)
+            now += tries.seconds_left
+            self.assertEqual(tries.seconds_left, 0)
+        self.assertEqual(pauses, [0.5, 1, 2, 4, 8, 16, 30, 30, 30])
+
+
+@unittest.skipUnless(HAS_DASK, "distributed isn't there")
+class Starting(unittest.IsolatedAsyncioTestCase):
+    """A worker that finds no store at its start. The scheduler is this test's."""
+
+    async def asyncSetUp(self) -> None:
+        self.server = Server(nodes=2)
+        self.addCleanup(self.server.close)
+        self.folder = Path(self.server.folder.name)
+        self.joined: List[str] = []
+        self.now = 0.0
+
+    async def store_join(self, worker: str, host: str) -> None:
+        self.joined.append(worker)
+
+    def plugin(self) -> dask.StoreWorkers:
+        plugin = dask.StoreWorkers(f"{self.folder}/store", 1, f"{self.folder}/job.key", nodes=2)
+        plugin._tries = again.Tries(lambda: self.now)
+        self.addCleanup(lambda: plugin.fault or plugin._store.close())
+        return plugin
+
+    def worker(self) -> Any:
+        loop = SimpleNamespace(asyncio_loop=asyncio.get_running_loop())
+        return SimpleNamespace(handlers={}, address="b1", loop=loop, scheduler=SimpleNamespace(store_join=self.store_join))
+
+    async def needed(self, plugin: dask.StoreWorkers) -> str:
+        """What a task meets that needs the store."""
+        try:
+            await asyncio.get_running_loop().run_in_executor(None, plugin.await_store)
+        except RuntimeError as error:
+            return str(error)
+        return ""
+
+    async def test_it_is_looked_for_again_after_a_pause(self) -> None:
+        plugin = self.plugin()
+        with self.assertRaises(FileNotFoundError):
+            await plugin.setup(self.worker())
+        (self.folder / "job.key").write_text("00" * 32)
+        self.assertIn("has no store, as FileNotFoundError", await self.needed(plugin))
+        self.now = 0.5
+        self.assertRegex(await self.needed(plugin), "has no store, as NotAdmitted: .* in 1.0 seconds or later looks for it again")
+        (self.folder / "job.key").write_text(key(1).hex())
+        self.now = 1.4
+        self.assertRegex(await self.needed(plugin), "has no store, as NotAdmitted: .* in 0.1 seconds or later looks for it again")
+        self.assertEqual(self.joined, [])
+        self.now = 1.5
+        self.assertEqual(await self.needed(plugin), "")
+        self.assertEqual((plugin.fault, self.joined, len(plugin.usage())), (None, ["b1"], 2))
+        self.assertEqual(await self.needed(plugin), "")
+        self.assertEqual(self.joined, ["b1"])
+
+    async def test_one_task_of_several_looks(self) -> None:
+        plugin = self.plugin()
+        with self.assertRaises(FileNotFoundError):
+            await plugin.setup(self.worker())
+        (self.folder / "job.key").write_text(key(1).hex())
+        self.now = 1.0
+        self.assertEqual(await asyncio.gather(*(self.needed(plugin) for _ in range(4))), [""] * 4)
+        self.assertEqual(self.joined, ["b1"])
+
+    async def test_a_task_waits_for_the_start(self) -> None:
+        plugin = self.plugin()
+        (self.folder / "job.key").write_text(key(1).hex())
+        needed = asyncio.ensure_future(self.needed(plugin))
+        await asyncio.sleep(0.1)
+        self.assertFalse(needed.done())
+        await plugin.setup(self.worker())
+        self.assertEqual(await needed, "")
+
+    async def test_a_coroutine_is_told_that_it_can_t_wait(self) -> None:
+        plugin = self.plugin()
+        with self.assertRaises(FileNotFoundError):
+            await plugin.setup(self.worker())
+        with self.assertRaisesRegex(RuntimeError, "can't be called in a coroutine"):
+            plugin.await_store()
 
 
 @unittest.skipUnless(HAS_DASK, "distributed isn't there")

@@ -56,8 +56,9 @@ def attach(
     fetches something, and shows no progress for `lease` seconds, is taken for dead by the others of its host.
 
     Raises what a worker meets: `ConnectionLost` if its host has no store, `NotAdmitted` if the job isn't live
-    there or the key isn't its own, `ValueError` or `OSError` if the key file isn't right there. A worker that joins later and meets it
-    stays, without a store: its tasks raise `RuntimeError` when they put or load, until `attach` is called again.
+    there or the key isn't its own, `ValueError` or `OSError` if the key file isn't right there. A worker that meets it stays, also one
+    that joins later. A task of it that puts or loads looks for the store again, after a pause that grows from half a second to 30 seconds;
+    otherwise it raises `RuntimeError`, which says why there is none.
     """
     client.register_scheduler_plugin(StoreScheduler(), idempotent=True)
     client.register_worker_plugin(StoreWorkers(socket, job, key_file, nodes, part, small, lease))

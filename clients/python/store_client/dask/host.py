@@ -37,7 +37,11 @@ class HostStore:
         """The socket of node K is `SOCKET.K`. `ConnectionLost`, `NotAdmitted`."""
         self.job = job
         self._pools = [Pool(f"{socket}.{node}", job, key, _SILENCE, connections=1) for node in range(nodes)]
-        window = min(usage.window for usage in self.usage())
+        try:
+            window = min(usage.window for usage in self.usage())
+        except BaseException:
+            self.close()
+            raise
         #: how long a part is, in bytes
         self.part = max(16, min(part, LARGEST, window // _PARTS_OF_A_WINDOW // 16 * 16))
 

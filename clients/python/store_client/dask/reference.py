@@ -144,9 +144,7 @@ def in_worker() -> Any:
     if PLUGIN not in worker.plugins:
         raise RuntimeError("this worker has no store: store_client.dask.attach(client, ..) gives it one")
     plugin = worker.plugins[PLUGIN]
-    if plugin.fault:
-        why = f"{type(plugin.fault).__name__}: {plugin.fault}"
-        raise RuntimeError(f"this worker has no store, as {why}: store_client.dask.attach(client, ..) tries it again") from plugin.fault
+    plugin.await_store()
     return plugin
 
 

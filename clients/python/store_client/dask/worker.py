@@ -22,6 +22,7 @@ from ..memory import blank
 from ..refusals import ConnectionLost
 from ..requests import Pieces
 from ..steps import Deadline
+from .again import Tries
 from .errors import KeyReleased, ValueLost
 from .host import HostStore, all_of
 from .names import Name
@@ -65,38 +66,80 @@ class StoreWorkers(WorkerPlugin):  # type: ignore[misc]
     ) -> None:
         """The socket of the server's node K is `SOCKET.K`. A part has so many bytes at most, and a value that lies in its reference; a
         lease so many seconds."""
+        self._pickled = (socket, job, key_file, nodes, part, small, lease)
         self._words = {"STORE_SOCKET": socket, "STORE_JOB": job, "STORE_KEY_FILE": key_file, "STORE_NODES": nodes}
         self._part = whole_number(part, "the length of a part", 16, 1 << 24)
         self._small = whole_number(small, "the length of a small value", 0, 1 << 24)
         self._lease = lease
-
-    async def setup(self, worker: Any) -> None:
-        """The worker starts, or the plugin is registered once more: what runs goes on with the one before, so there is no teardown."""
-        try:
-            await self._begin(worker)
-        except Exception as fault:
-            self.fault = fault
-            raise
-
-    async def _begin(self, worker: Any) -> None:
-        said: Dict[str, Any] = {**self._words, **os.environ}
-        self._worker = worker
-        self.host = os.environ.get("STORE_HOST") or socket.gethostname()
-        self._job = whole_number(int(said["STORE_JOB"]), "a job", 1, 2**32 - 1)
-        nodes = whole_number(int(said["STORE_NODES"]), "how many nodes a server has", 1, 8)
-        self._store = HostStore(said["STORE_SOCKET"], nodes, self._job, _key(said), self._part)
-        self._sharing = Sharing(self._store, self._lease)
-        self._peers = Peers(worker, self.host)
+        # whether `setup` has ended, well or not; and the tries of tasks after that
+        self._is_set_up = threading.Event()
+        self._trying = threading.Lock()
+        self._tries = Tries()
         self._threads = concurrent.futures.ThreadPoolExecutor(_THREADS, "store")
         self._answering = concurrent.futures.ThreadPoolExecutor(_THREADS, "store_answers")
         self._lock = threading.Lock()
         self._under_way: Counter[bytes] = collections.Counter()
         self._gone: Set[bytes] = set()
         self._counts: Counter[str] = collections.Counter()
-        worker.handlers["store_part"] = self._answer_part
-        worker.handlers["store_ping"] = self._answer_ping
-        worker.handlers["store_forget"] = self._answer_forget
-        await worker.scheduler.store_join(worker=worker.address, host=self.host)
+
+    def __reduce__(self) -> Any:
+        return type(self), self._pickled
+
+    async def setup(self, worker: Any) -> None:
+        """The worker starts, or the plugin is registered once more: what runs goes on with the one before, so there is no teardown."""
+        self._worker = worker
+        try:
+            self._open()
+            await self._join()
+        except Exception as fault:
+            self._note(fault)
+            raise
+        finally:
+            self._is_set_up.set()
+
+    def await_store(self) -> None:
+        """In a task: if the worker found no store, it is looked for again, now or after a pause. `RuntimeError` says why there is none."""
+        if self._is_set_up.is_set() and self.fault is None:
+            return
+        self._check_thread()
+        if not self._is_set_up.wait(_PATIENCE):
+            raise RuntimeError("this worker has no store yet: it waits for an answer of it, or of the scheduler")
+        with self._trying:
+            if self.fault is not None and not self._tries.seconds_left:
+                self._try_again()
+            if self.fault is not None:
+                why = f"{type(self.fault).__name__}: {self.fault}"
+                again = f"the first task that needs it in {self._tries.seconds_left:.1f} seconds or later looks for it again"
+                raise RuntimeError(f"this worker has no store, as {why}; {again}") from self.fault
+
+    def _try_again(self) -> None:
+        try:
+            self._open()
+            self._ask(self._join())
+            self.fault = None
+        except Exception as fault:
+            self._note(fault)
+
+    def _note(self, fault: Exception) -> None:
+        self.fault = fault
+        self._tries.failed()
+
+    def _open(self) -> None:
+        """Connects to the store. This waits for it."""
+        said: Dict[str, Any] = {**self._words, **os.environ}
+        self.host = os.environ.get("STORE_HOST") or socket.gethostname()
+        self._job = whole_number(int(said["STORE_JOB"]), "a job", 1, 2**32 - 1)
+        nodes = whole_number(int(said["STORE_NODES"]), "how many nodes a server has", 1, 8)
+        self._store = HostStore(said["STORE_SOCKET"], nodes, self._job, _key(said), self._part)
+        self._sharing = Sharing(self._store, self._lease)
+        self._peers = Peers(self._worker, self.host)
+
+    async def _join(self) -> None:
+        """From now on others ask for what the store has."""
+        self._worker.handlers["store_part"] = self._answer_part
+        self._worker.handlers["store_ping"] = self._answer_ping
+        self._worker.handlers["store_forget"] = self._answer_forget
+        await self._worker.scheduler.store_join(worker=self._worker.address, host=self.host)
 
     # ---- for other workers and the scheduler, on the worker's event loop; the store is asked in a thread
 
