@@ -259,7 +259,7 @@ class Losses(OfCluster):
         self.hosts.kill_store("B")
         self.hosts.kill_worker("B1.0")
         self.restart("B1.0")
-        with self.assertRaisesRegex(RuntimeError, "this worker has no store, as ConnectionLost: .* looks for it again"):
+        with self.assertRaisesRegex(RuntimeError, "this worker of host B has no store, as ConnectionLost: .* looks for it again"):
             self.on("B1.0", faults.put_numbers, count(1), 1).result(PATIENCE)
         self.hosts.serve(self.hosts.hosts["B"])
         put: List[Any] = []

@@ -9,6 +9,7 @@ import array
 import asyncio
 import concurrent.futures
 import importlib.util
+import os
 import pickle
 import threading
 import time
@@ -77,7 +78,7 @@ class Names(unittest.TestCase):
         with self.assertRaises(FileNotFoundError):
             asyncio.run(plugin.setup(None))
         with mock.patch.object(reference, "get_worker", lambda: SimpleNamespace(plugins={reference.PLUGIN: plugin})):
-            with self.assertRaisesRegex(RuntimeError, "has no store, as FileNotFoundError: .*/nowhere/key"):
+            with self.assertRaisesRegex(RuntimeError, "this worker of host .* has no store, as FileNotFoundError: .*/nowhere/key"):
                 dask.put(1)
         client = SimpleNamespace(run=lambda asked: {"a1": asked(SimpleNamespace(plugins={reference.PLUGIN: plugin}))})
         self.assertEqual((dask.usage(client), dask.counts(client)), ({}, {}))
@@ -151,6 +152,12 @@ class Starting(unittest.IsolatedAsyncioTestCase):
         self.assertEqual((plugin.fault, self.joined, len(plugin.usage())), (None, ["b1"], 2))
         self.assertEqual(await self.needed(plugin), "")
         self.assertEqual(self.joined, ["b1"])
+
+    async def test_a_number_that_is_none(self) -> None:
+        for name, text in (("STORE_JOB", "first"), ("STORE_JOB", "0"), ("STORE_NODES", "two"), ("STORE_NODES", "9")):
+            with mock.patch.dict(os.environ, {name: text, "STORE_KEY": key(1).hex()}):
+                with self.assertRaisesRegex(ValueError, f"{name}, is 1 to .*, not '?{text}"):
+                    await self.plugin().setup(self.worker())
 
     async def test_one_task_of_several_looks(self) -> None:
         plugin = self.plugin()

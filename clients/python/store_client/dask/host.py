@@ -9,7 +9,7 @@ from __future__ import annotations
 import concurrent.futures
 import contextlib
 import time
-from typing import Callable, Dict, Iterable, List, Sequence, Tuple, Type, TypeVar
+from typing import Callable, Dict, Iterable, Iterator, List, Sequence, Tuple, Type, TypeVar
 
 from ..ids import ObjectId
 from ..items import Kind, State, Usage
@@ -153,11 +153,15 @@ def patiently(work: Callable[[], T], deadline: Deadline) -> T:
         time.sleep(pauses.next().seconds)
 
 
-def all_of(threads: concurrent.futures.Executor, work: Callable[[int], T], numbers: Sequence[int]) -> List[T]:
-    """What the work gives for each of the numbers, several at once. After a fault no more are begun, and it is raised once all have
-    ended."""
+@contextlib.contextmanager
+def all_under_way(
+    threads: concurrent.futures.Executor, work: Callable[[int], T], numbers: Sequence[int]
+) -> Iterator[List[concurrent.futures.Future[T]]]:
+    """Does the work for each of the numbers, several at once, beside what the block does. At its end all have ended. After a fault no
+    more are begun, and it is raised then."""
     running = [threads.submit(work, number) for number in numbers]
     try:
+        yield running
         concurrent.futures.wait(running, return_when=concurrent.futures.FIRST_EXCEPTION)
     finally:
         for future in running:
@@ -166,4 +170,10 @@ def all_of(threads: concurrent.futures.Executor, work: Callable[[int], T], numbe
     faults = [future.exception() for future in running if not future.cancelled() and future.exception()]
     if faults and faults[0]:
         raise faults[0]
+
+
+def all_of(threads: concurrent.futures.Executor, work: Callable[[int], T], numbers: Sequence[int]) -> List[T]:
+    """What the work gives for each of the numbers, several at once."""
+    with all_under_way(threads, work, numbers) as running:
+        pass
     return [future.result() for future in running]

@@ -74,7 +74,9 @@ class Peers:
                 why = f"{address} doesn't answer"
             elif answer["status"] == "OK":
                 data = memoryview(answer["data"]).cast("B")
-                if digest_of(data) == ref.digests[part]:
+                # the event loop has other parts to read meanwhile
+                digest = await asyncio.get_running_loop().run_in_executor(None, digest_of, data)
+                if digest == ref.digests[part]:
                     return data
                 why = f"{address} sent other bytes"
             elif answer["status"] == "absent":

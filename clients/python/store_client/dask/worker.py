@@ -24,7 +24,7 @@ from ..requests import Pieces
 from ..steps import Deadline
 from .again import Tries
 from .errors import KeyReleased, ValueLost
-from .host import HostStore, all_of
+from .host import HostStore, all_of, all_under_way
 from .names import Name
 from .peers import GONE, Peers, Route, answer_part
 from .reference import PLUGIN, StoreRef, digest_of, encode, in_words
@@ -88,6 +88,7 @@ class StoreWorkers(WorkerPlugin):  # type: ignore[misc]
     async def setup(self, worker: Any) -> None:
         """The worker starts, or the plugin is registered once more: what runs goes on with the one before, so there is no teardown."""
         self._worker = worker
+        self.host = os.environ.get("STORE_HOST") or socket.gethostname()
         try:
             self._open()
             await self._join()
@@ -110,7 +111,7 @@ class StoreWorkers(WorkerPlugin):  # type: ignore[misc]
             if self.fault is not None:
                 why = f"{type(self.fault).__name__}: {self.fault}"
                 again = f"the first task that needs it in {self._tries.seconds_left:.1f} seconds or later looks for it again"
-                raise RuntimeError(f"this worker has no store, as {why}; {again}") from self.fault
+                raise RuntimeError(f"this worker of host {self.host} has no store, as {why}; {again}") from self.fault
 
     def _try_again(self) -> None:
         try:
@@ -127,9 +128,8 @@ class StoreWorkers(WorkerPlugin):  # type: ignore[misc]
     def _open(self) -> None:
         """Connects to the store. This waits for it."""
         said: Dict[str, Any] = {**self._words, **os.environ}
-        self.host = os.environ.get("STORE_HOST") or socket.gethostname()
-        self._job = whole_number(int(said["STORE_JOB"]), "a job", 1, 2**32 - 1)
-        nodes = whole_number(int(said["STORE_NODES"]), "how many nodes a server has", 1, 8)
+        self._job = _number(said["STORE_JOB"], "the job, or STORE_JOB,", 1, 2**32 - 1)
+        nodes = _number(said["STORE_NODES"], "how many nodes a server has, or STORE_NODES,", 1, 8)
         self._store = HostStore(said["STORE_SOCKET"], nodes, self._job, _key(said), self._part)
         self._sharing = Sharing(self._store, self._lease)
         self._peers = Peers(self._worker, self.host)
@@ -182,12 +182,13 @@ class StoreWorkers(WorkerPlugin):  # type: ignore[misc]
     def _put_parts(self, name: Name, pieces: Pieces, timeout: float) -> List[bytes]:
         cut, deadline = pieces.cut(self._store.part), Deadline(timeout)
 
-        def put_part(part: int) -> bytes:
+        def put_part(part: int) -> None:
             self._store.put(name.primary(part, self._job), cut[part], Kind.PRIMARY, deadline)
-            return digest_of(*cut[part].views)
 
         try:
-            return all_of(self._threads, put_part, range(len(cut)))
+            with all_under_way(self._threads, put_part, range(len(cut))):
+                # this thread has nothing else to do
+                return [digest_of(*part.views) for part in cut]
         except BaseException:
             self._store.delete(name.primary(part, self._job) for part in range(len(cut)))
             raise
@@ -337,6 +338,15 @@ class _Once:
             if self._found is None:
                 self._found = self._find()
             return self._found
+
+
+def _number(said: Any, what: str, least: int, most: int) -> int:
+    """A number, which the environment has as a text."""
+    try:
+        number = int(said) if isinstance(said, str) else said
+    except ValueError:
+        raise ValueError(f"{what} is {least} to {most}, not {said!r}") from None
+    return whole_number(number, what, least, most)
 
 
 def _key(said: Dict[str, Any]) -> bytes:
