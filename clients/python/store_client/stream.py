@@ -4,14 +4,13 @@ from __future__ import annotations
 
 import contextlib
 import errno
-import itertools
 import select
 import socket
 import struct
 import time
 from typing import Any, List, Optional, Sequence
 
-from .frames import LONGEST_REPLY
+from .frames import LONGEST_REPLY, Reply, head
 from .refusals import SERVER_GONE, ConnectionLost, ProtocolError, ServerSilent
 from .requests import Answer, Request
 
@@ -21,8 +20,8 @@ _MOST_VIEWS = 64
 _READ_AHEAD = 4096
 # of a reply, before its body, in bytes
 _HEAD = 5
-# so many Reads' bytes may come by one system call: a socket has three or four of the longest ready
-_MOST_READS = 8
+# so many heads and bodies one system call may fill: a socket has three or four of the longest replies ready
+_MOST_SPACES = 16
 # in seconds
 _LONGEST_POLL = 3600.0
 # between two tries to connect to a server whose queue is full, in seconds
@@ -60,8 +59,9 @@ class Stream:
         answers: List[Answer] = []
         unsent.reverse()
         while len(answers) < len(requests):
-            # what has come is read as soon as the socket takes no more
-            if not self._send(unsent) and not self._replies.receive(self._socket, requests, answers):
+            sent = self._send(unsent)
+            received = self._replies.receive(self._socket, requests, answers)
+            if not sent and not received:
                 self._await(bool(unsent), end)
         return answers
 
@@ -120,88 +120,118 @@ class Stream:
 class _Replies:
     """Takes replies apart as their bytes come.
 
-    What a Read brings goes to the request's own buffer. So that one system call can bring several, it is given the buffers of the Reads
-    that are next, with a space before each for the head of its reply. If another reply comes in the place of one of them, such as a
-    refusal, it is put together again with all that came after it.
+    What Reads bring goes to their own buffers. Of Reads that follow one another one system call takes what has come, each with the head of
+    its reply before it. If another reply comes in the place of one, such as a refusal, it is put together again with what came after it.
     """
 
     def __init__(self) -> None:
-        self._space = memoryview(bytearray(_READ_AHEAD))
-        self._heads = memoryview(bytearray(_HEAD * _MOST_READS))
-        # what came and isn't taken yet; the first of these are so many heads of Reads, each with what came of its bytes, in their place
-        self._ahead: List[memoryview] = []
-        self._reads = 0
+        self._ahead = memoryview(bytearray(_READ_AHEAD))
+        # what of it is read and not yet taken
+        self._start = self._end = 0
         # of the reply that is being read: its kind, its body, how much of it is there, and whether that is the request's own buffer
         self._kind = 0
         self._body: Optional[memoryview] = None
         self._filled = 0
         self._in_place = False
+        # of the Reads that are due: what is to be filled of a head and a body for each, the next one last, and all heads
+        self._spaces: List[memoryview] = []
+        self._heads = memoryview(b"")
 
     def receive(self, stream: socket.socket, requests: Sequence[Request[Any]], answers: List[Answer]) -> bool:
         """Reads what has come, up to the last answer. Whether anything had."""
         received = False
         while len(answers) < len(requests):
-            request = requests[len(answers)]
-            if self._body is None and not self._begin(request) or self._body is not None and self._filled < len(self._body):
-                if not self._read_on(stream, requests[len(answers) : len(answers) + _MOST_READS]):
-                    return received
-                received = True
-            elif self._body is not None and self._filled == len(self._body):
-                body, self._body = self._body, None
-                answers.append(request.answer(self._kind, b"" if self._in_place else bytes(body)))
+            if not self._spaces and self._body is None and self._start == self._end:
+                self._expect_reads(requests[len(answers) :])
+            if not (self._read_reads(stream, requests, answers) if self._spaces else self._read_one(stream, requests, answers)):
+                return received
+            received = True
         return received
 
+    def _expect_reads(self, requests: Sequence[Request[Any]]) -> None:
+        """The Reads that the requests begin with are due next, if they do."""
+        bodies: List[memoryview] = []
+        for request in requests:
+            if not request.into:
+                break
+            bodies.append(request.into)
+        self._heads = memoryview(bytearray(_HEAD * len(bodies)))
+        for number in reversed(range(len(bodies))):
+            self._spaces += (bodies[number], self._heads[_HEAD * number : _HEAD * (number + 1)])
+
+    def _read_reads(self, stream: socket.socket, requests: Sequence[Request[Any]], answers: List[Answer]) -> bool:
+        """Reads what has come of what Reads bring. Whether anything had."""
+        views = self._spaces[: -_MOST_SPACES - 1 : -1]
+        came = left = _received(stream, views)
+        for number, view in enumerate(views):
+            if left < len(view):
+                self._spaces[-1] = view[left:]
+                break
+            left -= len(view)
+            self._spaces.pop()
+            if len(self._spaces) % 2 == 0:
+                answers.append(requests[len(answers)].answer(Reply.BYTES, b""))
+            elif not self._is_due(requests[len(answers)]):
+                self._put_together(views[number + 1 :], left)
+                break
+        return came > 0
+
+    @property
+    def _head(self) -> memoryview:
+        """The head that was filled last."""
+        after = len(self._heads) - _HEAD * (len(self._spaces) // 2)
+        return self._heads[after - _HEAD : after]
+
+    def _is_due(self, request: Request[Any]) -> bool:
+        """Whether the head that was filled last is that of what the Read brings."""
+        return request.into is not None and self._head == head(Reply.BYTES, len(request.into))
+
+    def _put_together(self, views: Sequence[memoryview], count: int) -> None:
+        """Another reply has come, whose head was filled last, and so many bytes after it that lie in these views."""
+        whole = b"".join([self._head, *views])[: _HEAD + count]
+        self._ahead = memoryview(bytearray(whole.ljust(_READ_AHEAD)))
+        self._start, self._end = 0, len(whole)
+        self._spaces.clear()
+
+    def _read_one(self, stream: socket.socket, requests: Sequence[Request[Any]], answers: List[Answer]) -> bool:
+        """Goes on with any one reply. Whether that could be."""
+        request = requests[len(answers)]
+        if self._body is None:
+            return self._begin(request) or self._read_ahead(stream)
+        if self._filled < len(self._body):
+            return self._read_body(stream, self._body)
+        body, self._body = self._body, None
+        answers.append(request.answer(self._kind, b"" if self._in_place else bytes(body)))
+        return True
+
     def _begin(self, request: Request[Any]) -> bool:
-        """Takes the length and the kind of a reply, if they are there, and as much of its body as came with them."""
-        if not self._ahead or len(self._ahead[0]) < _HEAD:
+        """Takes the length and the kind of a reply, if they are there, and as much of its body as was read ahead."""
+        if self._end - self._start < _HEAD:
             return False
-        length, self._kind = struct.unpack_from(">IB", self._ahead[0])
+        length, self._kind = struct.unpack_from(">IB", self._ahead, self._start)
         if not 1 <= length <= LONGEST_REPLY:
             raise ProtocolError("what came is no frame")
+        self._start += _HEAD
         own = request.space_of(self._kind, length - 1)
         self._in_place = own is not None
         self._body = memoryview(bytearray(length - 1)) if own is None else own
-        if own is not None and self._reads:
-            self._filled = len(self._ahead[1]) if len(self._ahead) > 1 else 0
-            self._reads -= 1
-            del self._ahead[:2]
-            return True
-        whole = memoryview(b"".join(self._ahead)) if self._reads else self._ahead[0]
-        self._filled = min(length - 1, len(whole) - _HEAD)
-        self._body[: self._filled] = whole[_HEAD : _HEAD + self._filled]
-        rest = whole[_HEAD + self._filled :]
-        self._ahead, self._reads = [rest] if rest else [], 0
+        self._filled = min(length - 1, self._end - self._start)
+        self._body[: self._filled] = self._ahead[self._start : self._start + self._filled]
+        self._start += self._filled
         return True
 
-    def _read_on(self, stream: socket.socket, requests: Sequence[Request[Any]]) -> bool:
-        """Reads what has come of the replies to these. Whether anything had."""
-        begun = bytes(self._ahead[0]) if self._ahead else b""
-        if begun:
-            self._space[: len(begun)] = begun
-            count = _received(stream, [self._space[len(begun) :]])
-            self._ahead, self._reads = [self._space[: len(begun) + count]], 0
-            return count > 0
-        lacking = [] if self._body is None else [self._body[self._filled :]]
-        reads = list(itertools.takewhile(lambda into: into is not None, (request.into for request in requests[len(lacking) :])))
-        heads = [self._heads[_HEAD * number : _HEAD * (number + 1)] for number in range(len(reads))]
-        views = [*lacking, *itertools.chain.from_iterable(zip(heads, reads)), self._space]
-        came = _first(views, _received(stream, views))
-        if lacking and came:
-            self._filled += len(came[0])
-        self._ahead = came[len(lacking) :]
-        self._reads = len(reads)
-        return bool(came)
+    def _read_ahead(self, stream: socket.socket) -> bool:
+        left = self._end - self._start
+        self._ahead[:left] = bytes(self._ahead[self._start : self._end])
+        self._start, self._end = 0, left
+        count = _received(stream, [self._ahead[left:]])
+        self._end += count
+        return count > 0
 
-
-def _first(views: List[Any], count: int) -> List[memoryview]:
-    """The beginning of the views, so many bytes."""
-    first: List[memoryview] = []
-    for view in views:
-        if not count:
-            break
-        first.append(view[:count])
-        count -= len(first[-1])
-    return first
+    def _read_body(self, stream: socket.socket, body: memoryview) -> bool:
+        count = _received(stream, [body[self._filled :]])
+        self._filled += count
+        return count > 0
 
 
 def _received(stream: socket.socket, spaces: Sequence[Any]) -> int:

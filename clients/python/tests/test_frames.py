@@ -125,7 +125,8 @@ class Bursts(unittest.TestCase):
 
     def test_one_call_brings_several(self) -> None:
         self.LENGTH, self.STEP = 75_000, 10_000
-        self.assertLessEqual(self.ask(self.LENGTH * 2, {})[2], 3)
+        # what the Get and the Release are answered comes by calls of its own
+        self.assertLessEqual(self.ask(self.LENGTH * 2, {})[2], 4)
 
     def test_bytes_of_another_length(self) -> None:
         for length in (1, 7, 1000):
