@@ -67,14 +67,16 @@ def numbers(*values: int) -> bytes:
     return struct.pack(f">{len(values)}I", *values)
 
 
-def read_list(body: bytes) -> tuple[list[OwnItem], list[GrantedItem]]:
-    """The job's own copies, and what others granted. `ValueError` or `struct.error` for what is no such body."""
+def read_list(body: bytes, prefix: bytes = b"") -> tuple[list[OwnItem], list[GrantedItem]]:
+    """The job's own copies whose ids begin so, and what others granted. `ValueError` or `struct.error` for what is no such body."""
     (count,) = struct.unpack_from(">I", body, 0)
     at = 4
     own = []
     for _ in range(count):
-        state, kind, length = struct.unpack_from(">BBI", body, at + 28)
-        own.append(OwnItem(ObjectId.from_bytes(body[at : at + 28]), State(state), Kind(kind), length))
+        # of a thousand copies hardly any may be wanted, and most of the time is taken by what is made of them
+        if body.startswith(prefix, at):
+            state, kind, length = struct.unpack_from(">BBI", body, at + 28)
+            own.append(OwnItem(ObjectId.from_bytes(body[at : at + 28]), State(state), Kind(kind), length))
         at += 34
     (count,) = struct.unpack_from(">I", body, at)
     at += 4

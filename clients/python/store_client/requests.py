@@ -2,6 +2,7 @@
 
 from __future__ import annotations
 
+import functools
 import struct
 from dataclasses import dataclass
 from typing import Any, Callable, Generic, List, Optional, Sequence, Tuple, TypeVar, Union
@@ -190,8 +191,9 @@ class Requests:
         number = whole_number(job, "a job", 0, LAST_NUMBER)
         return self._told(Command.WITHDRAW, id, numbers(number), detail=f"from job {number}")
 
-    def list(self) -> Request[Tuple[List[OwnItem], List[GrantedItem]]]:
-        return Request(Command.LIST, _frame(Command.LIST), Reply.LIST, frames.read_list, job=self.job)
+    def list(self, prefix: bytes = b"") -> Request[Tuple[List[OwnItem], List[GrantedItem]]]:
+        """Of the job's own copies those whose ids begin so."""
+        return Request(Command.LIST, _frame(Command.LIST), Reply.LIST, functools.partial(frames.read_list, prefix=prefix), job=self.job)
 
     def usage(self) -> Request[Usage]:
         return Request(Command.USAGE, _frame(Command.USAGE), Reply.USAGE, frames.read_usage, job=self.job)

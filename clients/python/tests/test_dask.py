@@ -264,6 +264,14 @@ class Shared(unittest.TestCase):
             with self.store._pool(id).get(id) as view:
                 self.assertEqual((bytes(view), state), (self.data, State.SEALED))
 
+    def test_a_look_at_a_part_sees_its_copies_alone(self) -> None:
+        other = names.Name.of("other", self.name.epoch)
+        claim = self.name.claim(0, 1, 1)
+        for id in (claim, self.name.claim(1, 1, 1), self.name.claim(2, 1, 1), self.name.primary(0, 1), other.claim(0, 1, 1)):
+            self.store.create(id, 1, Kind.SECONDARY)
+        self.assertEqual(self.store.copies_of(self.name, 0), {claim: State.CREATED})
+        self.store.forget([other.prefix])
+
     def test_all_of_a_value_is_removed_by_its_prefix(self) -> None:
         other = names.Name.of("other", 1)
         ids: List[ObjectId] = [self.name.primary(0, 1), self.name.primary(1, 1), self.name.copy(1, 1), other.primary(0, 1)]

@@ -17,7 +17,7 @@ from ..pool import Pool
 from ..putting import write_and_seal
 from ..refusals import Absent, Busy, ConnectionLost, Full, Granted, NotHeld, Pending, Refused, ServerSilent, StoreError, TooMany
 from ..requests import LARGEST, Pieces
-from ..steps import Deadline, Pauses
+from ..steps import Deadline, Pauses, ask
 from .names import Name, is_primary, prefix_of
 
 T = TypeVar("T")
@@ -85,9 +85,9 @@ class HostStore:
     def copies_of(self, name: Name, part: int) -> Dict[ObjectId, State]:
         """The claims and copies that the host has of a part, in the order of their ids."""
         primary = name.primary(part, self.job)
-        own, _ = reconnected(self._pool(primary).list)
-        items = [item for item in own if item.id.index == primary.index]
-        return {item.id: item.state for item in items if prefix_of(item.id) == name.prefix and not is_primary(item.id)}
+        pool = self._pool(primary)
+        own, _ = reconnected(lambda: pool._run(ask(pool._requests.list(name.prefix))))
+        return {item.id: item.state for item in own if item.id.index == primary.index and not is_primary(item.id)}
 
     def sealed_copies_of(self, name: Name, part: int) -> List[ObjectId]:
         """Those from which the part can be read."""
