@@ -8,7 +8,7 @@ import select
 import socket
 import struct
 import time
-from typing import Any, List, Optional, Sequence
+from typing import Any, Callable, List, Optional, Sequence
 
 from .frames import LONGEST_REPLY, Reply, head
 from .refusals import SERVER_GONE, ConnectionLost, ProtocolError, ServerSilent
@@ -26,10 +26,14 @@ _MOST_SPACES = 16
 _LONGEST_POLL = 3600.0
 # between two tries to connect to a server whose queue is full, in seconds
 _QUEUE_PAUSE = 0.01
+_SILENT = "the connection was lost: the server didn't answer in time"
+
+# fills spaces with what has come, and says how many bytes that is
+Receive = Callable[[Sequence[memoryview]], int]
 
 
 class Stream:
-    """A connected socket. It never blocks in a system call but in `poll`, so a deadline holds."""
+    """A connected socket. What it waits for it waits for until a deadline."""
 
     def __init__(self, path: str, end: Optional[float]) -> None:
         """Connects until this moment of the monotonic clock. `ConnectionLost`, `ServerSilent`."""
@@ -58,11 +62,14 @@ class Stream:
         unsent = [view for request in requests for view in request.parts]
         answers: List[Answer] = []
         unsent.reverse()
-        while len(answers) < len(requests):
+        self._socket.setblocking(False)
+        while unsent and len(answers) < len(requests):
             sent = self._send(unsent)
-            received = self._replies.receive(self._socket, requests, answers)
+            received = self._replies.receive(self._receive, requests, answers)
             if not sent and not received:
-                self._await(bool(unsent), end)
+                self._await(True, end)
+        while len(answers) < len(requests):
+            self._replies.receive(lambda spaces: self._await_and_receive(spaces, end), requests, answers)
         return answers
 
     def _send(self, unsent: List[Any]) -> bool:
@@ -89,15 +96,39 @@ class Stream:
         """Until the socket has something, or takes something if there is more to send."""
         left = None if end is None else end - time.monotonic()
         if left is not None and left <= 0:
-            raise ServerSilent("the connection was lost: the server didn't answer in time")
+            raise ServerSilent(_SILENT)
         poll = select.poll()
         poll.register(self._socket, select.POLLIN | (select.POLLOUT if sending else 0))
         # it takes no number of milliseconds that is too large
         poll.poll(None if left is None else min(left, _LONGEST_POLL) * 1000 + 1)
 
+    def _receive(self, spaces: Sequence[memoryview]) -> int:
+        """Fills the spaces with what has come. How many bytes; 0 if there are none yet."""
+        try:
+            count = self._socket.recvmsg_into(spaces)[0]
+        except (BlockingIOError, socket.timeout):
+            return 0
+        except OSError as error:
+            raise _gone(error) from error
+        if not count:
+            raise ConnectionLost(SERVER_GONE)
+        return count
+
+    def _await_and_receive(self, spaces: Sequence[memoryview], end: Optional[float]) -> int:
+        """The same, once something has come. It waits in the call that reads, since other threads take Python's lock between two calls."""
+        while True:
+            left = None if end is None else max(0.0, end - time.monotonic())
+            self._socket.settimeout(None if left is None else min(left, _LONGEST_POLL))
+            count = self._receive(spaces)
+            if count:
+                return count
+            if not left:
+                raise ServerSilent(_SILENT)
+
     def finish(self, end: float) -> bool:
         """Sends no more, and waits until the server has answered all that it was sent. Whether it has."""
         try:
+            self._socket.setblocking(False)
             self._socket.shutdown(socket.SHUT_WR)
             while True:
                 try:
@@ -137,13 +168,13 @@ class _Replies:
         self._spaces: List[memoryview] = []
         self._heads = memoryview(b"")
 
-    def receive(self, stream: socket.socket, requests: Sequence[Request[Any]], answers: List[Answer]) -> bool:
+    def receive(self, take: Receive, requests: Sequence[Request[Any]], answers: List[Answer]) -> bool:
         """Reads what has come, up to the last answer. Whether anything had."""
         received = False
         while len(answers) < len(requests):
             if not self._spaces and self._body is None and self._start == self._end:
                 self._expect_reads(requests[len(answers) :])
-            if not (self._read_reads(stream, requests, answers) if self._spaces else self._read_one(stream, requests, answers)):
+            if not (self._read_reads(take, requests, answers) if self._spaces else self._read_one(take, requests, answers)):
                 return received
             received = True
         return received
@@ -159,10 +190,10 @@ class _Replies:
         for number in reversed(range(len(bodies))):
             self._spaces += (bodies[number], self._heads[_HEAD * number : _HEAD * (number + 1)])
 
-    def _read_reads(self, stream: socket.socket, requests: Sequence[Request[Any]], answers: List[Answer]) -> bool:
+    def _read_reads(self, take: Receive, requests: Sequence[Request[Any]], answers: List[Answer]) -> bool:
         """Reads what has come of what Reads bring. Whether anything had."""
         views = self._spaces[: -_MOST_SPACES - 1 : -1]
-        came = left = _received(stream, views)
+        came = left = take(views)
         for number, view in enumerate(views):
             if left < len(view):
                 self._spaces[-1] = view[left:]
@@ -193,13 +224,13 @@ class _Replies:
         self._start, self._end = 0, len(whole)
         self._spaces.clear()
 
-    def _read_one(self, stream: socket.socket, requests: Sequence[Request[Any]], answers: List[Answer]) -> bool:
+    def _read_one(self, take: Receive, requests: Sequence[Request[Any]], answers: List[Answer]) -> bool:
         """Goes on with any one reply. Whether that could be."""
         request = requests[len(answers)]
         if self._body is None:
-            return self._begin(request) or self._read_ahead(stream)
+            return self._begin(request) or self._read_ahead(take)
         if self._filled < len(self._body):
-            return self._read_body(stream, self._body)
+            return self._read_body(take, self._body)
         body, self._body = self._body, None
         answers.append(request.answer(self._kind, b"" if self._in_place else bytes(body)))
         return True
@@ -220,31 +251,18 @@ class _Replies:
         self._start += self._filled
         return True
 
-    def _read_ahead(self, stream: socket.socket) -> bool:
+    def _read_ahead(self, take: Receive) -> bool:
         left = self._end - self._start
         self._ahead[:left] = bytes(self._ahead[self._start : self._end])
         self._start, self._end = 0, left
-        count = _received(stream, [self._ahead[left:]])
+        count = take([self._ahead[left:]])
         self._end += count
         return count > 0
 
-    def _read_body(self, stream: socket.socket, body: memoryview) -> bool:
-        count = _received(stream, [body[self._filled :]])
+    def _read_body(self, take: Receive, body: memoryview) -> bool:
+        count = take([body[self._filled :]])
         self._filled += count
         return count > 0
-
-
-def _received(stream: socket.socket, spaces: Sequence[Any]) -> int:
-    """How many bytes came; 0 if there are none yet."""
-    try:
-        count = stream.recvmsg_into(spaces)[0]
-    except BlockingIOError:
-        return 0
-    except OSError as error:
-        raise _gone(error) from error
-    if not count:
-        raise ConnectionLost(SERVER_GONE)
-    return count
 
 
 def _gone(error: OSError) -> ConnectionLost:
