@@ -173,19 +173,20 @@ class _Replies:
         received = False
         while len(answers) < len(requests):
             if not self._spaces and self._body is None and self._start == self._end:
-                self._expect_reads(requests[len(answers) :])
+                self._expect_reads(requests, len(answers))
             if not (self._read_reads(take, requests, answers) if self._spaces else self._read_one(take, requests, answers)):
                 return received
             received = True
         return received
 
-    def _expect_reads(self, requests: Sequence[Request[Any]]) -> None:
-        """The Reads that the requests begin with are due next, if they do."""
+    def _expect_reads(self, requests: Sequence[Request[Any]], first: int) -> None:
+        """The Reads that follow one another from this request on are due next, if it is one."""
         bodies: List[memoryview] = []
-        for request in requests:
-            if not request.into:
+        for number in range(first, len(requests)):
+            into = requests[number].into
+            if not into:
                 break
-            bodies.append(request.into)
+            bodies.append(into)
         self._heads = memoryview(bytearray(_HEAD * len(bodies)))
         for number in reversed(range(len(bodies))):
             self._spaces += (bodies[number], self._heads[_HEAD * number : _HEAD * (number + 1)])
