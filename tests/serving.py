@@ -6,7 +6,7 @@ import socket
 import struct
 import subprocess
 from pathlib import Path
-from typing import List, Tuple
+from typing import List, Sequence, Tuple
 
 ROOT = Path(__file__).resolve().parent.parent
 # seconds that an answer or an end may take, on a machine that does much else
@@ -44,8 +44,9 @@ def ask(stream: socket.socket, sent: bytes, expected: bytes) -> None:
     assert got == expected, f"sent {sent.hex()}: got {got.hex()}, should be {expected.hex()}"
 
 
-def start(words: List[str], folder: str, nodes: int = 2, memory: int = 65536) -> subprocess.Popen[str]:
+def start(words: List[str], folder: str, nodes: int = 2, memory: int = 65536, more: Sequence[str] = ()) -> subprocess.Popen[str]:
     words = words + ["serve", "--socket", f"{folder}/store", "--nodes", str(nodes), "--memory", str(memory), "--spill", f"{folder}/spill"]
+    words += more
     return subprocess.Popen(words, stdin=subprocess.PIPE, stdout=subprocess.PIPE, stderr=subprocess.PIPE, text=True)
 
 

@@ -25,7 +25,7 @@ def command(settings: Settings) -> List[str]:
     """The words of the program's command line."""
     return [
         str(settings.program), "serve", "--socket", str(settings.starting()), "--nodes", str(settings.nodes),
-        "--memory", str(settings.memory), "--spill", str(settings.spill),
+        "--memory", str(settings.memory), "--spill", str(settings.spill), *(["--overcommit"] if settings.overcommit else []),
     ]
 
 

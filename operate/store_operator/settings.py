@@ -24,7 +24,7 @@ LONGEST_SOCKET = 107
 _MOST_JOB = (1 << 32) - 1
 _MOST_MEMORY = 1 << 34
 STORE_OPTIONS = {
-    "program", "nodes", "memory", "socket", "socket_mode", "socket_group", "spill", "control", "ready", "log", "grace",
+    "program", "nodes", "memory", "overcommit", "socket", "socket_mode", "socket_group", "spill", "control", "ready", "log", "grace",
 }
 JOB_OPTIONS = {"nodes", "window", "device", "key_file"}
 # whoever may connect has to write to the socket; nobody runs one
@@ -43,13 +43,14 @@ class SettingsFault(Exception):
 class Settings:
     """What the server is started with, and the jobs in the order in which they are admitted.
 
-    `memory` is of each node, in bytes; `grace` is how long sessions may stay open after a close, in seconds. Node K listens on
-    `socket`.K and spills into the folder `spill`/K.
+    `memory` is of each node, in bytes, and with `overcommit` that of all may be more than the machine has; `grace` is how long sessions
+    may stay open after a close, in seconds. Node K listens on `socket`.K and spills into the folder `spill`/K.
     """
 
     program: Path
     nodes: int
     memory: int
+    overcommit: bool
     socket: Path
     socket_mode: int
     socket_group: Optional[int]
@@ -147,6 +148,7 @@ class _Reader:
             program=self.program(usual_program),
             nodes=nodes,
             memory=store.get("memory", _size_up_to(_MOST_MEMORY)),
+            overcommit=store.get("overcommit", _choice, False),
             socket=store.get_path("socket"),
             socket_mode=store.get("socket_mode", _mode, _USUAL_MODE),
             socket_group=store.get("socket_group", _group) if "socket_group" in store.options else None,
@@ -223,6 +225,12 @@ def _some_of(nodes: int) -> Callable[[str], Tuple[int, ...]]:
         return tuple(chosen)
 
     return read
+
+
+def _choice(text: str) -> bool:
+    if text not in ("yes", "no"):
+        raise ValueError(f"{text!r} isn't yes or no")
+    return text == "yes"
 
 
 def _mode(text: str) -> int:

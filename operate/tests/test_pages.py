@@ -37,7 +37,7 @@ class Unit(unittest.TestCase):
     def test_its_limits_are_enough_for_all_nodes(self) -> None:
         limits = {name: int(value) for name, value in re.findall(r"^(LimitNOFILE|TasksMax)=(\d+)$", self.text, re.MULTILINE)}
         self.assertEqual(limits["LimitNOFILE"], needed_descriptors(MOST_NODES))
-        self.assertGreater(limits["TasksMax"], 1 + MOST_NODES * (MOST_NODES + 1) + 1024 * MOST_NODES)
+        self.assertGreater(limits["TasksMax"], threads_of(MOST_NODES, 1024 * MOST_NODES))
 
 
 class SettingsToBeginWith(unittest.TestCase):
@@ -86,6 +86,11 @@ class Manual(unittest.TestCase):
         self.assertEqual([name for name in commands if not re.search(rf"\b{name}\b", items)], [])
 
 
+def threads_of(nodes: int, sessions: int) -> int:
+    """What the page says: main's, a listener and a worker a node, four receivers a node if there are several, and the sessions'."""
+    return 1 + 2 * nodes + (4 * nodes if nodes > 1 else 0) + sessions
+
+
 def counts(daemon: Daemon) -> List[Mark]:
     status = daemon.status()
     return [status["threads"], status["descriptors"]]
@@ -97,7 +102,7 @@ class Formula(unittest.TestCase):
             with Place(nodes) as place:
                 place.start_ready()
                 sessions = [place.session(1, node) for node in range(nodes) for _ in range(2)]
-                due = [1 + nodes * (nodes + 1) + len(sessions), 4 + 3 * nodes + len(sessions)]
+                due = [threads_of(nodes, len(sessions)), 4 + 3 * nodes + len(sessions)]
                 with place.control() as daemon:
                     # those that only looked whether the server listens have gone, after a moment
                     until(lambda: counts(daemon) == due, f"{due} at {nodes} nodes")

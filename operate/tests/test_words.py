@@ -30,6 +30,7 @@ SETTINGS_FAULTS = (
     ("memory = 1M", "memory = 17G", "[store] memory: 17G is more than 17179869184 bytes"),
     ("memory = 1M", "memroy = 1M", "[store] memroy: there is no such option"),
     ("memory = 1M\n", "", "[store] memory: it isn't there"),
+    ("memory = 1M", "memory = 1M\novercommit = perhaps", "[store] overcommit: 'perhaps' isn't yes or no"),
     ("nodes = 2", "nodes = 9", "[store] nodes: '9' isn't nodes from 1 to 8"),
     ("socket = store", "socket = " + 120 * "s", "longer than 107 bytes"),
     ("socket = store", "socket = store\nsocket_mode = 0777", "[store] socket_mode: '0777' isn't one of 0600, 0660, 0666"),

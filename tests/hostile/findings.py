@@ -10,8 +10,9 @@ from host import Attack, Figures, Host, attacked
 
 # of what another job feels to what it feels while the same goes on at another server: in 99 of 100 calls, and in the longest
 MOST_P99, MOST_LONGEST = 3.0, 5.0
-# of the memory after a trial to that before; and what an allocator may keep in any case
-MOST_MEMORY, ALLOCATORS_SHARE = 1.2, 4 << 20
+# of the memory after a trial to that before; and what an allocator may keep in any case: glibc's has up to eight arenas a processor, for the
+# threads of sessions, and keeps the last 128 KiB and more of each
+MOST_MEMORY, ALLOCATORS_SHARE = 1.2, 8 << 20
 # of a live job at a node, before it is folded: 65,536 lines
 JOURNAL = 20 << 20
 

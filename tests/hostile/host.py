@@ -76,19 +76,6 @@ class Host:
             time.sleep(0.1)
         return found
 
-    def close_line(self) -> None:
-        """The operator's close, after which the server may still serve who is there."""
-        assert self._program.stdin is not None
-        self._program.stdin.write("close\n")
-        self._program.stdin.flush()
-
-    def seconds_to_end(self, most: float) -> float:
-        """How long it takes until the process has ended; at most so many."""
-        began = time.monotonic()
-        with contextlib.suppress(subprocess.TimeoutExpired):
-            self._program.wait(most)
-        return time.monotonic() - began
-
     def lost(self) -> int:
         """How many messages between nodes were lost, as the report says, once the server has been closed."""
         out, _ = self._program.communicate("close\n", timeout=PATIENCE)

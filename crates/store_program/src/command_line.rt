@@ -39,6 +39,8 @@ pub struct Serving<'a> {
     pub socket: &'a str,
     /// Node K spills into the folder K of this one.
     pub spill: &'a str,
+    /// Whether the nodes may have more memory in all than the machine has.
+    pub overcommit: bool,
 }
 
 /// What the words, the program's name first, ask for. Otherwise the error has what there is to print: help, the version, or
@@ -111,6 +113,12 @@ fn serve_command<'a>(alloc: Global) -> Result<Command<'a>, AllocError> {
             path_option(alloc, "spill").value_name("DIR").help(
                 "Node K spills into the folder DIR/K, which is made if it is missing",
             ),
+        )?
+        .arg(
+            Arg::new(alloc, "overcommit")
+                .long("overcommit")
+                .action(ArgAction::SetTrue)
+                .help("Serve also if the machine has less memory than the nodes in all"),
         )
 }
 
@@ -168,6 +176,7 @@ fn serving_asked<'a>(options: &ArgMatches<'a>) -> Option<Serving<'a>>
         shape,
         socket,
         spill,
+        overcommit: options.get_flag("overcommit"),
     })
 }
 

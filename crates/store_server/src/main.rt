@@ -4,10 +4,13 @@
 ghost use Rattle.std.specs.Prelude.{◌≡◌, true};
 ghost use Rattle.world_core.specs.Worlds.{is_shape};
 
+mod machine;
+mod patient;
 mod serve_fault;
 mod serving;
 
 use journal_replay::{ReplayFault, Verdict, replay_text, status_of as status_of_replay};
+use serve_fault::Told;
 use serving::serve;
 use std::fs::File;
 use std::io::{BufReader, BufWriter, ErrorKind};
@@ -31,10 +34,7 @@ fn main(rt: HostRuntime) -> io::Result<ExitCode> {
         Task::Run(running) => end(&rt, run(&rt, running)),
         Task::Serve(serving) => match serve(rt, rt, serving, rt.reader(), io::writer(&rt)) {
             Ok(()) => Ok(ExitCode::SUCCESS),
-            Err(fault) => {
-                rt.eprintln(fault)?;
-                Ok(ExitCode::FAILURE)
-            }
+            Err(Told) => Ok(ExitCode::FAILURE),
         },
         Task::Replay(path) => replay(&rt, path),
     }

@@ -20,7 +20,14 @@ pub enum ServeFault {
     /// A worker can't be started.
     #[error("store: no memory: {error}")]
     Worker { error: io::Error },
+    /// The machine has less memory than the nodes are to have.
+    #[error("store: no memory: {asked} bytes are asked for, and the machine has {there}; serve --overcommit doesn't look")]
+    Machine { asked: u64, there: u64 },
 }
+
+/// A fault that was written to standard error.
+#[derive(Clone, Copy, Debug)]
+pub struct Told;
 
 impl From<FolderFault> for ServeFault {
     fn from(fault: FolderFault) -> ServeFault {

@@ -2,7 +2,9 @@
 ghost use Rattle.std.specs.Prelude.{◌≡◌, true};
 ghost use Rattle.world_core.specs.Worlds.{is_shape};
 
-use crate::serve_fault::ServeFault;
+use crate::machine::machine_memory;
+use crate::patient::Patient;
+use crate::serve_fault::{ServeFault, Told};
 use session_threads::{Cluster, Listening, SharedNode, Working, listen, work};
 use spill_device::{FileDevice, SpillFolder};
 use std::alloc::Global;
@@ -45,22 +47,55 @@ struct Served<L: Ledger> {
 /// Serves the sockets of all nodes, which fetch from one another, carries out the operator's lines that the reader gives, and
 /// writes their answers, and a report at the end.
 ///
-/// `store: ready` is written to standard error once all sockets listen. After a fault nothing is reported. Sessions that are open are
-/// waited for, whatever ended the operator's lines. Then no spilled object is left in the folders.
+/// `store: ready` is written to standard error once all sockets listen, and a fault as soon as it comes. After a fault nothing is
+/// reported. Sessions that are open are waited for, whatever ended the operator's lines. Then no spilled object is left in the folders.
 pub fn serve<
     R: Threads + Wait + Clock + Files + Net + Copy + Send + 'static,
     I: Read + Drop,
     O: Write + Drop,
->(rt: R, host: HostRuntime, serving: Serving<'_>, reader: I, writer: O) -> Result<(), ServeFault>
+>(rt: R, host: HostRuntime, serving: Serving<'_>, reader: I, writer: O) -> Result<(), Told>
     requires { is_shape serving.shape ≡ true }
 {
-    let alloc = host.alloc();
-    let Ok(mut reader) = BufReader::new(alloc, reader) else {
-        return Err(ServeFault::Fault(Fault::NoMemory))
+    if let Some(fault) = memory_fault(&host, &serving) {
+        return Err(tell(host, fault));
+    }
+    let Ok(mut reader) = BufReader::new(host.alloc(), Patient::new(reader, host)) else {
+        return Err(tell(host, ServeFault::Fault(Fault::NoMemory)))
     };
-    let mut writer = writer;
+    let mut writer = Patient::new(writer, host);
     let blank = Blank::new(u64::from(serving.shape.nodes));
-    serve_named::<Brand, R, BufReader<I>, O>(rt, host, serving, blank, &mut reader, &mut writer)
+    serve_named::<Brand, R, BufReader<Patient<I, HostRuntime>>, Patient<O, HostRuntime>>(
+        rt,
+        host,
+        serving,
+        blank,
+        &mut reader,
+        &mut writer,
+    )
+}
+
+/// Writes the fault to standard error. Whoever reads none is served all the same.
+fn tell(host: HostRuntime, fault: ServeFault) -> Told {
+    let _ = host.eprintln(fault);
+    Told
+}
+
+/// That the machine has less memory than the nodes are to have in all, unless that is not to be looked at, or nobody knows.
+fn memory_fault(host: &HostRuntime, serving: &Serving<'_>) -> Option<ServeFault>
+    requires { is_shape serving.now.shape ≡ true }
+{
+    if serving.overcommit {
+        return None;
+    }
+    let there = machine_memory(host)?;
+    let asked = serving
+        .shape
+        .memory
+        .saturating_mul(u64::from(serving.shape.nodes));
+    if asked <= there {
+        return None;
+    }
+    Some(ServeFault::Machine { asked, there })
 }
 
 /// The same, under a name.
@@ -76,7 +111,7 @@ fn serve_named<
     blank: Blank,
     reader: &mut I,
     writer: &mut O,
-) -> Result<(), ServeFault>
+) -> Result<(), Told>
     requires shape { is_shape serving.shape ≡ true }
     requires name { blank.name ≡ L.name }
     requires parts { blank.parts ≡ L.parts }
@@ -86,7 +121,7 @@ fn serve_named<
     let nodes = serving.shape.nodes;
     let (_book, seats) = blank.open::<L>();
     let Ok(mut cluster) = Cluster::start(alloc, nodes, serving.shape.memory, seats) else {
-        return Err(ServeFault::Fault(Fault::NoMemory))
+        return Err(tell(host, ServeFault::Fault(Fault::NoMemory)))
     };
     let mut served = Served {
         folders: Vec::new(alloc),
@@ -100,6 +135,11 @@ fn serve_named<
             Err(fault) => Err(fault),
         },
     };
+    // before anything waits for the sessions that are open
+    let outcome = match outcome {
+        Ok(()) => Ok(()),
+        Err(fault) => Err(tell(host, fault)),
+    };
     cluster.shut(&rt);
     let Served {
         folders,
@@ -112,7 +152,7 @@ fn serve_named<
     outcome?;
     match write_report(alloc, &report, writer) {
         Ok(()) => Ok(()),
-        Err(fault) => Err(ServeFault::Fault(fault)),
+        Err(fault) => Err(tell(host, ServeFault::Fault(fault))),
     }
 }
 

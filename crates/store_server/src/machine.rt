@@ -1,0 +1,11 @@
+//! What the machine has.
+use std::fs;
+use std::str::FromStr;
+
+/// The bytes of memory that the machine has, if the system says it.
+pub fn machine_memory(host: &HostRuntime) -> Option<u64> {
+    let text = fs::read_to_string(host, "/proc/meminfo").ok()?;
+    let line = text.lines().find(|line| line.starts_with("MemTotal:"))?;
+    let number = line.split_whitespace().nth(1)?;
+    u64::from_str(number).ok()?.checked_mul(1024)
+}
