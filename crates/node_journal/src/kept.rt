@@ -40,8 +40,8 @@ use std::sync::ledger::{Ledger, Share};
 /// The number of the last entry that a journal can have.
 const LAST_ENTRY: u64 = (1 << 60) - 1;
 
-/// How many lists a sweep looks at. A step that ends the hands of 64 steps before it leaves 64 that are of no use: with two a step
-/// there are never many more of these than of others.
+/// How many lists a sweep looks at. A Grant makes one at most: with a sweep after each, there are never many more lists that are of no
+/// use than others.
 const LISTS_SWEPT: usize = 2;
 
 /// A node with its journal, which holds one part of the ledger that its name is: nothing else of that part's name can be

@@ -81,9 +81,7 @@ fn tell(host: HostRuntime, fault: ServeFault) -> Told {
 }
 
 /// That the machine has less memory than the nodes are to have in all, unless that is not to be looked at, or nobody knows.
-fn memory_fault(host: &HostRuntime, serving: &Serving<'_>) -> Option<ServeFault>
-    requires { is_shape serving.now.shape ≡ true }
-{
+fn memory_fault(host: &HostRuntime, serving: &Serving<'_>) -> Option<ServeFault> {
     if serving.overcommit {
         return None;
     }
