@@ -8,6 +8,10 @@ use bytes::Bytes;
 use obj_id::Digest;
 use sha2::{Digest as _, Sha256};
 use std::marker::Model;
+use std::thread;
+
+/// So many bytes are hashed at a time, which takes some half a millisecond.
+const PART: usize = 65_536;
 
 /// Bytes with their SHA-256 digest (FIPS 180-4), which is computed when they are made. A contract sees the bytes alone.
 #[derive(Drop)]
@@ -28,11 +32,11 @@ impl Model for Hashed {
 }
 
 impl Hashed {
-    /// Hashes the bytes.
+    /// Hashes the bytes. Takes a tenth of a second for 16 MiB, and lets other threads run now and then.
     pub fn new(bytes: Bytes) -> Hashed
         ensures { result ≡ bytes }
     {
-        let digest = Digest(Sha256::digest(bytes.as_slice()));
+        let digest = digest_in_parts(bytes.as_slice());
         Hashed { bytes, digest }
     }
 
@@ -49,6 +53,23 @@ impl Hashed {
     {
         self.bytes.as_slice()
     }
+}
+
+/// The digest of the bytes. Who waits for a processor gets it after a part: threads that hash for as long as the system lets them
+/// would keep all others waiting for as long.
+fn digest_in_parts(bytes: &[u8]) -> Digest
+    ensures { result ≡ digest_of bytes.now }
+{
+    let mut hasher = Sha256::new();
+    let count = bytes.len() / PART;
+    for i in 0..count {
+        let part = &bytes[PART * i..PART * (i + 1)];
+        hasher.update(part);
+        thread::yield_now();
+    }
+    let rest = &bytes[PART * count..];
+    hasher.update(rest);
+    Digest(hasher.finalize())
 }
 
 /// The digest of these bytes. If they are those of the hint they are only compared, and otherwise hashed.

@@ -5,6 +5,10 @@ use crate::buffer::reserved;
 use private_store::rounded;
 use std::alloc::{AllocError, Global};
 use std::marker::Model;
+use std::thread;
+
+/// So many zeros are made at a time where others may wait for a processor.
+const PART: usize = 65_536;
 
 /// Zeros for an extent that is placed later. To make them takes as long as to write them, so it is done where nobody waits for
 /// the window. A contract sees how many there are.
@@ -24,10 +28,10 @@ impl Model for Zeros {
 }
 
 impl Zeros {
-    /// As many as the extent of an object of `len` bytes has.
+    /// As many as the extent of an object of `len` bytes has. Lets other threads run now and then.
     pub fn for_object(alloc: Global, len: u32) -> Result<Zeros, AllocError> {
         Ok(Zeros {
-            bytes: make_zeros(alloc, rounded(len) as usize)?,
+            bytes: make_in_parts(alloc, rounded(len) as usize)?,
         })
     }
 
@@ -56,4 +60,18 @@ fn make_zeros(alloc: Global, len: usize) -> Result<Vec<u8>, AllocError>
     let mut bytes = Vec::with_capacity(alloc, reserved(len))?;
     bytes.resize(len, 0)?;
     Ok(bytes)
+}
+
+/// The same. Who waits for a processor gets it after a part: threads that write for as long as the system lets them would keep all
+/// others waiting for as long.
+fn make_in_parts(alloc: Global, len: usize) -> Result<Vec<u8>, AllocError>
+    ensures { IfOk result (λ zeros. zeros.items ≡ replicate len 0) }
+{
+    let mut zeros = Vec::with_capacity(alloc, reserved(len))?;
+    for count in 0..len / PART {
+        zeros.resize((count + 1) * PART, 0)?;
+        thread::yield_now();
+    }
+    zeros.resize(len, 0)?;
+    Ok(zeros)
 }
