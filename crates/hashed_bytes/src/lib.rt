@@ -1,9 +1,12 @@
 //! Bytes whose digest is known, and the digest of bytes for which it may be known.
 #![tactic(auto)]
 
-ghost use Rattle.std.specs.Prelude.{◌≡◌};
+ghost use Rattle.std.specs.Prelude.{◌≡◌, true};
 ghost use Rattle.private_store.specs.Contents.{digest_of};
 
+mod agreed;
+
+pub use agreed::Agreed;
 use bytes::Bytes;
 use obj_id::Digest;
 use sha2::{Digest as _, Sha256};
@@ -80,4 +83,11 @@ pub fn digest_by(bytes: &[u8], hint: Option<&Hashed>) -> Digest
         Some(hashed) if hashed.as_slice() == bytes => hashed.digest(),
         _ => Digest(Sha256::digest(bytes)),
     }
+}
+
+/// Whether the bytes are the same.
+pub fn are_same(left: &[u8], right: &[u8]) -> bool
+    ensures { result ≡ true → left.now ≡ right.now }
+{
+    left == right
 }

@@ -1,10 +1,12 @@
 //! The bytes of an extent: its own while they are written, and shared once nobody writes them any more.
-ghost use Rattle.std.specs.Prelude.{◌≡◌, ◌+◌, ◌≤◌, ◌++◌, [], length, replicate, IfOk, IfSome, vec_len, vec_capacity};
-ghost use Rattle.private_store.specs.Contents.{overwritten};
+ghost use Rattle.std.specs.Prelude.{◌≡◌, ◌+◌, ◌≤◌, ◌++◌, [], length, take, replicate, IfOk, IfSome, vec_len, vec_capacity};
+ghost use Rattle.private_store.specs.Contents.{digest_of, overwritten};
 ghost use Rattle.job_region.specs.Layout.{IsKept};
 
 use crate::zeros::Zeros;
 use bytes::Bytes;
+use hashed_bytes::{Agreed, Hashed};
+use obj_id::Digest;
 use std::alloc::{AllocError, AllocFailed, Global};
 use std::marker::Model;
 use std::mem;
@@ -36,17 +38,20 @@ pub(crate) struct Buffer {
     own: Vec<u8>,
     // bytes that others may have too; or none
     shared: Bytes,
+    // whose digest is known, as far as they are these
+    agreed: Agreed,
 }
 
 impl Model for Buffer {
-    ghost use Rattle.std.specs.Prelude.{ℕ, List, ◌++◌, vec_len, vec_capacity};
+    ghost use Rattle.std.specs.Prelude.{ℕ, List, ◌++◌, ◌×◌, vec_len, vec_capacity};
+    ghost use Rattle.hashed_bytes.specs.Agreeing.{Agrees};
     ghost use Rattle.job_region.specs.Layout.{IsKept};
 
     ghost Value = { List ℕ };
 
     ghost view = { λ b. b.own.items ++ b.shared };
 
-    ghost invariant = { λ b. IsKept (vec_len b.own) (vec_capacity b.own) b.shared };
+    ghost invariant = { λ b. IsKept (vec_len b.own) (vec_capacity b.own) b.shared × Agrees b.agreed (b.own.items ++ b.shared) };
 }
 
 impl Buffer {
@@ -61,6 +66,7 @@ impl Buffer {
         Ok(Buffer {
             own: Zeros::or_made(made, alloc, len)?,
             shared: Bytes::new(),
+            agreed: Agreed::nothing(),
         })
     }
 
@@ -100,17 +106,51 @@ impl Buffer {
         self.shared.clone().ok()
     }
 
-    /// The bytes become these, which others may have too. Copies none.
-    pub(crate) fn adopt(&mut self, alloc: Global, bytes: Bytes)
+    /// The bytes become these, which others may have too. Copies none, and gives what was written before.
+    pub(crate) fn adopt(&mut self, alloc: Global, bytes: Bytes) -> Option<Vec<u8>>
         requires { length bytes ≡ length self.old }
         ensures { self.new ≡ bytes }
     {
-        // room that nobody has touched in place of what was written, if there is memory for it
-        match Vec::with_capacity(alloc, reserved(bytes.len())) {
-            Ok(room) => self.own = room,
-            Err(_) => self.own.clear(),
-        }
+        self.agreed = Agreed::nothing();
         self.shared = bytes;
+        // room that nobody has touched in place of what was written, if there is memory for it
+        match Vec::with_capacity(alloc, reserved(self.shared.len())) {
+            Ok(room) => Some(mem::replace(&mut self.own, room)),
+            Err(_) => {
+                self.own.clear();
+                None
+            }
+        }
+    }
+
+    /// Takes bytes with their digest, to be compared with these.
+    pub(crate) fn expect(&mut self, hashed: Hashed)
+        ensures { self.new ≡ self.old }
+    {
+        self.agreed = Agreed::new(hashed);
+    }
+
+    /// Compares the next part of them with these bytes, and tells whether there is more to compare.
+    pub(crate) fn compare(&mut self) -> bool
+        ensures { self.new ≡ self.old }
+    {
+        if self.shared.is_empty() {
+            return self.agreed.compare(self.own.as_slice());
+        }
+        self.agreed.compare(self.shared.as_slice())
+    }
+
+    /// The digest of the first `len` bytes: what is known of them, if all were compared.
+    pub(crate) fn digest_of(&self, len: usize) -> Digest
+        requires { len ≤ length self.now }
+        ensures { result ≡ digest_of (take len self.now) }
+    {
+        self.agreed.digest_of(self.as_slice(), len)
+    }
+
+    /// Whether giving its memory back takes long.
+    pub(crate) fn is_long(&self) -> bool {
+        self.as_slice().len() >= SHARED_FROM
     }
 
     /// Writes bytes from an offset on. What others may have is copied before, into the room for it, and takes no memory.
@@ -118,6 +158,7 @@ impl Buffer {
         requires { offset + length bytes.now ≤ length self.old }
         ensures { self.new ≡ overwritten self.old offset bytes.now }
     {
+        self.agreed = Agreed::nothing();
         unshare(&mut self.own, &mut self.shared);
         self.own[offset..offset + bytes.len()].copy_from_slice(bytes);
     }

@@ -11,7 +11,7 @@ ghost use Rattle.obj_id.specs.declared.refusals.Refusal.{Refusal};
 ghost use Rattle.obj_id.specs.declared.refusals.Refusal.TheVariants.{BadSize, Full, OutOfBounds, NoMemory};
 ghost use Rattle.private_store.specs.Limits.{is_window as is_window_lem};
 ghost use Rattle.private_store.specs.Extents.{rounded as rounded_lem, is_size, first};
-ghost use Rattle.private_store.specs.Contents.{overwritten};
+ghost use Rattle.private_store.specs.Contents.{digest_of, overwritten};
 ghost use Rattle.job_region.specs.Region.{extents_of, place_for, place_check, put_in, without, IsAt, bytes_at, resize_check as resize_check_lem};
 ghost use Rattle.std.specs.Prelude.{vec_len, vec_capacity, find, slice_index_or};
 ghost use Rattle.hole_tree.specs.Holes.{has_hole, take_hole};
@@ -19,14 +19,17 @@ ghost use Rattle.job_region.specs.Layout.{LaidFrom, AreFilled, zipped, Before, A
 ghost use Rattle.job_region.specs.Gaps.{gaps, put_then, cut_hole, mend_holes, stretch as stretch_lem};
 
 mod buffer;
+mod spent;
 mod zeros;
 
 use buffer::Buffer;
 use bytes::Bytes;
+use hashed_bytes::Hashed;
 use hole_tree::{Hole, Holes, Room};
 use obj_id::limits::{LONGEST_OBJECT, UNIT, WIDEST_WINDOW};
-use obj_id::{Extent, Refusal};
+use obj_id::{Digest, Extent, Refusal};
 use private_store::rounded;
+pub use spent::Spent;
 use std::alloc::{AllocError, Global};
 use std::marker::Model;
 use std::mem;
@@ -45,6 +48,8 @@ pub struct Window {
     rooms: Vec<Room>,
     // For the next extent that is placed, if it has as many bytes.
     made: Option<Zeros>,
+    // What extents had that went.
+    spent: Spent,
     alloc: Global,
 }
 
@@ -58,6 +63,7 @@ impl Drop for Window {
             holes: _holes,
             rooms: _rooms,
             made: _made,
+            spent: _spent,
             alloc: _alloc,
         } = self;
     }
@@ -102,6 +108,7 @@ impl Window {
             holes,
             rooms: Vec::new(alloc),
             made: None,
+            spent: Spent::nothing(),
             alloc,
         })
     }
@@ -221,6 +228,7 @@ impl Window {
             &mut self.buffers,
             &mut self.holes,
             &mut self.rooms,
+            &mut self.spent,
             gone,
             self.quota,
         );
@@ -246,6 +254,7 @@ impl Window {
             &mut self.buffers,
             &mut self.holes,
             &mut self.rooms,
+            &mut self.spent,
             extent.offset,
             self.quota,
         );
@@ -261,6 +270,7 @@ impl Window {
             &mut self.buffers,
             &mut self.holes,
             &mut self.rooms,
+            &mut self.spent,
             extents,
             self.quota,
         );
@@ -280,6 +290,13 @@ impl Window {
         ensures { self.new ≡ self.old }
     {
         mem::replace(&mut self.made, zeros)
+    }
+
+    /// Keeps this of the memory of extents that went, and gives what was kept. A contract sees nothing of it.
+    pub fn keep_spent(&mut self, spent: Spent) -> Spent
+        ensures { self.new ≡ self.old }
+    {
+        mem::replace(&mut self.spent, spent)
     }
 
     /// Makes the bytes of an extent such as `shared` gives, if there is memory for it and they are at least 32,768.
@@ -302,19 +319,47 @@ impl Window {
         Some(bytes)
     }
 
+    /// Takes bytes with their digest, to be compared with those of an extent of this window, from the first on. A contract sees nothing
+    /// of it.
+    pub fn expect(&mut self, extent: &Extent, hashed: Hashed)
+        requires { IsAt extent.now self.old.placed }
+        ensures { self.new ≡ self.old }
+    {
+        expect_at(&self.extents, &mut self.buffers, extent.offset, hashed);
+    }
+
+    /// Compares the next 128 KiB of them, and tells whether there is more to compare.
+    pub fn compare(&mut self, extent: &Extent) -> bool
+        requires { IsAt extent.now self.old.placed }
+        ensures { self.new ≡ self.old }
+    {
+        compare_at(&self.extents, &mut self.buffers, extent.offset)
+    }
+
+    /// The digest (SHA-256, FIPS 180-4) of the first `len` bytes of an extent of this window. It is known if bytes that were taken for it
+    /// were as many, and all of them were compared; otherwise it is computed.
+    pub fn digest_of(&self, extent: &Extent, len: u32) -> Digest
+        requires there { IsAt extent.now self.now.placed }
+        requires len { len ≤ extent.now.length }
+        ensures { result ≡ digest_of (take len (bytes_at extent.now self.now.placed)) }
+    {
+        buffer_at(&self.extents, &self.buffers, extent.offset).digest_of(len as usize)
+    }
+
     /// The bytes of an extent of this window become these, without a copy, and `shared` gives them; the other extents stay.
     pub fn adopt(&mut self, extent: &Extent, bytes: Bytes)
         requires there { IsAt extent.now self.old.placed }
         requires length { length bytes ≡ extent.now.length }
         ensures { self.new ≡ record self.old { placed = set_value (nat_eq extent.now.offset) self.old.placed bytes } }
     {
-        adopt_at(
+        let own = adopt_at(
             &self.extents,
             &mut self.buffers,
             extent.offset,
             self.alloc,
             bytes,
         );
+        self.spent.keep_own(own);
     }
 
     /// Writes bytes into an extent of this window, from an offset in it on; the other extents stay.
@@ -466,8 +511,13 @@ fn put(extents: &mut Vec<Extent>, buffers: &mut Vec<Buffer>, extent: Extent, buf
     buffers.insert(at, buffer).unwrap();
 }
 
-/// Takes out the extent at an offset, if there is one, with its buffer.
-fn take_out(extents: &mut Vec<Extent>, buffers: &mut Vec<Buffer>, offset: u64) -> Option<Extent>
+/// Takes out the extent at an offset, if there is one. Its buffer is kept apart.
+fn take_out(
+    extents: &mut Vec<Extent>,
+    buffers: &mut Vec<Buffer>,
+    spent: &mut Spent,
+    offset: u64,
+) -> Option<Extent>
     requires rising { IsNonDecreasingBy (λ (e : Extent). e.offset) extents.old.items }
     requires filled { AreFilled extents.old.items buffers.old.items }
     ensures left { extents.new.items ≡ without_extent offset extents.old.items }
@@ -482,7 +532,7 @@ fn take_out(extents: &mut Vec<Extent>, buffers: &mut Vec<Buffer>, offset: u64) -
         return None;
     }
     let extent = extents.remove(at);
-    buffers.remove(at);
+    spent.keep(buffers.remove(at));
     Some(extent)
 }
 
@@ -508,8 +558,36 @@ fn freeze_at(extents: &[Extent], buffers: &mut Vec<Buffer>, offset: u64, alloc: 
     buffers[at].freeze(alloc);
 }
 
-/// Lets it have these bytes.
-fn adopt_at(extents: &[Extent], buffers: &mut Vec<Buffer>, offset: u64, alloc: Global, bytes: Bytes)
+/// Takes bytes with their digest for it.
+fn expect_at(extents: &[Extent], buffers: &mut Vec<Buffer>, offset: u64, hashed: Hashed)
+    requires rising { IsNonDecreasingBy (λ (e : Extent). e.offset) extents.now }
+    requires filled { AreFilled extents.now buffers.old.items }
+    requires there { IsSome (lookup (nat_eq offset) (zipped extents.now buffers.old.items)) }
+    ensures { buffers.new.items ≡ buffers.old.items }
+{
+    let at = place_of(extents, offset);
+    buffers[at].expect(hashed);
+}
+
+/// Compares the next part of them.
+fn compare_at(extents: &[Extent], buffers: &mut Vec<Buffer>, offset: u64) -> bool
+    requires rising { IsNonDecreasingBy (λ (e : Extent). e.offset) extents.now }
+    requires filled { AreFilled extents.now buffers.old.items }
+    requires there { IsSome (lookup (nat_eq offset) (zipped extents.now buffers.old.items)) }
+    ensures { buffers.new.items ≡ buffers.old.items }
+{
+    let at = place_of(extents, offset);
+    buffers[at].compare()
+}
+
+/// Lets it have these bytes, and gives what was its own.
+fn adopt_at(
+    extents: &[Extent],
+    buffers: &mut Vec<Buffer>,
+    offset: u64,
+    alloc: Global,
+    bytes: Bytes,
+) -> Option<Vec<u8>>
     requires rising { IsNonDecreasingBy (λ (e : Extent). e.offset) extents.now }
     requires filled { AreFilled extents.now buffers.old.items }
     requires there { IsSomeAnd (lookup (nat_eq offset) (zipped extents.now buffers.old.items)) (λ old. length bytes ≡ length old) }
@@ -517,7 +595,7 @@ fn adopt_at(extents: &[Extent], buffers: &mut Vec<Buffer>, offset: u64, alloc: G
     ensures placed { zipped extents.now buffers.new.items ≡ set_value (nat_eq offset) (zipped extents.now buffers.old.items) bytes }
 {
     let at = place_of(extents, offset);
-    buffers[at].adopt(alloc, bytes);
+    buffers[at].adopt(alloc, bytes)
 }
 
 /// Writes bytes into it, from an offset in it on.
@@ -671,6 +749,7 @@ fn free_at(
     buffers: &mut Vec<Buffer>,
     holes: &mut Holes,
     rooms: &mut Vec<Room>,
+    spent: &mut Spent,
     offset: u64,
     quota: u64,
 )
@@ -687,7 +766,7 @@ fn free_at(
     ensures spare { vec_len rooms.new + length extents.old.items ≡ vec_len rooms.old + length extents.new.items }
     ensures capacity { vec_capacity extents.new ≡ vec_capacity extents.old }
 {
-    let Some(extent) = take_out(extents, buffers, offset) else {
+    let Some(extent) = take_out(extents, buffers, spent, offset) else {
         return;
     };
     let (start, end) = stretch(extents, offset, quota);
@@ -703,6 +782,7 @@ fn free_all(
     buffers: &mut Vec<Buffer>,
     holes: &mut Holes,
     rooms: &mut Vec<Room>,
+    spent: &mut Spent,
     gone: &[Extent],
     quota: u64,
 )
@@ -720,7 +800,7 @@ fn free_all(
     ensures capacity { vec_capacity extents.new ≡ vec_capacity extents.old }
 {
     for e in gone {
-        free_at(extents, buffers, holes, rooms, e.offset, quota);
+        free_at(extents, buffers, holes, rooms, spent, e.offset, quota);
     }
 }
 

@@ -3,6 +3,7 @@ ghost use Rattle.std.specs.Prelude.{◌≡◌};
 
 use crate::Node;
 use bytes::Bytes;
+use hashed_bytes::Hashed;
 use node_table::{JobRow, Prepared, may_want};
 use obj_id::{Command, JobNo, ObjectId};
 
@@ -49,6 +50,25 @@ impl Node {
             return None;
         };
         row.share_copy(self.alloc, id)
+    }
+
+    /// Takes bytes with their digest, to be compared with those of a copy of the job before a step wants its digest.
+    pub fn expect(&mut self, job: JobNo, id: &ObjectId, hashed: Hashed)
+        ensures { self.new ≡ self.old }
+    {
+        if let Some(row) = self.rows.get_mut(&job) {
+            row.expect(id, hashed);
+        }
+    }
+
+    /// Compares the next 128 KiB of them, and tells whether there is more to compare.
+    pub fn compare(&mut self, job: JobNo, id: &ObjectId) -> bool
+        ensures { self.new ≡ self.old }
+    {
+        match self.rows.get_mut(&job) {
+            Some(row) => row.compare(id),
+            None => false,
+        }
     }
 
     /// How long the job's object is of which no chunk but this one is missing, if its fetch of this number would take it.

@@ -30,6 +30,7 @@ use crate::logs::Logs;
 use crate::posts::{Made, Posted, arrival};
 use crate::sweeping::sweep_job;
 use bytes::Bytes;
+use hashed_bytes::Hashed;
 use node_core::{JobRow, Node, Outcome, Prepared};
 use obj_id::{Arrival, Items, JobKey, JobNo, ObjectId, Place, Refusal};
 use private_store::Event;
@@ -367,6 +368,39 @@ impl<L: Ledger> Kept<L> {
             seat: _,
         } = self;
         node.share_copy(job, id)
+    }
+
+    /// Takes bytes with their digest, to be compared with those of a copy of the job before a step wants its digest. No event: nothing
+    /// changes.
+    pub fn expect(&mut self, job: JobNo, id: &ObjectId, hashed: Hashed)
+        ensures node { (self.new.node ≡ self.old.node) × (self.new.number ≡ self.old.number) }
+        ensures journal { (self.new.logs ≡ self.old.logs) × (self.new.count ≡ self.old.count) }
+    {
+        let Kept {
+            alloc: _,
+            node,
+            number: _,
+            logs: _,
+            count: _,
+            seat: _,
+        } = self;
+        node.expect(job, id, hashed);
+    }
+
+    /// Compares the next 128 KiB of them, and tells whether there is more to compare. No event: nothing changes.
+    pub fn compare(&mut self, job: JobNo, id: &ObjectId) -> bool
+        ensures node { (self.new.node ≡ self.old.node) × (self.new.number ≡ self.old.number) }
+        ensures journal { (self.new.logs ≡ self.old.logs) × (self.new.count ≡ self.old.count) }
+    {
+        let Kept {
+            alloc: _,
+            node,
+            number: _,
+            logs: _,
+            count: _,
+            seat: _,
+        } = self;
+        node.compare(job, id)
     }
 
     /// What was kept of the job that ended last, to be let go once the node isn't locked. No event: nothing changes.

@@ -16,7 +16,6 @@ ghost use Rattle.node_table.specs.Shown.{IsShown, IsLent, TakesStep, only};
 use crate::outcome::{Erase, Outcome};
 use crate::row::JobRow;
 use bytes::Bytes;
-use hashed_bytes::digest_by;
 use obj_id::{DirectoryMessage, Location, Message, ObjectId, Place, Refusal, Reply};
 use std::alloc::{AllocError, Global};
 
@@ -115,7 +114,7 @@ impl JobRow {
         Location {
             node,
             length,
-            digest: digest_by(self.bytes(id), self.hashed()),
+            digest: self.digest(id),
         }
     }
 }

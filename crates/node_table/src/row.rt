@@ -39,7 +39,7 @@ use crate::lent::Lent;
 use crate::prepared::Prepared;
 use bytes::Bytes;
 use extent_tree::Room;
-use hashed_bytes::Hashed;
+use hashed_bytes::{Hashed, are_same, digest_by};
 use indexmap::IndexSet;
 use job_region::Window;
 use lru_evictor::{DeviceRoom, Plan, UseOrder, extents_by_offset};
@@ -265,6 +265,39 @@ impl JobRow {
         }
     }
 
+    /// The digest of the bytes of a copy; of none if it isn't resident. It is known if bytes that were taken for it were all compared.
+    pub(crate) fn digest(&self, id: &ObjectId) -> Digest
+        ensures { (k : Kept) (e : Extent) → at self.now.copies id.now ≡ Some k → extent_of k.copy ≡ Some e
+            → result ≡ digest_of (take k.copy.length (placed_bytes e self.now.window.placed)) }
+    {
+        let Some(copy) = self.copies.get(id) else {
+            return digest_by(&[], None);
+        };
+        let Some(extent) = copy.extent() else {
+            return digest_by(&[], None);
+        };
+        self.window.digest_of(&extent, copy.length())
+    }
+
+    /// Takes bytes with their digest, to be compared with those of a resident copy before a step wants its digest.
+    pub fn expect(&mut self, id: &ObjectId, hashed: Hashed)
+        ensures { self.new ≡ self.old }
+    {
+        if let Some(extent) = self.place(id) {
+            self.window.expect(&extent, hashed);
+        }
+    }
+
+    /// Compares the next 128 KiB of them, and tells whether there is more to compare.
+    pub fn compare(&mut self, id: &ObjectId) -> bool
+        ensures { self.new ≡ self.old }
+    {
+        match self.place(id) {
+            Some(extent) => self.window.compare(&extent),
+            None => false,
+        }
+    }
+
     /// Bytes of which the digest is known.
     pub(crate) fn hashed(&self) -> Option<&Hashed> {
         self.hashed.as_ref()
@@ -278,11 +311,13 @@ impl JobRow {
             zeros,
             hashed,
             filled,
+            spent,
         } = prepared;
         Prepared {
             zeros: self.window.keep_zeros(zeros),
             hashed: mem::replace(&mut self.hashed, hashed),
             filled: mem::replace(&mut self.filled, filled),
+            spent: self.window.keep_spent(spent),
         }
     }
 
@@ -742,13 +777,6 @@ fn is_filling(filled: &[u8], bytes: &[u8], lies: &[u8]) -> bool
         return false;
     }
     are_same(&filled[len..], &lies[len..])
-}
-
-/// Whether the bytes are the same.
-fn are_same(left: &[u8], right: &[u8]) -> bool
-    ensures { result ≡ true → left.now ≡ right.now }
-{
-    left == right
 }
 
 /// The first `len` of bytes that are shared, or all of them if there are fewer.

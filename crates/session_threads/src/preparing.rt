@@ -1,12 +1,14 @@
-//! What takes long is done before a node is locked for the step that wants it: zeros are made, and bytes are hashed. Whatever
-//! becomes of them meanwhile, the step is the same.
+//! What takes long is done before a node is locked for the step that wants it, or after it: zeros are made, bytes are hashed, and
+//! memory is given back. Whatever becomes of them meanwhile, the step is the same.
+ghost use Rattle.std.specs.Prelude.{◌≡◌};
+
 use crate::SharedNode;
 use bytes::Bytes;
 use hashed_bytes::Hashed;
 use job_region::Zeros;
 use node_core::Prepared;
-use node_journal::Posted;
-use obj_id::limits::{CHUNK_SIZE, UNIT};
+use node_journal::{Kept, Posted};
+use obj_id::limits::{CHUNK_SIZE, LONGEST_OBJECT, UNIT};
 use obj_id::{Command, DeviceAnswer, JobNo, Message, ObjectId, PeerMessage, Place};
 use private_store::Event;
 use std::alloc::Global;
@@ -24,9 +26,18 @@ struct Chunk<'a> {
 }
 
 impl<L: Ledger> SharedNode<L> {
-    /// What a Seal wants: the digest of the copy's bytes.
-    pub(crate) fn prepare_seal<R: Wait>(&self, rt: &R, job: JobNo, id: &ObjectId) -> Prepared {
-        hashed_first(self.hash_copy(rt, job, id))
+    /// What a Seal wants: the digest of the copy's bytes. The copy has it once its bytes were compared with those that were hashed, a
+    /// part at a time, between which others may lock the node.
+    pub(crate) fn prepare_seal<R: Wait>(&self, rt: &R, job: JobNo, id: &ObjectId) {
+        let Some(hashed) = self.hash_copy(rt, job, id) else {
+            return;
+        };
+        self.kept.lock(rt).expect(job, id, hashed);
+        for _ in 0..LONGEST_OBJECT {
+            if !self.kept.lock(rt).compare(job, id) {
+                return;
+            }
+        }
     }
 
     /// What a command wants that may place a long extent: zeros.
@@ -108,9 +119,9 @@ pub(crate) fn prepare_finish(alloc: Global, event: &Event) -> (JobNo, Prepared) 
         return (JobNo(0), Prepared::nothing());
     };
     let prepared = Prepared {
-        zeros: None,
         hashed: bytes.clone().ok().map(Hashed::new),
         filled: filled(alloc, bytes),
+        ..Prepared::nothing()
     };
     (*job, prepared)
 }
@@ -125,6 +136,33 @@ fn filled(alloc: Global, bytes: &Bytes) -> Option<Bytes> {
     filled.extend_from_slice(bytes.as_slice()).ok()?;
     filled.resize(len, 0).ok()?;
     Bytes::from_vec(filled).ok()
+}
+
+/// Whether a step of the command may take copies out of the job's window.
+pub(crate) fn may_remove(command: &Command<Bytes>) -> bool {
+    !matches!(
+        command,
+        Command::Write(..)
+            | Command::Seal(_)
+            | Command::Read(..)
+            | Command::Borrow(..)
+            | Command::Grant(..)
+            | Command::Peek(..)
+            | Command::List
+            | Command::Usage
+    )
+}
+
+/// The memory of copies that a step of the job took out, if it may have: to be let go once the node isn't locked. No step, so
+/// nothing else changes.
+pub(crate) fn spent_by<L: Ledger>(kept: &mut Kept<L>, job: JobNo, removes: bool) -> Option<Prepared>
+    ensures { (kept.new.node ≡ kept.old.node) × (kept.new.count ≡ kept.old.count) × (kept.new.number ≡ kept.old.number) }
+{
+    if removes {
+        Some(kept.prepare(job, Prepared::nothing()))
+    } else {
+        None
+    }
 }
 
 /// The digest alone.

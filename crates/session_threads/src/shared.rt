@@ -15,7 +15,7 @@ ghost use Rattle.session_threads.specs.Witnesses.{IsCalled, IsArrived, IsOf, tri
 use crate::client::is_gone;
 use crate::gathered::{Gathered, look_for};
 use crate::posting::Ways;
-use crate::preparing::prepare_finish;
+use crate::preparing::{may_remove, prepare_finish, spent_by};
 use crate::stepping::{
     Stepped, step_arrival, step_call, step_call_after, step_end, step_event, step_located,
     step_order, step_take,
@@ -90,10 +90,12 @@ impl<L: Ledger> SharedNode<L> {
             drop(kept);
             return self.call_prepared(rt, job, session, command);
         }
-        let reaches_others = may_reach_others(&command);
+        let (reaches_others, removes) = (may_reach_others(&command), may_remove(&command));
         let stepped = step_call(rt, &mut *kept, &self.upkeep, job, session, command);
         sweep_after(&mut *kept, job, reaches_others, &stepped);
+        let spent = spent_by(&mut *kept, job, removes);
         drop(kept);
+        drop(spent);
         match stepped {
             Ok(stepped) => self.hand_out(rt, stepped),
             Err(refusal) => (Reply::Refused(refusal), None),
@@ -130,8 +132,8 @@ impl<L: Ledger> SharedNode<L> {
         ensures memory { IfErr result (λ r. r ≡ NoMemory) }
     {
         if let Command::Seal(id) = &command {
-            let prepared = self.prepare_seal(rt, job, id);
-            return self.step_with(rt, prepared, job, session, command);
+            self.prepare_seal(rt, job, id);
+            return self.step_with(rt, Prepared::nothing(), job, session, command);
         }
         let making = self.upkeep.makers.place(job).lock(rt);
         let prepared = self.prepare_place(rt, job, &command);
@@ -179,10 +181,12 @@ impl<L: Ledger> SharedNode<L> {
     {
         self.leave_marked(rt);
         let mut kept = self.kept.lock(rt);
-        let reaches_others = may_reach_others(&command);
+        let (reaches_others, removes) = (may_reach_others(&command), may_remove(&command));
         let stepped = step_call_after(rt, &mut *kept, &self.upkeep, receipt, job, session, command);
         sweep_after(&mut *kept, job, reaches_others, &stepped);
+        let spent = spent_by(&mut *kept, job, removes);
         drop(kept);
+        drop(spent);
         match stepped {
             Ok(stepped) => self.hand_out(rt, stepped),
             Err(Refusal::Stale) => (Reply::Refused(Refusal::Stale), None),
@@ -288,7 +292,11 @@ impl<L: Ledger> SharedNode<L> {
         }
         let stepped = step_call(rt, &mut *kept, &self.upkeep, job, session, command);
         sweep_after(&mut *kept, job, false, &stepped);
-        (stepped, self.upkeep.waiting.seen(rt, job))
+        let seen = self.upkeep.waiting.seen(rt, job);
+        let spent = spent_by(&mut *kept, job, true);
+        drop(kept);
+        drop(spent);
+        (stepped, seen)
     }
 
     /// The operator admits a job, with the receipt of the entry, which was looked for. There is none exactly if the reply is
