@@ -43,7 +43,7 @@ pub(crate) struct Buffer {
 }
 
 impl Model for Buffer {
-    ghost use Rattle.std.specs.Prelude.{ℕ, List, ◌++◌, ◌×◌, vec_len, vec_capacity};
+    ghost use Rattle.std.specs.Prelude.{ℕ, List, ◌++◌, vec_len, vec_capacity};
     ghost use Rattle.hashed_bytes.specs.Agreeing.{Agrees};
     ghost use Rattle.job_region.specs.Layout.{IsKept};
 

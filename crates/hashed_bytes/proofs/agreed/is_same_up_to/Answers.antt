@@ -1,4 +1,4 @@
-use Rattle.std.proofs.Common.{◌≡◌, ◌+◌, ◌-◌, ◌++◌, ap, take, take-add, drop, arith}
+use Rattle.std.proofs.Common.{◌≡◌, ◌+◌, ◌-◌, ◌++◌, ap, take, take-add, arith}
 use Rattle.hashed_bytes.proofs.agreed.is_same_up_to.Goals as goal
 
 pub returns-then-same-end : goal.returns-then-same-end
