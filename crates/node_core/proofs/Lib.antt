@@ -23,4 +23,3 @@ mod Giving
 mod Withdrawing
 mod Arriving
 mod Small
-pub mod Briefs

@@ -2,6 +2,7 @@
 #![tactic(auto)]
 
 ghost use Rattle.std.specs.Prelude.{◌≡◌, ◌↔◌, ℕ, ◌+◌, ◌≤◌, true, false, [], length, map, Some, None, IfOk, IfErr, OnOk, OnErr, IsErrOf, IsOk, is_ok, is_some};
+ghost use Rattle.std.specs.Option.{option_copied};
 ghost use Rattle.obj_id.specs.declared.ids.JobNo.{JobNo};
 ghost use Rattle.obj_id.specs.declared.commands.Reply.TheVariants as reply;
 ghost use Rattle.obj_id.specs.declared.refusals.Refusal.{Refusal};
@@ -35,7 +36,6 @@ mod judged;
 mod listing;
 mod outcome;
 mod peeking;
-mod plain;
 mod preparing;
 mod quotas;
 mod task_ends;
@@ -212,6 +212,27 @@ impl Node {
         ensures err { OnErr result (self.new ≡ self.old) }
     {
         self.admission.enter(job, key)
+    }
+
+    /// The job's row, if the job is live. Takes no memory.
+    pub fn row(&self, job: JobNo) -> Option<&JobRow>
+        ensures { option_copied result ≡ row_at self.now job }
+    {
+        self.rows.get(&job)
+    }
+
+    /// The works of all jobs. Takes no memory.
+    pub fn works(&self) -> &Works
+        ensures { result.now ≡ self.now.works }
+    {
+        &self.works
+    }
+
+    /// The hands that stand, of all jobs. Takes no memory.
+    pub fn hands(&self) -> &Grants
+        ensures { result.now ≡ self.now.hands }
+    {
+        &self.hands
     }
 
     /// A job's quotas and what is used of them, in bytes and in numbers. `NotAdmitted` if the job isn't

@@ -63,8 +63,8 @@ impl Node {
         }
     }
 
-    /// The length of an object of which a hand stands, as the row of its own job has it.
-    pub(crate) fn granted_length(&self, id: &ObjectId) -> u32
+    /// The length of an object of which a hand stands, as the row of its own job has it. Takes no memory.
+    pub fn granted_length(&self, id: &ObjectId) -> u32
         ensures { result ≡ length (bytes_here self.now.rows id.now) }
     {
         match self.rows.get(&id.job()) {

@@ -5,6 +5,7 @@ ghost use Rattle.node_journal.specs.Logs.{journal_of, list_of, AreBases, has_bas
 
 use crate::logs::Logs;
 use node_core::Node;
+use node_snapshot::snapshot;
 use obj_id::JobNo;
 use plain_store::PlainStore;
 use std::alloc::{AllocError, Global};
@@ -38,12 +39,17 @@ impl Base {
 }
 
 /// The base that the job's lines are folded into: its store at the node, without contents.
-pub(crate) fn base_of(node: &Node, logs: &Logs, job: JobNo) -> Result<Base, AllocError>
+pub(crate) fn base_of(
+    alloc: Global,
+    node: &Node,
+    logs: &Logs,
+    job: JobNo,
+) -> Result<Base, AllocError>
     requires { ∥ Tells node.now (journal_of logs.now) ∥₁ }
     ensures { IfOk result (λ base. base ≡ base_after (journal_of logs.now job.0)) }
 {
     Ok(Base {
-        store: node.plain(job, logs.has_begun(job))?,
+        store: snapshot(alloc, node, job, logs.has_begun(job))?,
         taken: node.taken(job),
     })
 }
@@ -64,15 +70,16 @@ pub(crate) fn bases_of(
     ensures full { IfOk result (λ bases. (job : ℕ) → has_base_lem job bases.items ≡ has_no_room_lem own.0 takers.now job (length (list_of logs.now job))) }
 {
     let mut bases = Vec::new(alloc);
-    add_base(node, logs, own, takers, own, &mut bases)?;
+    add_base(alloc, node, logs, own, takers, own, &mut bases)?;
     for taker in takers {
-        add_base(node, logs, own, takers, *taker, &mut bases)?;
+        add_base(alloc, node, logs, own, takers, *taker, &mut bases)?;
     }
     Ok(bases)
 }
 
 /// Adds the base of the job's list, if it might have no room and none is there yet.
 fn add_base(
+    alloc: Global,
     node: &Node,
     logs: &Logs,
     own: JobNo,
@@ -90,7 +97,7 @@ fn add_base(
     if has_base(bases, job) || !has_no_room(own, takers, job, logs.list(job).len()) {
         return Ok(());
     }
-    let base = base_of(node, logs, job)?;
+    let base = base_of(alloc, node, logs, job)?;
     bases.push((job, base))?;
     Ok(())
 }

@@ -243,14 +243,14 @@ impl<L: Ledger> Kept<L> {
         ensures unchanged { OnErr result (self.new.logs ≡ self.old.logs) }
     {
         let Kept {
-            alloc: _,
+            alloc,
             node,
             number: _,
             logs,
             count: _,
             seat: _,
         } = self;
-        let base = base_of(node, logs, job)?;
+        let base = base_of(*alloc, node, logs, job)?;
         logs.fold_away(job, base);
         Ok(())
     }
@@ -298,14 +298,14 @@ impl<L: Ledger> Kept<L> {
         ensures unchanged { OnErr result (self.new.logs ≡ self.old.logs) }
     {
         let Kept {
-            alloc: _,
+            alloc,
             node,
             number: _,
             logs,
             count: _,
             seat: _,
         } = self;
-        sweep_job(node, logs, job)?;
+        sweep_job(*alloc, node, logs, job)?;
         Ok(())
     }
 

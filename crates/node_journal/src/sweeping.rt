@@ -11,7 +11,7 @@ use crate::folding::base_of;
 use crate::logs::Logs;
 use node_core::Node;
 use obj_id::JobNo;
-use std::alloc::AllocError;
+use std::alloc::{AllocError, Global};
 
 /// The lines from which on the list of a job that isn't live is folded, if it has entries: to fold each entry by itself would take
 /// longer, and receipts would sooner be of no use.
@@ -19,7 +19,12 @@ const MANY_LINES: usize = 64;
 
 /// Sweeps the job's list, if the job isn't live: notes alone become part of the base, many lines with entries are folded, and a
 /// job that no step was of is forgotten. If there is no memory for a base nothing changes.
-pub(crate) fn sweep_job(node: &Node, logs: &mut Logs, job: JobNo) -> Result<(), AllocError>
+pub(crate) fn sweep_job(
+    alloc: Global,
+    node: &Node,
+    logs: &mut Logs,
+    job: JobNo,
+) -> Result<(), AllocError>
     requires { ∥ Tells node.now (journal_of logs.old) ∥₁ }
     ensures swept { OnOk result ((other : ℕ) → journal_of logs.new other ≡ swept_if (job.0 == other && not (is_live_at node.now other)) (journal_of logs.old other)) }
     ensures forgotten { OnOk result (is_live_at node.now job.0 ≡ false → has_entries_lem (journal_of logs.old job.0) ≡ false → settled (journal_of logs.old job.0) ≡ fresh job.0 → lookup (same_job job) logs.new ≡ None) }
@@ -29,14 +34,14 @@ pub(crate) fn sweep_job(node: &Node, logs: &mut Logs, job: JobNo) -> Result<(), 
         return Ok(());
     }
     if has_entries(logs.list(job)) {
-        fold_many(node, logs, job)
+        fold_many(alloc, node, logs, job)
     } else {
-        settle_or_forget(node, logs, job)
+        settle_or_forget(alloc, node, logs, job)
     }
 }
 
 /// Folds the job's list, if it has many lines, and gives their memory back. If there is no memory for the base nothing changes.
-fn fold_many(node: &Node, logs: &mut Logs, job: JobNo) -> Result<(), AllocError>
+fn fold_many(alloc: Global, node: &Node, logs: &mut Logs, job: JobNo) -> Result<(), AllocError>
     requires { ∥ Tells node.now (journal_of logs.old) ∥₁ }
     ensures folded { OnOk result ((other : ℕ) → journal_of logs.new other ≡ folded_if (job.0 == other && nat_le many_lines (length (list_of logs.old other))) (journal_of logs.old other)) }
     ensures unchanged { OnErr result (logs.new ≡ logs.old) }
@@ -44,19 +49,24 @@ fn fold_many(node: &Node, logs: &mut Logs, job: JobNo) -> Result<(), AllocError>
     if logs.list(job).len() < MANY_LINES {
         return Ok(());
     }
-    let base = base_of(node, logs, job)?;
+    let base = base_of(alloc, node, logs, job)?;
     logs.fold_away(job, base);
     Ok(())
 }
 
 /// Settles the job's notes, and lets go what is kept of it if no step was of it. If there is no memory for its base nothing changes.
-fn settle_or_forget(node: &Node, logs: &mut Logs, job: JobNo) -> Result<(), AllocError>
+fn settle_or_forget(
+    alloc: Global,
+    node: &Node,
+    logs: &mut Logs,
+    job: JobNo,
+) -> Result<(), AllocError>
     requires { ∥ Tells node.now (journal_of logs.old) ∥₁ }
     ensures settled { OnOk result ((other : ℕ) → journal_of logs.new other ≡ settled_if (job.0 == other) (journal_of logs.old other)) }
     ensures forgotten { OnOk result (settled (journal_of logs.old job.0) ≡ fresh job.0 → lookup (same_job job) logs.new ≡ None) }
     ensures unchanged { OnErr result (logs.new ≡ logs.old) }
 {
-    settle(node, logs, job)?;
+    settle(alloc, node, logs, job)?;
     if logs.seems_fresh(job) {
         logs.forget(job);
     }
@@ -64,7 +74,7 @@ fn settle_or_forget(node: &Node, logs: &mut Logs, job: JobNo) -> Result<(), Allo
 }
 
 /// The job's notes, if there are some, become part of its base. If there is no memory for that nothing changes.
-fn settle(node: &Node, logs: &mut Logs, job: JobNo) -> Result<(), AllocError>
+fn settle(alloc: Global, node: &Node, logs: &mut Logs, job: JobNo) -> Result<(), AllocError>
     requires { ∥ Tells node.now (journal_of logs.old) ∥₁ }
     ensures settled { OnOk result ((other : ℕ) → journal_of logs.new other ≡ settled_if (job.0 == other) (journal_of logs.old other)) }
     ensures unchanged { OnErr result (logs.new ≡ logs.old) }
@@ -72,7 +82,7 @@ fn settle(node: &Node, logs: &mut Logs, job: JobNo) -> Result<(), AllocError>
     if logs.list(job).is_empty() {
         return Ok(());
     }
-    let base = base_of(node, logs, job)?;
+    let base = base_of(alloc, node, logs, job)?;
     logs.settle(job, base);
     Ok(())
 }

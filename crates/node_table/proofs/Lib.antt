@@ -22,7 +22,6 @@ pub mod Telling
 pub mod Totals
 pub mod Sums
 pub mod Described
-pub mod Gathered
 pub mod Planning
 mod Growing
 pub mod Removing

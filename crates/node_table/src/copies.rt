@@ -15,10 +15,11 @@ ghost use Rattle.node_table.specs.Dropping.{is_over_at};
 ghost use Rattle.node_table.specs.Scope.{farewell as farewell_of};
 ghost use Rattle.node_table.specs.EndingTasks.{hands_ended, is_doomed_at, borrows_at};
 ghost use Rattle.node_table.specs.Holding.{IsHeldAt, IsUnreadyAt, IsHoldRefusedAt};
-ghost use Rattle.std.specs.Prelude.{◌≡◌, ◌≢◌, ◌<◌, ◌^◌, [], true, false, Some, None, OnOk, OnErr, IsOk, IsErrOf, IfOk, IfErr, IfSome, IfNone, map, length, is_some, ◌&&◌};
+ghost use Rattle.std.specs.Prelude.{◌≡◌, ◌≢◌, ◌<◌, ◌^◌, [], true, false, Some, None, OnOk, OnErr, IsOk, IsErrOf, IfOk, IfErr, IfSome, IfNone, map, length, is_some, ◌&&◌, IsTrue};
+ghost use Rattle.std.specs.FinMap.{is_sorted};
+ghost use Rattle.obj_id.specs.Ids.{id_cmp};
 ghost use Rattle.node_table.specs.Usages.{item_of, total, is_spilling, window_bytes as window_bytes_lem, device_bytes as device_bytes_lem, doomed_one};
 ghost use Rattle.private_store.specs.Kept.{is_fetching};
-ghost use Rattle.node_table.specs.Row.{copies_of};
 ghost use Rattle.node_table.specs.Followed.{facts_in, AreFollowed, NoneIsGone, KeepPlaces};
 ghost use Rattle.lru_evictor.specs.Facts.{standing_at};
 ghost use Rattle.lru_evictor.specs.Orders.{ids_of};
@@ -29,10 +30,8 @@ use crate::taken::{Taken, to_u64};
 use indexmap::IndexMap;
 use lru_evictor::{Standing, UseOrder};
 use obj_id::{Digest, DirectoryMessage, Items, Location, ObjectId, OwnItem, Refusal, TaskNo};
-use plain_store::{PlainCopy, copies_by_id};
 use private_store::{Fault, FetchFault};
 use std::alloc::{AllocError, Global};
-use std::collections::BTreeMap;
 use std::marker::Model;
 
 /// The copies of a job. A contract sees them by rising id.
@@ -86,7 +85,8 @@ impl Copies {
 
     /// The copies as List shows them, by rising id. Takes a walk over them, a sort, and memory for each.
     pub fn items(&self, alloc: Global) -> Result<Items<OwnItem>, AllocError>
-        ensures { IfOk result (λ items. items ≡ map item_of self.now) }
+        ensures items { IfOk result (λ items. items ≡ map item_of self.now) }
+        ensures rising { IfOk result (λ _. IsTrue (is_sorted id_cmp self.now)) }
     {
         let mut items = Vec::new(alloc);
         for (id, copy) in &self.by_id {
@@ -94,22 +94,6 @@ impl Copies {
         }
         items.sort_unstable_by_key(|item| item.id);
         Ok(Items::from_vec(items))
-    }
-
-    /// The copies without their bytes. Takes a walk over them, a sort, and memory for each.
-    pub fn plain(&self, alloc: Global) -> Result<BTreeMap<ObjectId, PlainCopy>, AllocError>
-        ensures { IfOk result (λ plain. plain.entries ≡ copies_of self.now) }
-    {
-        // that the copies rise is what the proof needs
-        let _count = self.by_id.len();
-        let items = self.items(alloc)?;
-        let mut plain = Vec::new(alloc);
-        for item in items.as_slice() {
-            if let Some(copy) = self.get(&item.id) {
-                plain.push((item.id, copy.plain(alloc)?))?;
-            }
-        }
-        copies_by_id(alloc, plain)
     }
 
     /// The bytes that they take in the window, or `u64::MAX` if they are more. Takes no walk over them.

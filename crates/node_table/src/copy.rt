@@ -257,7 +257,7 @@ impl RowCopy {
     }
 
     /// What keeps it.
-    pub(crate) fn pins(&self) -> &Pins
+    pub fn pins(&self) -> &Pins
         ensures pinned { result.now.pinned ≡ self.now.copy.pinned }
         ensures borrowers { result.now.borrowers ≡ self.now.copy.borrowers }
         ensures holds { result.now.holds ≡ self.now.copy.holds }

@@ -23,7 +23,6 @@ pub mod laws;
 mod lent;
 mod listing;
 mod outcome;
-mod plain;
 mod prepared;
 mod preparing;
 mod requota;

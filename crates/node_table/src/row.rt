@@ -126,14 +126,14 @@ impl JobRow {
     }
 
     /// The job's number.
-    pub(crate) fn job(&self) -> JobNo
+    pub fn job(&self) -> JobNo
         ensures { result ≡ record { 0 = self.now.job } }
     {
         self.job
     }
 
     /// What it may have in its window and on the device, in bytes.
-    pub(crate) fn quota(&self) -> Quota
+    pub fn quota(&self) -> Quota
         ensures { result ≡ record { window = self.now.window.quota; device = self.now.device } }
     {
         Quota {
@@ -160,7 +160,7 @@ impl JobRow {
     }
 
     /// Its copies.
-    pub(crate) fn copies(&self) -> &Copies
+    pub fn copies(&self) -> &Copies
         ensures copies { result.now ≡ self.now.copies }
         ensures placed { ArePlaced self.now.window.placed (place_of self.now.copies) }
     {
@@ -190,7 +190,7 @@ impl JobRow {
     }
 
     /// The order of use of its copies, with where each lies and the walks for room that choose it.
-    pub(crate) fn use_order(&self) -> &UseOrder
+    pub fn use_order(&self) -> &UseOrder
         ensures ids { ids_of result.now ≡ self.now.order }
         ensures standings { AreFollowed self.now.copies result.now }
         ensures placed { ArePlaced self.now.window.placed (place_of self.now.copies) }
@@ -356,14 +356,14 @@ impl JobRow {
     }
 
     /// The last number that a fetch had.
-    pub(crate) fn fetches_begun(&self) -> u64
+    pub fn fetches_begun(&self) -> u64
         ensures { result ≡ self.now.fetches_begun }
     {
         self.fetches_begun
     }
 
     /// Whether a spill failed since room was last refused for it.
-    pub(crate) fn spill_failed(&self) -> bool
+    pub fn spill_failed(&self) -> bool
         ensures { result ≡ self.now.spill_failed }
     {
         self.spill_failed
@@ -391,7 +391,7 @@ impl JobRow {
     }
 
     /// The tasks that have ended here, in the order in which they ended. Takes a walk over them, and memory for each.
-    pub(crate) fn ended_tasks(&self, alloc: Global) -> Result<Items<TaskNo>, AllocError>
+    pub fn ended_tasks(&self, alloc: Global) -> Result<Items<TaskNo>, AllocError>
         ensures { IfOk result (λ tasks. tasks ≡ self.now.ended_tasks) }
     {
         let mut tasks = Vec::new(alloc);

@@ -3,6 +3,7 @@ use Rattle.std.specs.FinMap.{is_sorted}
 use Rattle.std.proofs.lemmas.Fn.{always_returns_same}
 use Rattle.obj_id.specs.declared.commands.OwnItem.{OwnItem}
 use Rattle.obj_id.specs.Ids.{id_cmp}
+use Rattle.private_store.proofs.Tests.{true_T}
 use Rattle.node_table.proofs.Rising.{rising-sorted}
 use Rattle.node_table.proofs.Listed.{none_listed, next_listed, all_listed, listed}
 use Rattle.node_table.proofs.copies.Copies.items.Goals as goal
@@ -15,8 +16,11 @@ loop-id-init c =
 pub loop-id-preserved : goal.loop-id-preserved
 loop-id-preserved c = next_listed c.args.self.now c.loop-id.items.items _ c.loop-id.id-iterator _ (c.in-Some.id.now, c.in-Some.copy.now) c.item.result c.in-Some.ensures.steps c.item.ensures c.in_ok-push.ensures.items c.loop-id.invariant
 
-pub returns : goal.returns
-returns c =
+pub returns-clause-items : goal.returns-clause-items
+returns-clause-items c =
     c.from_vec.ensures
     ∙ listed c.args.self.now c.loop-id.items.items c.sort_unstable_by_key.new.self.items (subst (λ t. T (is_sorted id_cmp t)) c.self.view_is (rising-sorted c.self.inside.by_id.entries))
     (all_listed c.args.self.now c.loop-id.items.items c.loop-id.id-iterator c.in-None.ensures.steps.0 c.loop-id.invariant) c.sort_unstable_by_key.ensures.permutation (c.sort_unstable_by_key.ensures.sorted (λ (i : OwnItem). i.id) (always_returns_same _ (λ a r. r ≡ a.0.now.id) _ (λ a r q k. search rules)))
+
+pub returns-clause-rising : goal.returns-clause-rising
+returns-clause-rising c = true_T _ (subst (λ t. T (is_sorted id_cmp t)) c.self.view_is (rising-sorted c.self.inside.by_id.entries))

@@ -7,5 +7,5 @@ use Rattle.node_table.proofs.row.JobRow.device_keys.Goals as goal
 
 pub returns : goal.returns
 returns c =
-    let ids = ap (map (λ (item : OwnItem). item.id)) (c.as_slice.ensures ∙ c.in_ok-items.ensures ∙ ap (map item_of) c.copies.ensures.copies) ∙ ids-listed c.args.self.now.copies in
+    let ids = ap (map (λ (item : OwnItem). item.id)) (c.as_slice.ensures ∙ c.in_ok-items.ensures.items ∙ ap (map item_of) c.copies.ensures.copies) ∙ ids-listed c.args.self.now.copies in
     c.in_ok-keys_each.ensures ∙ ap (keys_backed c.args.self.now) ids

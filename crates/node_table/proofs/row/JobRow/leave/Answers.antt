@@ -21,7 +21,7 @@ returns-then-doomed_count-eq0-clause-ok c node beside contents h =
 pub returns-clause-ok : goal.returns-clause-ok
 returns-clause-ok c node beside contents h =
     let row = c.args.self.now in
-    let ids = ap (map (λ (item : OwnItem). item.id)) (c.as_slice.ensures ∙ c.in_ok-items.ensures ∙ ap (map item_of) c.copies-2.ensures.copies) ∙ ids-listed row.copies in
+    let ids = ap (map (λ (item : OwnItem). item.id)) (c.as_slice.ensures ∙ c.in_ok-items.ensures.items ∙ ap (map item_of) c.copies-2.ensures.copies) ∙ ids-listed row.copies in
     let keys = c.in_ok-keys.ensures.keys ∙ ap (keys_left c.args.session row) ids in
     let left = c.in_ok-keys.ensures.row ∙ ap (λ ids. fold (left_row c.args.session) row ids) ids in
     subst (λ g. TakesStep node row beside contents (input.Call c.args.session command.Leave) g c.leave_each.new.self beside) (sym (λ i. record { reply = reply.Ok; posts = c.new.ensures i; erased = keys i }))

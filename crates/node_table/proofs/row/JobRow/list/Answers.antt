@@ -5,4 +5,4 @@ use Rattle.node_table.proofs.row.JobRow.list.Goals as goal
 
 pub returns : goal.returns
 returns c node session beside contents h granted =
-    list_done node c.args.self.now beside contents session h c.in_ok-own.own c.args.granted (c.in_ok-own.ensures ∙ ap (map item_of) c.copies.ensures.copies) granted
+    list_done node c.args.self.now beside contents session h c.in_ok-own.own c.args.granted (c.in_ok-own.ensures.items ∙ ap (map item_of) c.copies.ensures.copies) granted

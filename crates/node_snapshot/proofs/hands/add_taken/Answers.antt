@@ -4,7 +4,7 @@ use Rattle.private_store.specs.Tables.{at, with_entry}
 use Rattle.private_store.specs.Shape.{Seen}
 use Rattle.private_store.proofs.ObjectMaps.{at-lookup, with_entry-insert, with_entry-set}
 use Rattle.grants.specs.Private.{as_taken}
-use Rattle.node_core.proofs.plain.add_taken.Goals as goal
+use Rattle.node_snapshot.proofs.hands.add_taken.Goals as goal
 
 pub returns-in-Some : goal.returns-in-Some
 returns-in-Some c =

@@ -1,6 +1,6 @@
 use Rattle.std.proofs.Common.{◌≡◌, ◌++◌, map, drop}
 use Rattle.grants.specs.Private.{as_given}
-use Rattle.node_core.proofs.plain.plain_given.Given as goal
+use Rattle.node_snapshot.proofs.hands.plain_given.Given as goal
 
 -- those so far and those of what is left are all
 abbrev pub invariant-loop-hand : goal.invariant-loop-hand

@@ -11,8 +11,7 @@ use Rattle.private_store.specs.Hands.{Hand}
 use Rattle.private_store.proofs.Tests.{true_false}
 use Rattle.plain_store.specs.Parts.{has_begun}
 use Rattle.node_table.specs.Row.{Row, Beside, beside_of, shape_of, given_by, received_by}
-use Rattle.node_core.specs.Hosted.{Hosted, IsBare, IsViewBy, Shows, row_at, bytes_here, beside_at, bare_shape}
-use Rattle.node_core.proofs.Asking.{row_shown}
+use Rattle.node_core.specs.Hosted.{Hosted, IsBare, IsRowView, IsViewBy, Shows, row_at, bytes_here, beside_at, bare_shape}
 
 -- how far a job is that isn't live
 ended_if : (life : Life) (begun : Bool) (beside : Beside) (job : ℕ) → is_live (bare_shape job life beside) ≡ false → has_begun life ≡ begun → cond begun ended not_begun ≡ life
@@ -27,7 +26,7 @@ module _ (node : Hosted) (job : JobNo) (view : View) (h : Shows node job.0 view)
       → plain ≡ record { shape = shape_of row (beside_of node.works hands bytes row.job); order = row.order })
       → plain ≡ brief_of view
   row_told row found plain given received gave got is =
-      let shown = row_shown node job row found view h in
+      let shown : IsRowView row (beside_at node job.0) job.0 view = subst (IsViewBy node.admissions.greatest (beside_at node job.0) job.0 view) found h.by_row in
       is node.hands (bytes_here node.rows) (gave ∙ ap (given_by node.hands) (sym shown.own)) (got ∙ ap (received_by (bytes_here node.rows) node.hands) (sym shown.own))
       ∙ ap (λ n. record { shape = shape_of row (beside_at node n); order = row.order }) shown.own
       ∙ (λ i. record { shape = sym shown.shape i; order = sym shown.order i })

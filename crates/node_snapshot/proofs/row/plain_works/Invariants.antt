@@ -1,6 +1,6 @@
 use Rattle.std.proofs.Common.{◌≡◌, ◌++◌, map, drop}
 use Rattle.spill_work.specs.Line.{shown, works_of}
-use Rattle.node_table.proofs.plain.plain_works.Given as goal
+use Rattle.node_snapshot.proofs.row.plain_works.Given as goal
 
 -- those so far and those of what is left are all
 abbrev pub invariant-loop-work : goal.invariant-loop-work

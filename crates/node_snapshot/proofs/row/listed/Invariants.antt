@@ -1,5 +1,5 @@
 use Rattle.std.proofs.Common.{◌≡◌, ◌++◌}
-use Rattle.node_table.proofs.plain.listed.Given as goal
+use Rattle.node_snapshot.proofs.row.listed.Given as goal
 
 -- those so far and those of what is left are all
 abbrev pub invariant-loop-id : goal.invariant-loop-id

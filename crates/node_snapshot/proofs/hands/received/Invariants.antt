@@ -3,9 +3,9 @@ use Rattle.obj_id.specs.declared.ids.ObjectId.{ObjectId}
 use Rattle.grants.specs.Private.{with_taken}
 use Rattle.node_table.specs.Row.{received_by}
 use Rattle.node_core.specs.Hosted.{bytes_here}
-use Rattle.node_core.proofs.Node.received.Given as goal
+use Rattle.node_snapshot.proofs.hands.received.Given as goal
 
 -- those so far and those of what is left are all
 abbrev pub invariant-loop-hand : goal.invariant-loop-hand
 invariant-loop-hand l =
-    fold (with_taken (λ (id : ObjectId). length (bytes_here l.fn.self.rows id))) l.seen.entries (drop l.hand-index l.hand-items) ≡ received_by (bytes_here l.fn.self.rows) l.fn.self.hands l.fn.job.0
+    fold (with_taken (λ (id : ObjectId). length (bytes_here l.fn.node.rows id))) l.seen.entries (drop l.hand-index l.hand-items) ≡ received_by (bytes_here l.fn.node.rows) l.fn.node.hands l.fn.job.0

@@ -1,8 +1,0 @@
-use Rattle.std.proofs.Common.{◌≡◌, ◌++◌, drop}
-use Rattle.node_table.specs.Row.{copies_of}
-use Rattle.node_table.proofs.Gathered.{gathered}
-use Rattle.node_table.proofs.copies.Copies.plain.Given as goal
-
--- those so far and those of what is left are all
-abbrev pub invariant-loop-item : goal.invariant-loop-item
-invariant-loop-item l = l.plain.items ++ gathered l.self (drop l.item-index l.item-items) ≡ copies_of l.self
