@@ -7,7 +7,7 @@ ghost use Rattle.obj_id.specs.declared.refusals.Refusal.TheVariants.{BadSize, No
 ghost use Rattle.private_store.specs.Limits.{is_window};
 ghost use Rattle.private_store.specs.Tables.{at, with_entry, is_among};
 ghost use Rattle.private_store.specs.Copies.{extent_of};
-ghost use Rattle.private_store.specs.Contents.{overwritten};
+ghost use Rattle.private_store.specs.Contents.{digest_of, overwritten};
 ghost use Rattle.job_region.specs.Region.{bytes_at as placed_bytes, resize_check};
 ghost use Rattle.std.specs.Option.{option_map_or};
 ghost use Rattle.private_store.specs.Copies.{is_created};
