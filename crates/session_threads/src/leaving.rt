@@ -30,7 +30,7 @@ impl<L: Ledger> SharedNode<L> {
     /// Leaves the sessions that are marked, in order, until one finds no memory.
     pub(crate) fn leave_marked<R: Wait>(&self, rt: &R) {
         for _ in 0..MOST_SESSIONS {
-            if self.upkeep.sessions.first_marked(rt).is_none() {
+            if !self.upkeep.sessions.are_marked() {
                 return;
             }
             let Some(mail) = self.leave_first(rt) else {

@@ -1,6 +1,7 @@
 //! The sessions of a node that are open, and those that are to be left later.
 use obj_id::JobNo;
 use std::alloc::Global;
+use std::sync::atomic::{AtomicBool, Ordering};
 use std::sync::{Condvar, Mutex, Wait};
 
 /// The sessions that a node has at most, open and marked ones together.
@@ -41,6 +42,8 @@ impl Sessions {
 #[derive(Drop)]
 pub(crate) struct OpenSessions {
     sessions: Mutex<Sessions>,
+    // whether some are marked, so that each command doesn't lock them to see that none is
+    are_marked: AtomicBool,
     ended: Condvar,
 }
 
@@ -52,6 +55,7 @@ impl OpenSessions {
                 open: 0,
                 marked: Vec::new(alloc),
             }),
+            are_marked: AtomicBool::new(false),
             ended: Condvar::new(),
         }
     }
@@ -79,7 +83,14 @@ impl OpenSessions {
 
     /// Marks a session: it is to be left later. One that wasn't opened may find no room, and is then never left.
     pub(crate) fn mark<R: Wait>(&self, rt: &R, job: JobNo, session: u32) {
-        let _ = self.sessions.lock(rt).marked.push(Mark { job, session });
+        let mut sessions = self.sessions.lock(rt);
+        let _ = sessions.marked.push(Mark { job, session });
+        self.tell_marked(&sessions.marked);
+    }
+
+    /// Whether some are marked. Takes no lock.
+    pub(crate) fn are_marked(&self) -> bool {
+        self.are_marked.load(Ordering::SeqCst)
     }
 
     /// The session that was marked first.
@@ -93,5 +104,11 @@ impl OpenSessions {
         if !sessions.marked.is_empty() {
             sessions.marked.remove(0);
         }
+        self.tell_marked(&sessions.marked);
+    }
+
+    /// Tells whether some are marked, while the sessions are locked.
+    fn tell_marked(&self, marked: &[Mark]) {
+        self.are_marked.store(!marked.is_empty(), Ordering::SeqCst);
     }
 }
