@@ -13,8 +13,8 @@ use sha2::{Digest as _, Sha256};
 use std::marker::Model;
 use std::thread;
 
-/// So many bytes are hashed at a time, which takes some half a millisecond.
-const PART: usize = 65_536;
+/// So many bytes are hashed at a time, which takes some tenth of a millisecond.
+const PART: usize = 16_384;
 
 /// Bytes with their SHA-256 digest (FIPS 180-4), which is computed when they are made. A contract sees the bytes alone.
 #[derive(Drop)]

@@ -56,19 +56,20 @@ impl Node {
     pub fn expect(&mut self, job: JobNo, id: &ObjectId, hashed: Hashed)
         ensures { self.new ≡ self.old }
     {
-        if let Some(row) = self.rows.get_mut(&job) {
-            row.expect(id, hashed);
-        }
+        let Some(row) = self.rows.get_mut(&job) else {
+            return;
+        };
+        row.expect(id, hashed);
     }
 
     /// Compares the next 128 KiB of them, and tells whether there is more to compare.
     pub fn compare(&mut self, job: JobNo, id: &ObjectId) -> bool
         ensures { self.new ≡ self.old }
     {
-        match self.rows.get_mut(&job) {
-            Some(row) => row.compare(id),
-            None => false,
-        }
+        let Some(row) = self.rows.get_mut(&job) else {
+            return false;
+        };
+        row.compare(id)
     }
 
     /// How long the job's object is of which no chunk but this one is missing, if its fetch of this number would take it.

@@ -2,6 +2,7 @@ use Rattle.std.proofs.Common.{sym, ap, map, ◌∙◌}
 use Rattle.std.specs.Option.{option_copied}
 use Rattle.grants.specs.Private.{as_given}
 use Rattle.grants.specs.Table.{given_by}
+use Rattle.node_table.specs.Row.{beside_of, shape_of}
 use Rattle.node_table.proofs.Getting.{each_ok}
 use Rattle.node_snapshot.proofs.Briefs.{row_told, bare_told}
 use Rattle.node_snapshot.proofs.snapshot.Goals as goal
@@ -14,5 +15,7 @@ returns-in_default c view h begun =
 pub returns : goal.returns
 returns c = each_ok c.plain_row.result (λ plain is view h begun.
     let found = sym c.row.ensures ∙ ap option_copied c.in-Some.is in
+    let row = c.in-Some.row.now in
     let gave = c.in_ok-given-2.ensures ∙ ap (map as_given) (c.as_slice.ensures ∙ c.in_ok-given.ensures.hands ∙ ap (given_by c.args.job.0) c.hands.ensures) in
-    row_told c.args.node.now c.args.job view h c.in-Some.row.now found plain c.in_ok-given-2.given c.in_ok-received.received.entries gave c.in_ok-received.ensures is) c.plain_row.ensures
+    row_told c.args.node.now c.args.job view h row found plain c.in_ok-given-2.given c.in_ok-received.received.entries gave c.in_ok-received.ensures
+    (λ hands bytes g r. is hands bytes g r ∙ ap (λ works. record { shape = shape_of row (beside_of works hands bytes row.job); order = row.order }) c.works.ensures)) c.plain_row.ensures
