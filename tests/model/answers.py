@@ -49,7 +49,7 @@ def read_each(*readers: Callable[[str], int]) -> Callable[[List[str]], Tuple]:
 def read_count(text: str) -> int:
     if not text.startswith("#"):
         raise NotAStep
-    return read_number(text[1:])
+    return read_long(text[1:])
 
 
 def read_refusal(fields: List[str]) -> Tuple:

@@ -23,21 +23,24 @@ use Rattle.journal_replay.specs.Replays.{IsFound, Read, entries_of, next_number}
 
 -- ---- one line
 
--- what was read is the only entry that the line spells
-pub takes_line : (added : Bool) (old new : Replay) (bytes text : List ℕ) (entry : Entry) → bytes ≡ with_feed text → Reads (Some entry) (IsEntryLine old.version text) → Adds added old new (record { text = text; entry = entry }) → TakesLine added old new bytes
-takes_line true old new bytes text entry is reads adds = record { line = record { text = text; entry = entry }; is_text = is; spelled = reads.sound; added = adds }
-takes_line false old new bytes text entry is reads adds = λ before so_far.
-    record {
-      none = λ other same utf x spelled number.
-          let texts : other ≡ text = append_cancel_right other text (10 ∷ []) (sym same ∙ is) in
-          let found : Some entry ≡ Some x = reads.whole x (subst (λ t. IsEntryLine old.version t x) texts spelled) in
-          let one : x ≡ entry = ap (or_else entry) (sym found) in
-          adds before so_far (subst (λ e. e.address.number ≡ next_number old.version (entries_of before) e.address) one number);
-    }
+one_alone : (entry x : Entry) → Some entry ≡ Some x → x ≡ entry
+one_alone entry x same = ap (or_else entry) (sym same)
   where
     or_else : Entry → Option Entry → Entry
     or_else d None = d
     or_else d (Some e) = e
+
+-- what was read is the only entry that the line spells
+pub takes_line : (added : Bool) (old new : Replay) (bytes text : List ℕ) (entry : Entry) → bytes ≡ with_feed text → Reads (Some entry) (IsEntryLine old.version text) → Adds added old new (record { text = text; entry = entry }) → TakesLine added old new bytes
+takes_line true old new bytes text entry is reads adds =
+    record { line = record { text = text; entry = entry }; is_text = is; spelled = reads.sound; alone = λ x spelled. one_alone entry x (reads.whole x spelled); added = adds }
+takes_line false old new bytes text entry is reads adds = λ before so_far.
+    record {
+      none = λ other same utf x spelled number.
+          let texts : other ≡ text = append_cancel_right other text (10 ∷ []) (sym same ∙ is) in
+          let one : x ≡ entry = one_alone entry x (reads.whole x (subst (λ t. IsEntryLine old.version t x) texts spelled)) in
+          adds before so_far (subst (λ e. e.address.number ≡ next_number old.version (entries_of before) e.address) one number);
+    }
 
 -- the texts of first lines are texts
 head-IsUtf8 : (version : Version) → IsUtf8 (head_text version)
@@ -89,14 +92,15 @@ module _ (version : Version) (number : ℕ) (replay : Replay) (a r : Option (Lis
       }
 
   module _ (r1 : Option (List ℕ)) (bytes : List ℕ) (read : Consumes r r1 bytes) where
-    pub stopped : IfSome r (λ left. bytes ≡ take_through 10 left) → ((before : List Read) → IsReplay before replay → IsNoEntry replay.version (entries_of before) bytes) → StopsLines version a r1 number
-    stopped whole none =
+    pub stopped : IfSome r (λ left. bytes ≡ take_through 10 left) → bytes ≢ [] → ((before : List Read) → IsReplay before replay → IsNoEntry replay.version (entries_of before) bytes) → StopsLines version a r1 number
+    stopped whole more none =
         record {
           lines = so_far.lines;
           rest = bytes;
           read = so_far.read;
           consumed = Consumes-then a r r1 (bytes_of so_far.lines) bytes so_far.consumed read;
           whole = next_line a r (bytes_of so_far.lines) bytes so_far.consumed whole;
+          more = more;
           none = subst (λ v. IsNoEntry v (entries_of so_far.lines) bytes) so_far.form (none so_far.lines so_far.after);
           numbered = sym so_far.counted;
         }
@@ -112,6 +116,7 @@ module _ (version : Version) (number : ℕ) (replay : Replay) (a r : Option (Lis
             record {
               whole = whole_text bytes adds.line.text adds.is_text one;
               spelled = subst (λ v. IsEntryLine v adds.line.text adds.line.entry) so_far.form adds.spelled;
+              alone = subst (λ v. (x : Entry) → IsEntryLine v adds.line.text x → x ≡ adds.line.entry) so_far.form adds.alone;
               numbered = subst (λ v. adds.line.entry.address.number ≡ next_number v before adds.line.entry.address) so_far.form (adds.added.numbered so_far.lines so_far.after);
             },
             so_far.read,
@@ -145,6 +150,7 @@ whole_journal version a b c bytes is head (Err (NotAnEntry number)) ends =
       read = ends.read;
       consumed = subst (Consumes a c) (sym (append_assoc (with_feed (head_text version)) (bytes_of ends.lines) ends.rest)) (Consumes-then a b c (with_feed (head_text version)) (bytes_of ends.lines ++ ends.rest) (subst (Consumes a b) is head) ends.consumed);
       whole = next_after a b (with_feed (head_text version)) (bytes_of ends.lines) ends.rest (subst (Consumes a b) is head) ends.whole;
+      more = ends.more;
       none = ends.none;
       numbered = ends.numbered;
     })

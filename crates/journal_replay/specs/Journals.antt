@@ -13,10 +13,11 @@ use Rattle.journal_replay.specs.Replays.{IsFound, Read, entries_of, next_number}
 
 -- ---- lines
 
--- an entry's number is the next one of its job at its node, from 1
+-- it spells one entry alone, whose number is the next one of its job at its node, from 1
 pub record IsRead (version : Version) (before : List Entry) (line : Read) : Type 0 where
   pub whole : All (λ byte. byte ≢ 10) line.text
   pub spelled : IsEntryLine version line.text line.entry
+  pub alone : (x : Entry) → IsEntryLine version line.text x → x ≡ line.entry
   pub numbered : line.entry.address.number ≡ next_number version before line.entry.address
 
 abbrev pub AreRead : Version → List Read → Type 0
@@ -74,6 +75,7 @@ pub record StopsAtLine (read_old read_new : Option (List ℕ)) (number : ℕ) : 
   pub read : AreRead version lines
   pub consumed : Consumes read_old read_new (journal_bytes version lines ++ rest)
   pub whole : IsNextLine read_old (journal_bytes version lines) rest
+  pub more : rest ≢ []
   pub none : IsNoEntry version (entries_of lines) rest
   pub numbered : number ≡ suc (suc (length lines))
 

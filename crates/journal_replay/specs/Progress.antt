@@ -1,6 +1,7 @@
 -- A replay so far, and what a line more makes of it. Lines stand newest first.
-use Rattle.std.specs.Prelude.{◌≡◌, ◌≢◌, ℕ, suc, Bool, true, false, List, ◌∷◌, ◌++◌, length, Option, IfSome, Result, Ok, Err, ⊤}
+use Rattle.std.specs.Prelude.{◌≡◌, ◌≢◌, ℕ, suc, Bool, true, false, List, [], ◌∷◌, ◌++◌, length, Option, IfSome, Result, Ok, Err, ⊤}
 use Rattle.std.specs.Io.KnownBytes.{Consumes}
+use Rattle.journal_text.specs.declared.entry.Entry.{Entry}
 use Rattle.journal_text.specs.declared.entry.Version.{Version}
 use Rattle.journal_text.specs.Reading.{IsEntryLine}
 use Rattle.journal_replay.specs.declared.fault.ReplayFault.{ReplayFault}
@@ -33,6 +34,7 @@ pub record AddsLine (old new : Replay) (bytes : List ℕ) : Type 0 where
   pub line : Read
   pub is_text : bytes ≡ with_feed line.text
   pub spelled : IsEntryLine old.version line.text line.entry
+  pub alone : (x : Entry) → IsEntryLine old.version line.text x → x ≡ line.entry
   pub added : AddsEntry old new line
 
 abbrev pub TakesLine : Bool → Replay → Replay → List ℕ → Type 0
@@ -73,6 +75,7 @@ pub record StopsLines (version : Version) (read_old read_new : Option (List ℕ)
   pub read : AreRead version lines
   pub consumed : Consumes read_old read_new (bytes_of lines ++ rest)
   pub whole : IsNextLine read_old (bytes_of lines) rest
+  pub more : rest ≢ []
   pub none : IsNoEntry version (entries_of lines) rest
   pub numbered : number ≡ suc (suc (length lines))
 

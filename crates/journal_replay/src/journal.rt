@@ -1,5 +1,5 @@
 //! A whole journal, read and replayed.
-ghost use Rattle.std.specs.Prelude.{◌≡◌, false, IfOk, IfErr, IfSome, MatchOption};
+ghost use Rattle.std.specs.Prelude.{◌≡◌, ◌≢◌, [], true, false, IfOk, IfErr, IfSome, MatchOption};
 ghost use Rattle.std.specs.Io.{StopsAt};
 ghost use Rattle.std.specs.Io.BufRead.{take_through};
 ghost use Rattle.std.specs.Io.KnownBytes.{Consumes, IsAtEnd};
@@ -61,6 +61,7 @@ fn next_line<R: BufRead>(reader: &mut R, line: &mut Vec<u8>) -> Result<bool, Rep
     ensures one { StopsAt line.new.items 10 }
     ensures whole { IfOk result (λ _. IfSome (R.remaining reader.old) (λ left. line.new.items ≡ take_through 10 left)) }
     ensures end { IfOk result (λ is_line. is_line ≡ false → IsAtEnd (R.remaining reader.old)) }
+    ensures more { IfOk result (λ is_line. is_line ≡ true → line.new.items ≢ []) }
     ensures fault { IfErr result IsReadingFault }
 {
     line.clear();

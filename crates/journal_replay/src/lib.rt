@@ -7,11 +7,13 @@ mod fault;
 mod inputs;
 mod jobs;
 mod journal;
+mod laws;
 mod program;
 mod replay;
 mod replies;
 
 pub use fault::ReplayFault;
 pub use journal::replay_journal;
+pub use laws::a_sound_journal_replays;
 pub use program::{Verdict, replay_text, status_of};
 pub use replay::{Difference, Outcome};

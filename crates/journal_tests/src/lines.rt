@@ -30,7 +30,8 @@ n0 j1 12 pull t1.1 1 other = ok
 n0 j1 13 nothere t1.1 1 3 = ok
 n0 j1 14 s0 usage = usage 64 32 18446744073709551615 0 1 2
 n0 j1 15 s4294967295 endtask t7 = ok
-n0 j1 16 s1 list = list t1.1:away:primary:20 2/t1.1:granted:4:3";
+n0 j1 16 s1 list = list t1.1:away:primary:20 2/t1.1:granted:4:3
+n0 j1 17 s1 write t1.1 0 #18446744073709551615 = refused 7 BadSize";
 
 /// Lines that no version has.
 const NEVER: &str = "\
@@ -45,6 +46,7 @@ n0 j1 1 s1 leave = refused 13 Granted
 n0 j1 1 s1 leave = refused 12 NotGranted
 n0 j1 1 s1 leave = none
 n0 j1 1 s1 write t1.1 0 48656c6c6f = ok
+n0 j1 1 s1 write t1.1 0 #18446744073709551616 = ok
 n0 j1 1 s1 releases t1.1 = ok
 n0 j1 1 take = ok
 n0 j1 1 received t1.1 4 0 1 = ok

@@ -13,3 +13,4 @@ pub mod WrittenFields
 pub mod WrittenInputs
 pub mod WrittenReplies
 pub mod WrittenLines
+pub mod ProperLines

@@ -1,6 +1,6 @@
--- Texts without a space, a colon and an equals sign, at which a line and its fields are cut.
-use Rattle.std.proofs.Common.{◌≡◌, ℕ, zero, suc, ◌/◌, ◌%◌, ◌<◌, ◌^◌, ◌==◌, not, ◌&&◌, Bool, true, false, if◌then◌else◌, List, [], ◌∷◌, ◌++◌, get_or, All, refl, sym, ap, ◌∙◌, arith, decimal, codes, append-nil, append_assoc, ne_eqb}
-use Rattle.std.proofs.lemmas.Bool.{and_parts}
+-- Texts without a space, a colon, an equals sign and a line feed, at which a journal, its lines and their fields are cut.
+use Rattle.std.proofs.Common.{◌≡◌, ◌≢◌, ℕ, zero, suc, ◌/◌, ◌%◌, ◌<◌, ◌^◌, ◌==◌, not, ◌&&◌, Bool, true, false, if◌then◌else◌, List, [], ◌∷◌, ◌++◌, get_or, All, refl, sym, ap, ◌∙◌, arith, decimal, codes, append-nil, append_assoc, ne_eqb}
+use Rattle.std.proofs.lemmas.Bool.{and_parts, eqb-false}
 use Rattle.std.proofs.lemmas.List.Folds.{list_all-append}
 use Rattle.std.proofs.lemmas.List.Splits.{slice_split_at, slice_split_none}
 use Rattle.std.proofs.lemmas.List.Sums.{AllPass-from_list_all}
@@ -18,7 +18,7 @@ use Rattle.journal_text.specs.Locations.{parts_of}
 use Rattle.journal_text.specs.Printing.{spaced_text}
 
 abbrev pub is_plain : ℕ → Bool
-is_plain b = not (b == 32) && (not (b == 58) && not (b == 61))
+is_plain b = not (b == 32) && (not (b == 58) && (not (b == 61) && not (b == 10)))
 
 abbrev pub Plain : List ℕ → Type 0
 Plain text = list_all is_plain text ≡ true
@@ -32,19 +32,20 @@ Plain-append xs ys hx hy = list_all-append is_plain xs ys ∙ (λ i. hx i && hy 
 
 -- ---- numbers and digits
 
-Plain-without : (xs : List ℕ) → Without 32 xs → Without 58 xs → Without 61 xs → Plain xs
-Plain-without [] a b c = refl
-Plain-without (x ∷ xs) a b c =
+Plain-without : (xs : List ℕ) → Without 32 xs → Without 58 xs → Without 61 xs → Without 10 xs → Plain xs
+Plain-without [] a b c e = refl
+Plain-without (x ∷ xs) a b c e =
     let space = ne_eqb x 32 (a 0 (omega arith)) in
     let colon = ne_eqb x 58 (b 0 (omega arith)) in
     let equals = ne_eqb x 61 (c 0 (omega arith)) in
-    let rest = Plain-without xs (λ i lt. a (suc i) (omega arith)) (λ i lt. b (suc i) (omega arith)) (λ i lt. c (suc i) (omega arith)) in
-    λ i. (not (space i) && (not (colon i) && not (equals i))) && rest i
+    let feed = ne_eqb x 10 (e 0 (omega arith)) in
+    let rest = Plain-without xs (λ i lt. a (suc i) (omega arith)) (λ i lt. b (suc i) (omega arith)) (λ i lt. c (suc i) (omega arith)) (λ i lt. e (suc i) (omega arith)) in
+    λ i. (not (space i) && (not (colon i) && (not (equals i) && not (feed i)))) && rest i
 
 pub Plain-decimal : (n : ℕ) → n < 2 ^ 64 → Plain (decimal n)
 Plain-decimal n fits =
     Plain-without (decimal n) (Without-decimal 32 n fits (λ range. omega arith)) (Without-decimal 58 n fits (λ range. omega arith))
-    (Without-decimal 61 n fits (λ range. omega arith))
+    (Without-decimal 61 n fits (λ range. omega arith)) (Without-decimal 10 n fits (λ range. omega arith))
 
 plain_at : (xs : List ℕ) → Plain xs → (d : ℕ) → is_plain (get_or xs d 0) ≡ true
 plain_at [] h d = refl
@@ -92,7 +93,7 @@ Plain-id_text job id is =
 -- ---- fields, in which colons may stand
 
 abbrev is_in_field : ℕ → Bool
-is_in_field b = not (b == 32) && not (b == 61)
+is_in_field b = not (b == 32) && (not (b == 61) && not (b == 10))
 
 abbrev pub Field : List ℕ → Type 0
 Field text = list_all is_in_field text ≡ true
@@ -108,11 +109,11 @@ pub Field-plain : (xs : List ℕ) → Plain xs → Field xs
 Field-plain [] h = refl
 Field-plain (x ∷ xs) h =
     let parts = and_parts (is_plain x) (list_all is_plain xs) h in
-    let byte = and_parts (not (x == 32)) (not (x == 58) && not (x == 61)) parts.0 in
+    let byte = and_parts (not (x == 32)) (not (x == 58) && (not (x == 61) && not (x == 10))) parts.0 in
     let space = byte.0 in
-    let equals = (and_parts (not (x == 58)) (not (x == 61)) byte.1).1 in
+    let others = (and_parts (not (x == 58)) (not (x == 61) && not (x == 10)) byte.1).1 in
     let rest = Field-plain xs parts.1 in
-    λ i. (space i && equals i) && rest i
+    λ i. (space i && others i) && rest i
 
 pub AllFields-plain : (fs : List (List ℕ)) → AllPlain fs → AllFields fs
 AllFields-plain [] h = tt
@@ -167,7 +168,8 @@ Unequal-field : (xs : List ℕ) → Field xs → Unequal xs
 Unequal-field [] h = refl
 Unequal-field (x ∷ xs) h =
     let parts = and_parts (is_in_field x) (list_all is_in_field xs) h in
-    let equals = (and_parts (not (x == 32)) (not (x == 61)) parts.0).1 in
+    let byte = and_parts (not (x == 32)) (not (x == 61) && not (x == 10)) parts.0 in
+    let equals = (and_parts (not (x == 61)) (not (x == 10)) byte.1).0 in
     let rest = Unequal-field xs parts.1 in
     λ i. equals i && rest i
 
@@ -186,3 +188,33 @@ pub cut_once : (front back : List ℕ) → Unequal front → Unequal back → sl
 cut_once front back hf hb =
     slice_split_at (λ b. b == 61) front 61 back (none_equal front hf) refl
     ∙ ap (λ rest. front ∷ rest) (slice_split_none (λ b. b == 61) back (none_equal back hb))
+
+-- ---- lines without a line feed
+
+abbrev is_whole : ℕ → Bool
+is_whole b = not (b == 10)
+
+abbrev pub Whole : List ℕ → Type 0
+Whole text = list_all is_whole text ≡ true
+
+pub Whole-append : (xs ys : List ℕ) → Whole xs → Whole ys → Whole (xs ++ ys)
+Whole-append xs ys hx hy = list_all-append is_whole xs ys ∙ (λ i. hx i && hy i)
+
+Whole-field : (xs : List ℕ) → Field xs → Whole xs
+Whole-field [] h = refl
+Whole-field (x ∷ xs) h =
+    let parts = and_parts (is_in_field x) (list_all is_in_field xs) h in
+    let byte = and_parts (not (x == 32)) (not (x == 61) && not (x == 10)) parts.0 in
+    let feed = (and_parts (not (x == 61)) (not (x == 10)) byte.1).1 in
+    let rest = Whole-field xs parts.1 in
+    λ i. feed i && rest i
+
+Whole-spaces : (fs : List (List ℕ)) → AllFields fs → Whole (spaced_text fs)
+Whole-spaces [] h = refl
+Whole-spaces (f ∷ fs) h = Whole-append f (spaced_text fs) (Whole-field f h.0) (Whole-spaces fs h.1)
+
+pub Whole-spaced : (f : List ℕ) (fs : List (List ℕ)) → Field f → AllFields fs → Whole (f ++ spaced_text fs)
+Whole-spaced f fs h hs = Whole-append f (spaced_text fs) (Whole-field f h) (Whole-spaces fs hs)
+
+pub none_feeds : (xs : List ℕ) → Whole xs → All (λ b. b ≢ 10) xs
+none_feeds xs h = λ k d l. eqb-false _ 10 (not_true _ (AllPass-from_list_all is_whole xs h k d l))

@@ -8,7 +8,7 @@ use Rattle.schedule_text.specs.declared.lines.JobAt.{JobAt}
 use Rattle.journal_text.specs.declared.saved.Counts.{Counts}
 use Rattle.journal_text.specs.declared.saved.Mark.{Mark}
 use Rattle.journal_text.proofs.SamePlaces.{same_place-equal}
-use Rattle.journal_text.specs.Saved.{counted, counts_at, has_no_room, is_folded, line_text, lines_of, marks_of, most_marks, same_place, Saved, IsSaved}
+use Rattle.journal_text.specs.Saved.{counted, counts_at, has_no_room, is_folded, line_text, lines_of, marks_of, most_marks, same_place, Saved, IsSaved, IsTypedLine}
 
 abbrev TableOf : Type 0
 TableOf = List (JobAt × Counts)
@@ -49,6 +49,7 @@ module _ (saved : Saved) (marks : List Mark) (mark : Mark) (counts : Counts) (h 
         folded = sym yes;
         counts = λ whole. false_true (sym yes ∙ whole);
         text = λ whole. false_true (sym yes ∙ whole);
+        typed = λ whole. false_true (sym yes ∙ whole);
       }
 
   whole_so : has_no_room saved counts ≡ false → (is_folded marks ≡ false) × (nat_le most_marks counts.marks ≡ false)
@@ -68,7 +69,7 @@ module _ (saved : Saved) (marks : List Mark) (mark : Mark) (counts : Counts) (h 
 
   module _ (room : has_no_room saved counts ≡ false) (new : TableOf) (text : List ℕ)
       (updated : (q : JobAt) → lookup (same_place q) new ≡ cond (same_place mark.place q) (Some (counted counts mark.line)) (lookup (same_place q) saved.counts))
-      (written : text ≡ saved.text ++ line_text mark.place (counts.lines + 1) mark.line) where
+      (written : text ≡ saved.text ++ line_text mark.place (counts.lines + 1) mark.line) (is_typed : IsTypedLine mark.place (counts.lines + 1) mark.line) where
     whole : is_folded marks ≡ false
     whole = (whole_so room).0
 
@@ -95,4 +96,5 @@ module _ (saved : Saved) (marks : List Mark) (mark : Mark) (counts : Counts) (h 
       folded = h.folded ∙ whole ∙ sym unfolded;
       counts = λ w. at_each;
       text = λ w. written ∙ ap (λ n. saved.text ++ line_text mark.place n mark.line) (one_more counts.lines) ∙ ap (λ c. saved.text ++ line_text mark.place (suc c.lines) mark.line) is ∙ ap (λ t. t ++ line_text mark.place (suc (lines_of mark.place marks)) mark.line) (h.text whole);
+      typed = λ w. (subst (λ n. IsTypedLine mark.place n mark.line) (one_more counts.lines ∙ ap (λ c. suc c.lines) is) is_typed, h.typed whole);
     }

@@ -29,5 +29,5 @@ task_field task is = record { is_task = is; spelled = IsTaskText-task_text task 
 pub plain32 : (n : ℕ) → n < 2 ^ 32 → Plain (decimal n)
 plain32 n fits = Plain-decimal n (omega (arith, fits))
 
-pub plain_count : (n : ℕ) → n < 2 ^ 32 → Plain (count_field n)
-plain_count n fits = Plain-append (codes "#") (decimal n) refl (plain32 n fits)
+pub plain_count : (n : ℕ) → n < 2 ^ 64 → Plain (count_field n)
+plain_count n fits = Plain-append (codes "#") (decimal n) refl (Plain-decimal n fits)

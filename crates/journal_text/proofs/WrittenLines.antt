@@ -1,5 +1,5 @@
 -- The line that is written of an entry spells it.
-use Rattle.std.proofs.Common.{◌≡◌, ℕ, List, [], ◌∷◌, ◌++◌, refl, sym, ap, subst, ◌∙◌, decimal, codes, append_assoc, arith}
+use Rattle.std.proofs.Common.{◌≡◌, ◌≢◌, ℕ, All, List, [], ◌∷◌, ◌++◌, refl, sym, ap, subst, ◌∙◌, decimal, codes, append_assoc, arith}
 use Rattle.schedule_text.specs.Fields.{fields_of}
 use Rattle.journal_text.specs.declared.entry.Entry.{Entry}
 use Rattle.journal_text.specs.declared.entry.Version.TheVariants.{Three}
@@ -7,7 +7,7 @@ use Rattle.journal_text.specs.Fields.{IsAddress}
 use Rattle.journal_text.specs.Printing.{address_text, brief_reply_text, entry_text, input_fields, spaced_text}
 use Rattle.journal_text.specs.Reading.{IsEntry, IsEntryLine, IsHalves, cut_at_equals}
 use Rattle.journal_text.specs.Writable.{IsWritable}
-use Rattle.journal_text.proofs.PlainFields.{AllFields, Field, Field-plain, Plain-append, Plain-decimal, Unequal, Unequal-append, Unequal-spaced, cut_once, fields_of-spaced}
+use Rattle.journal_text.proofs.PlainFields.{AllFields, Field, Field-plain, Plain-append, Plain-decimal, Unequal, Unequal-append, Unequal-spaced, Whole, Whole-append, Whole-spaced, cut_once, fields_of-spaced, none_feeds}
 use Rattle.journal_text.proofs.WrittenInputs.{AllFields-input, IsInput-written}
 use Rattle.journal_text.proofs.WrittenReplies.{AllFields-reply, IsReply-written, brief_reply_text-fields, reply_fields}
 
@@ -92,3 +92,16 @@ module _ (x : Entry) (h : IsWritable x) where
   IsEntryLine-written =
       let P : List (List ℕ) → Type 0 = λ hs. IsHalves Three hs x in
       subst P (sym halves) (record { told = told; answer = answer; before = refl; after = refl; spelled = IsEntry-written })
+
+  Whole-told : Whole told
+  Whole-told = subst Whole (sym told-fields) (Whole-spaced node told_fields Field-node AllFields-told)
+
+  Whole-answer : Whole answer
+  Whole-answer =
+      let reply = reply_fields x.address.job.0 x.reply in
+      let fields = AllFields-reply x.address.job.0 x.reply h.answered in
+      subst Whole (sym (brief_reply_text-fields x.address.job.0 x.reply)) (Whole-spaced reply.0 reply.1 fields.0 fields.1)
+
+  -- it is one line
+  pub whole-written : All (λ byte. byte ≢ 10) (entry_text x)
+  whole-written = none_feeds (entry_text x) (Whole-append (told ++ codes " = ") answer (Whole-append told (codes " = ") Whole-told refl) Whole-answer)

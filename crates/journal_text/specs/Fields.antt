@@ -10,9 +10,10 @@ pub record IsMarked (mark field : List ℕ) (number : ℕ) : Type 0 where
   pub fits : number < 2 ^ 32
   pub spelled : mark ++ decimal number ≡ field
 
--- `#N`: a number of bytes in place of the bytes
-abbrev pub IsCount : List ℕ → ℕ → Type 0
-IsCount field count = IsMarked (codes "#") field count
+-- `#N`: a number of bytes, of 64 bits, in place of the bytes
+pub record IsCount (field : List ℕ) (count : ℕ) : Type 0 where
+  pub fits : count < 2 ^ 64
+  pub spelled : codes "#" ++ decimal count ≡ field
 
 -- `nNODE`
 pub record IsNodeField (field : List ℕ) (node : ℕ) : Type 0 where

@@ -8,5 +8,6 @@ pub mod Items
 pub mod Replies
 pub mod Reading
 pub mod Printing
-pub mod Saved
 pub mod Writable
+pub mod Typed
+pub mod Saved

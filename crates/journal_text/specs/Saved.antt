@@ -1,7 +1,9 @@
 -- A whole journal, as it is saved: the lines of entries and notes, newest first, and when it has lost some of them to a fold.
-use Rattle.std.specs.Prelude.{◌≡◌, ℕ, suc, ◌==◌, nat_le, Bool, false, ◌&&◌, ◌||◌, if◌then◌else◌, List, [], ◌∷◌, ◌++◌, Option, Some, None, unwrap_or, is_some}
+use Rattle.std.specs.Prelude.{◌≡◌, ℕ, suc, ◌==◌, nat_le, Bool, false, ◌&&◌, ◌||◌, if◌then◌else◌, List, [], ◌∷◌, ◌++◌, Option, Some, None, unwrap_or, is_some, ⊤}
 use Rattle.std.specs.Map.{lookup}
+use Rattle.std.specs.Str.{IsUtf8}
 use Rattle.journal_text.specs.declared.entry.Address.{Address}
+use Rattle.journal_text.specs.declared.entry.Entry.{Entry}
 use Rattle.schedule_text.specs.declared.lines.JobAt.{JobAt}
 use Rattle.journal_text.specs.declared.entry.Version.TheVariants.{Three}
 use Rattle.journal_text.specs.declared.saved.Answered.{Answered}
@@ -9,6 +11,7 @@ use Rattle.journal_text.specs.declared.saved.Counts.{Counts}
 use Rattle.journal_text.specs.declared.saved.Mark.{Mark}
 use Rattle.journal_text.specs.Printing.{entry_text}
 use Rattle.journal_text.specs.Reading.{head_text}
+use Rattle.journal_text.specs.Typed.{IsTyped}
 
 abbrev pub same_place : JobAt → JobAt → Bool
 same_place a b = (a.node == b.node) && (a.job.0 == b.job.0)
@@ -35,16 +38,28 @@ abbrev pub is_folded : List Mark → Bool
 is_folded [] = false
 is_folded (mark ∷ before) = is_folded before || nat_le most_marks (marks_of mark.place before)
 
+-- the entry that a line of this number is written of
+abbrev pub entry_at : JobAt → ℕ → Answered → Entry
+entry_at place number line = record { address = record { node = place.node; job = place.job; number = number }; input = line.input; reply = line.reply }
+
 -- the line of an entry or note that has one, with its line feed
 abbrev pub line_text : JobAt → ℕ → Option Answered → List ℕ
 line_text place number None = []
-line_text place number (Some line) =
-    entry_text (record { address = record { node = place.node; job = place.job; number = number }; input = line.input; reply = line.reply }) ++ 10 ∷ []
+line_text place number (Some line) = entry_text (entry_at place number line) ++ 10 ∷ []
 
 -- the text: a line's number is the next one of its job at its node
 abbrev pub saved_text : List Mark → List ℕ
 saved_text [] = head_text Three ++ 10 ∷ []
 saved_text (mark ∷ before) = saved_text before ++ line_text mark.place (suc (lines_of mark.place before)) mark.line
+
+-- a line is written of an entry of a program, and is of characters
+abbrev pub IsTypedLine : JobAt → ℕ → Option Answered → Type 0
+IsTypedLine place number None = ⊤
+IsTypedLine place number (Some line) = IsTyped (entry_at place number line) × IsUtf8 (entry_text (entry_at place number line))
+
+abbrev pub AreTyped : List Mark → Type 0
+AreTyped [] = ⊤
+AreTyped (mark ∷ before) = IsTypedLine mark.place (suc (lines_of mark.place before)) mark.line × AreTyped before
 
 -- ---- as it is made
 
@@ -70,3 +85,4 @@ pub record IsSaved (saved : Saved) (marks : List Mark) : Type 0 where
   pub folded : saved.folded ≡ is_folded marks
   pub counts : is_folded marks ≡ false → (place : JobAt) → counts_at saved.counts place ≡ record { marks = marks_of place marks; lines = lines_of place marks }
   pub text : is_folded marks ≡ false → saved.text ≡ saved_text marks
+  pub typed : is_folded marks ≡ false → AreTyped marks

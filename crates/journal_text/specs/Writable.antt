@@ -33,7 +33,7 @@ FitsAddress x = (x.node < 8) × FitsPositive x.job.0 × Fits32 x.number
 
 abbrev pub FitsCommand : Command ℕ → Type 0
 FitsCommand (command.Create id kind n) = IsId id × Fits32 n
-FitsCommand (command.Write id offset count) = IsId id × Fits32 offset × Fits32 count
+FitsCommand (command.Write id offset count) = IsId id × Fits32 offset × Fits64 count
 FitsCommand (command.Seal id) = IsId id
 FitsCommand (command.Get id) = IsId id
 FitsCommand (command.Read id offset count) = IsId id × Fits32 offset × Fits32 count
@@ -89,7 +89,7 @@ abbrev pub FitsReply : Reply ℕ → Type 0
 FitsReply reply.Ok = ⊤
 FitsReply (reply.Placed offset extent) = Fits32 offset × Fits32 extent
 FitsReply (reply.Got n) = Fits32 n
-FitsReply (reply.Bytes count) = Fits32 count
+FitsReply (reply.Bytes count) = Fits64 count
 FitsReply (reply.List own granted) = FitOwn own × FitGranted granted
 FitsReply (reply.Usage usage) = FitsUsage usage
 FitsReply (reply.Work work) = ⊥

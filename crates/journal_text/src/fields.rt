@@ -25,11 +25,11 @@ pub(crate) fn session(field: &str) -> Option<u32>
     marked(field, 's')
 }
 
-/// `#N`: a number of bytes in place of the bytes.
+/// `#N`: a number of bytes, of 64 bits, in place of the bytes.
 pub(crate) fn count(field: &str) -> Option<u64>
     ensures { Reads result (IsCount field.now) }
 {
-    marked(field, '#').map(u64::from)
+    long_number(field.strip_prefix('#')?)
 }
 
 /// `nNODE`.

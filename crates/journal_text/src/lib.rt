@@ -17,6 +17,7 @@ mod put_inputs;
 mod puts;
 mod replies;
 mod saved;
+mod typed;
 mod words;
 
 pub use entry::{Address, Entry, LineInput, Version};

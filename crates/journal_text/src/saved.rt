@@ -1,10 +1,11 @@
 //! A whole journal, written an entry at a time.
 ghost use Rattle.std.specs.Prelude.{◌≡◌, ◌<◌, ◌∷◌, List, [], true, false, IfOk, IfSome, IfNone, OnOk, OnErr};
 ghost use Rattle.std.specs.String.{string_bytes};
-ghost use Rattle.journal_text.specs.Saved.{counted, counts_at, has_no_room, is_folded, line_text as line_text_lem, most_marks, saved_text, IsSaved};
+ghost use Rattle.journal_text.specs.Saved.{counted, counts_at, has_no_room, is_folded, line_text as line_text_lem, most_marks, saved_text, IsSaved, IsTypedLine};
 
 use crate::entry::{Address, Entry, LineInput};
 use crate::printing::write_line;
+use crate::typed::typed;
 use indexmap::IndexMap;
 use obj_id::Reply;
 use schedule_text::JobAt;
@@ -137,21 +138,21 @@ fn line_text(
     number: u32,
     line: Option<Answered>,
 ) -> Result<String, AllocError>
-    ensures { IfOk result (λ text. string_bytes text ≡ line_text_lem place number line) }
+    ensures text { IfOk result (λ text. string_bytes text ≡ line_text_lem place number line) }
+    ensures typed { IfOk result (λ _. IsTypedLine place number line) }
 {
     let Some(Answered { input, reply }) = line else {
         return Ok(String::new(alloc))
     };
     let JobAt { node, job } = place;
     let address = Address { node, job, number };
-    let mut text = write_line(
-        alloc,
-        &Entry {
-            address,
-            input,
-            reply,
-        },
-    )?;
+    let entry = Entry {
+        address,
+        input,
+        reply,
+    };
+    typed(&entry);
+    let mut text = write_line(alloc, &entry)?;
     text.push('\n')?;
     Ok(text)
 }

@@ -18,11 +18,11 @@ use Rattle.schedule_text.specs.declared.line.Outcome.{Outcome}
 use Rattle.world_core.specs.Worlds.{Hosting, IsAfter}
 use Rattle.store_program.specs.declared.fault.Fault.{Fault}
 use Rattle.store_program.specs.declared.fault.Fault.TheVariants.{NotAStep, Input, Output, Socket, Folded, NoMemory}
-use Rattle.store_program.specs.Lines.{IsSpelled, Says, stands, finishes, with_feed, marks_of, history_of, input_of, output_of}
+use Rattle.store_program.specs.Lines.{Heard, IsSpelled, Says, stands, finishes, with_feed, marks_of, history_of, input_of, output_of}
 use Rattle.journal_text.specs.Saved.{Saved}
 use Rattle.store_program.specs.Kept.{Kept, IsKept}
 use Rattle.store_program.specs.Workers.{Crew, IsCrewAfter, Calls, handed_in, held_by}
-use Rattle.store_program.specs.Runs.{RunsStep, RunsLine, StopsRun, IsNextLine, IsReadingFault, Progress, IsWorldly, IsOutput, Ran}
+use Rattle.store_program.specs.Runs.{RunsStep, RunsLine, StopsRun, IsNextLine, IsReadingFault, AreKept, LeadTo, Progress, IsWorldly, IsOutput, Ran}
 use Rattle.store_program.proofs.Crews.{handed_due, after_handing, after_step}
 use Rattle.store_program.proofs.Within.{said_apart, finish_within}
 use Rattle.private_store.proofs.KnownBytes.{Appends-none, Appends-then, Appends-kept, Consumes-none, Consumes-then, Consumes-all}
@@ -34,7 +34,7 @@ nothing_kept = record { judged = None; notes = [] }
 
 pub nothing_line : (nodes : ℕ) (bytes text : List ℕ) (world : Hosting) (crew : Crew) (journal : Option Saved) (a : Option (List ℕ)) → bytes ≡ with_feed text → is_skipped text ≡ true → RunsLine nodes bytes world crew journal world crew journal a a
 nothing_line nodes bytes text world crew journal a is skipped =
-    record { heard = record { text = text; answered = None; kept = nothing_kept }; is_text = is; is_answered = λ history h. skipped; after = λ memory history h. h; crew = λ history h. h; keeps = tt; journal = λ asked marks k. k; written = Appends-none a }
+    record { heard = record { text = text; answered = None; kept = nothing_kept }; is_text = is; is_answered = λ history h. skipped; after = λ memory history h. h; crew = λ history h. h; keeps = refl; journal = λ asked marks k. k; written = Appends-none a }
 
 module _ (nodes : ℕ) (bytes text : List ℕ) (old new : Hosting) (crew_old crew_new : Crew) (journal_old journal_new : Option Saved) (a b : Option (List ℕ)) (result : Result ⊤ Fault) (is : bytes ≡ with_feed text) where
   pub step_line : (step : Step) → Says nodes text (line.Step step) → OnOk result (RunsStep old crew_old journal_old step new crew_new journal_new a b) → OnOk result (RunsLine nodes bytes old crew_old journal_old new crew_new journal_new a b)
@@ -98,6 +98,10 @@ pub worldly : (nodes memory : ℕ) (world : Hosting) (history : List Traced) →
 worldly nodes memory world [] h = tt
 worldly nodes memory world (entry ∷ history) h = (world, h)
 
+all_kept : (nodes memory : ℕ) (world : Hosting) (lines : List Heard) → LeadTo nodes memory lines world → AreKept nodes memory lines
+all_kept nodes memory world [] h = tt
+all_kept nodes memory world (heard ∷ lines) h = (world, h)
+
 -- the line that is read next is the next one of the input
 pub next_line : (a r : Option (List ℕ)) (before bytes : List ℕ) → Consumes a r before → IfSome r (λ left. bytes ≡ take_through 10 left) → IsNextLine a before bytes
 next_line None r before bytes read whole = tt
@@ -105,7 +109,7 @@ next_line (Some all) None before bytes read whole = absurd read
 next_line (Some all) (Some left) before bytes read whole = whole ∙ ap (take_through 10) (sym (ap (drop (length before)) read ∙ drop-append_seam before left))
 
 pub begun : (nodes memory : ℕ) (world : Hosting) (crew : Crew) (asked : Bool) (journal : Option Saved) (a b : Option (List ℕ)) → IsAfter nodes memory world [] → IsCrewAfter nodes crew [] → IsKept asked journal [] → Progress nodes memory 1 world crew asked journal a a b b
-begun nodes memory world crew asked journal a b h c k = record { lines = []; counted = refl; heard = tt; after = h; crew = c; kept = tt; has_kept = k; consumed = Consumes-none a; written = Appends-none b }
+begun nodes memory world crew asked journal a b h c k = record { lines = []; counted = refl; heard = tt; after = h; crew = c; kept = h; has_kept = k; consumed = Consumes-none a; written = Appends-none b }
 
 pub no_world : (nodes memory : ℕ) (asked : Bool) (journal : Option Saved) (a b : Option (List ℕ)) → Ran nodes memory asked journal a a b b (Err NoMemory)
 no_world nodes memory asked journal a b = record { lines = []; rest = []; heard = tt; worldly = tt; kept = tt; has_kept = tt; consumed = Consumes-none a; written = Appends-none b; ends = tt }
@@ -123,7 +127,7 @@ module _ (nodes memory number : ℕ) (world : Hosting) (workers : Crew) (asked :
           rest = bytes;
           heard = so_far.heard;
           worldly = worldly nodes memory world (history_of so_far.lines) so_far.after;
-          kept = so_far.kept;
+          kept = all_kept nodes memory world so_far.lines so_far.kept;
           has_kept = tt;
           consumed = Consumes-then a r r1 (input_of so_far.lines) bytes so_far.consumed read;
           written = so_far.written;
@@ -135,7 +139,7 @@ module _ (nodes memory number : ℕ) (world : Hosting) (workers : Crew) (asked :
           rest = bytes;
           heard = so_far.heard;
           worldly = worldly nodes memory world (history_of so_far.lines) so_far.after;
-          kept = so_far.kept;
+          kept = all_kept nodes memory world so_far.lines so_far.kept;
           has_kept = tt;
           consumed = Consumes-then a r r1 (input_of so_far.lines) bytes so_far.consumed read;
           written = so_far.written;
@@ -149,7 +153,7 @@ module _ (nodes memory number : ℕ) (world : Hosting) (workers : Crew) (asked :
           rest = bytes;
           heard = so_far.heard;
           worldly = worldly nodes memory world (history_of so_far.lines) so_far.after;
-          kept = so_far.kept;
+          kept = all_kept nodes memory world so_far.lines so_far.kept;
           has_kept = so_far.has_kept;
           consumed = Consumes-then a r r1 (input_of so_far.lines) bytes so_far.consumed read;
           written = so_far.written;
@@ -163,7 +167,7 @@ module _ (nodes memory number : ℕ) (world : Hosting) (workers : Crew) (asked :
           rest = bytes;
           heard = so_far.heard;
           worldly = worldly nodes memory world (history_of so_far.lines) so_far.after;
-          kept = so_far.kept;
+          kept = all_kept nodes memory world so_far.lines so_far.kept;
           has_kept = tt;
           consumed = Consumes-then a r r1 (input_of so_far.lines) bytes so_far.consumed read;
           written = Appends-kept b w w1 (output_of so_far.lines) so_far.written stops.2;
@@ -178,7 +182,7 @@ module _ (nodes memory number : ℕ) (world : Hosting) (workers : Crew) (asked :
           rest = bytes;
           heard = so_far.heard;
           worldly = worldly nodes memory world (history_of so_far.lines) so_far.after;
-          kept = so_far.kept;
+          kept = all_kept nodes memory world so_far.lines so_far.kept;
           has_kept = tt;
           consumed = Consumes-then a r r1 (input_of so_far.lines) bytes so_far.consumed read;
           written = tt;
@@ -190,7 +194,7 @@ module _ (nodes memory number : ℕ) (world : Hosting) (workers : Crew) (asked :
           rest = bytes;
           heard = so_far.heard;
           worldly = worldly nodes memory world (history_of so_far.lines) so_far.after;
-          kept = so_far.kept;
+          kept = all_kept nodes memory world so_far.lines so_far.kept;
           has_kept = tt;
           consumed = Consumes-then a r r1 (input_of so_far.lines) bytes so_far.consumed read;
           written = Appends-kept b w w1 (output_of so_far.lines) so_far.written stops;
@@ -206,7 +210,7 @@ module _ (nodes memory number : ℕ) (world : Hosting) (workers : Crew) (asked :
           heard = (record { whole = whole_text bytes ran.heard.text ran.is_text one; answered = ran.is_answered (history_of so_far.lines) so_far.crew }, so_far.heard);
           after = ran.after memory (history_of so_far.lines) so_far.after;
           crew = ran.crew (history_of so_far.lines) so_far.crew;
-          kept = (record { world = world; after = so_far.after; keeps = ran.keeps }, so_far.kept);
+          kept = (ran.after memory (history_of so_far.lines) so_far.after, (world, (ran.keeps, so_far.kept)));
           has_kept = ran.journal asked (marks_of so_far.lines) so_far.has_kept;
           consumed = Consumes-then a r r1 (input_of so_far.lines) (with_feed ran.heard.text) so_far.consumed (subst (Consumes r r1) ran.is_text read);
           written = Appends-then b w w1 (output_of so_far.lines) _ so_far.written ran.written;

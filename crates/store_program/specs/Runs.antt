@@ -24,7 +24,7 @@ pub record Answers (old : Hosting) (crew_old : Crew) (journal_old : Option Saved
   pub after : (nodes memory : ℕ) (history : List Traced) → IsAfter nodes memory old history → IsAfter nodes memory new (record { step = step; answer = answer } ∷ history)
   pub noted : crew_new ≡ crew_noted step answer crew_old
   pub kept : Kept
-  pub keeps : IsNoted old kept.judged kept.notes step answer
+  pub keeps : IsNoted old new kept.judged kept.notes step answer
   pub journal : KeepsStep journal_old step answer kept journal_new
 
 -- the same, and the line is written
@@ -33,7 +33,7 @@ pub record RunsStep (old : Hosting) (crew_old : Crew) (journal_old : Option Save
   pub after : (nodes memory : ℕ) (history : List Traced) → IsAfter nodes memory old history → IsAfter nodes memory new (record { step = step; answer = answer } ∷ history)
   pub noted : crew_new ≡ crew_noted step answer crew_old
   pub kept : Kept
-  pub keeps : IsNoted old kept.judged kept.notes step answer
+  pub keeps : IsNoted old new kept.judged kept.notes step answer
   pub journal : KeepsStep journal_old step answer kept journal_new
   pub written : Appends written_old written_new (line_text (prefix_of step) answer)
 
@@ -46,10 +46,10 @@ StopsStep written_old written_new Socket = ⊥
 StopsStep written_old written_new Folded = ⊥
 StopsStep written_old written_new NoMemory = Keeps written_old written_new
 
--- what a line's step was to the jobs, if it has one
-abbrev pub KeepsHeard : Hosting → Option Traced → Kept → Type 0
-KeepsHeard old None kept = ⊤
-KeepsHeard old (Some entry) kept = IsNoted old kept.judged kept.notes entry.step entry.answer
+-- what a line's step was to the jobs, if it has one; else the world is as it was
+abbrev pub KeepsHeard : Hosting → Hosting → Option Traced → Kept → Type 0
+KeepsHeard old new None kept = new ≡ old
+KeepsHeard old new (Some entry) kept = IsNoted old new kept.judged kept.notes entry.step entry.answer
 
 -- a whole line is read, its step taken, and its answer written
 pub record RunsLine (nodes : ℕ) (bytes : List ℕ) (old : Hosting) (crew_old : Crew) (journal_old : Option Saved) (new : Hosting) (crew_new : Crew) (journal_new : Option Saved) (written_old written_new : Option (List ℕ)) : Type 0 where
@@ -58,7 +58,7 @@ pub record RunsLine (nodes : ℕ) (bytes : List ℕ) (old : Hosting) (crew_old :
   pub is_answered : (history : List Traced) → IsCrewAfter nodes crew_old history → IsAnswered nodes history heard.text heard.answered
   pub after : (memory : ℕ) (history : List Traced) → IsAfter nodes memory old history → IsAfter nodes memory new (with_answered heard.answered history)
   pub crew : (history : List Traced) → IsCrewAfter nodes crew_old history → IsCrewAfter nodes crew_new (with_answered heard.answered history)
-  pub keeps : KeepsHeard old heard.answered heard.kept
+  pub keeps : KeepsHeard old new heard.answered heard.kept
   pub journal : (asked : Bool) (marks : List Mark) → IsKept asked journal_old marks → IsKept asked journal_new (with_heard heard.answered heard.kept marks)
   pub written : Appends written_old written_new (printed heard.answered)
 
@@ -80,15 +80,16 @@ IsReadingFault Socket = ⊥
 IsReadingFault Folded = ⊥
 IsReadingFault NoMemory = ⊤
 
--- what the step of each line was to the jobs, to which a world after the lines before it was shown
-pub record IsKeptAfter (nodes memory : ℕ) (history : List Traced) (heard : Heard) : Type 0 where
-  pub world : Hosting
-  pub after : IsAfter nodes memory world history
-  pub keeps : KeepsHeard world heard.answered heard.kept
+-- the lines lead from a new world to this one: what the step of each was to the jobs is kept, and each step was taken in the world
+-- to which the lines before it led
+abbrev pub LeadTo : ℕ → ℕ → List Heard → Hosting → Type 0
+LeadTo nodes memory [] world = IsAfter nodes memory world []
+LeadTo nodes memory (heard ∷ lines) world =
+    IsAfter nodes memory world (history_of (heard ∷ lines)) × ((before : Hosting) × (KeepsHeard before world heard.answered heard.kept × LeadTo nodes memory lines before))
 
 abbrev pub AreKept : ℕ → ℕ → List Heard → Type 0
 AreKept nodes memory [] = ⊤
-AreKept nodes memory (heard ∷ lines) = IsKeptAfter nodes memory (history_of lines) heard × AreKept nodes memory lines
+AreKept nodes memory (heard ∷ lines) = (world : Hosting) × LeadTo nodes memory (heard ∷ lines) world
 
 -- a run so far
 pub record Progress (nodes memory number : ℕ) (world : Hosting) (workers : Crew) (asked : Bool) (journal : Option Saved) (read_old read_new written_old written_new : Option (List ℕ)) : Type 0 where
@@ -99,7 +100,7 @@ pub record Progress (nodes memory number : ℕ) (world : Hosting) (workers : Cre
   pub heard : AreHeard nodes lines
   pub after : IsAfter nodes memory world (history_of lines)
   pub crew : IsCrewAfter nodes workers (history_of lines)
-  pub kept : AreKept nodes memory lines
+  pub kept : LeadTo nodes memory lines world
   pub has_kept : IsKept asked journal (marks_of lines)
   pub consumed : Consumes read_old read_new (input_of lines)
   pub written : Appends written_old written_new (output_of lines)

@@ -1,5 +1,5 @@
 -- A message that is handed over, to a node or to the directory: the world afterwards, and what the parts of a delivery give.
-use Rattle.std.proofs.Common.{◌≡◌, ℕ, Bool, true, cond, ◌<◌, List, ◌∷◌, Some, None, is_some, refl, sym, ap, subst, ◌∙◌, Option}
+use Rattle.std.proofs.Common.{◌≡◌, ℕ, Bool, true, false, cond, ◌<◌, List, ◌∷◌, Some, None, is_some, refl, sym, ap, subst, ◌∙◌, Option}
 use Rattle.std.specs.Prelude.{Result, Ok, Err, IfOk}
 use Rattle.std.specs.Option.{option_map_or}
 use Rattle.obj_id.specs.declared.ids.JobNo.{JobNo}
@@ -109,6 +109,17 @@ handed_wants_none nodes memory history old new job from to m told h inside (to_n
     let s = moves.steps.each (view_at nodes memory place old history h within moves.before moves.found) (shown nodes memory place old history h within moves.before moves.found) in
     true_false (sym (ap (λ r. is_no_memory (handed m r)) s.operator ∙ handed_wants m (is_some (live_at moves.before.admissions job))) ∙ n)
 handed_wants_none nodes memory history old new job from to m told h inside (past_node place node found is same) n = same
+
+abbrev is_directory : Place → Bool
+is_directory Directory = true
+is_directory (Node place) = false
+
+-- the directory takes what is handed to it, and the nodes are as they were
+pub nodes_stay : (old : Hosting) (job : JobNo) (from to : Place) (m : Message) (new : Hosting) (told : StepAnswer) → is_directory to ≡ true → Hands old job from m new to told → new.nodes ≡ old.nodes
+nodes_stay old job from to m new told at (to_directory d is moves) = moves.nodes
+nodes_stay old job from to m new told at (past_directory is same) = ap (λ w. w.nodes) same
+nodes_stay old job from to m new told at (to_node place given a is moves) = true_false at
+nodes_stay old job from to m new told at (past_node place node found is same) = ap (λ w. w.nodes) same
 
 -- ---- what the parts of a delivery give
 

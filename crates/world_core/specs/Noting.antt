@@ -1,7 +1,7 @@
 -- What a step was to the jobs, without contents, as journals keep it.
-use Rattle.std.specs.Prelude.{◌≡◌, ℕ, Bool, List, [], slice_get, Option, Some, None}
+use Rattle.std.specs.Prelude.{◌≡◌, ℕ, Bool, List, [], slice_get, slice_set, Option, Some, None}
 use Rattle.obj_id.specs.declared.ids.JobNo.{JobNo}
-use Rattle.obj_id.specs.declared.refusals.Refusal.TheVariants.{NoMemory}
+use Rattle.obj_id.specs.declared.refusals.Refusal.TheVariants.{NoMemory, Stale}
 use Rattle.obj_id.specs.declared.commands.Reply.{Reply}
 use Rattle.obj_id.specs.declared.commands.Reply.TheVariants as reply
 use Rattle.obj_id.specs.declared.messages.Arrival.{Arrival}
@@ -25,40 +25,46 @@ use Rattle.world_core.specs.Moves.{handed, message_of}
 use Rattle.world_core.specs.Worlds.{Hosting}
 
 -- an event at the place, with this answer: what it was to its own job, and what it told the takers of hands
-pub record IsEventNoted (old : Hosting) (place : ℕ) (e : Event) (told : Reply (List ℕ)) (was : Option Judged) (noted : List Note) : Type 0 where
+pub record IsEventNoted (old new : Hosting) (place : ℕ) (e : Event) (told : Reply (List ℕ)) (was : Option Judged) (noted : List Note) : Type 0 where
   pub before : Hosted
   pub given : Given
   pub after : Hosted
   pub found : slice_get old.nodes place ≡ Some before
   pub steps : Steps before (Own e) given after
+  pub nodes : new.nodes ≡ slice_set old.nodes place after
   pub reply : given.reply ≡ told
   pub judged : IsJudged before e told was
   pub notes : given.notes ≡ inputs_noted noted
 
 -- the same of a job's message that arrives at the place, which tells nobody of a hand
-pub record IsArrivalNoted (old : Hosting) (place : ℕ) (job : JobNo) (a : Arrival) (told : Reply (List ℕ)) (was : Option Judged) (noted : List Note) : Type 0 where
+pub record IsArrivalNoted (old new : Hosting) (place : ℕ) (job : JobNo) (a : Arrival) (told : Reply (List ℕ)) (was : Option Judged) (noted : List Note) : Type 0 where
   pub before : Hosted
   pub given : Given
   pub after : Hosted
   pub found : slice_get old.nodes place ≡ Some before
   pub steps : Steps before (Arrive job a) given after
+  pub nodes : new.nodes ≡ slice_set old.nodes place after
   pub reply : given.reply ≡ told
   pub judged : IsArrivalJudged before job a told was
+  -- what comes too late is nothing there
+  pub stale : told ≡ reply.Refused Stale → after ≡ before
   pub notes : noted ≡ []
 
--- nothing to anybody
-abbrev pub NotesNothing : Option Judged → List Note → Type 0
-NotesNothing judged notes = (judged ≡ None) × (notes ≡ [])
+-- nothing to anybody, and the nodes are as they were
+pub record NotesNothing (old new : Hosting) (judged : Option Judged) (notes : List Note) : Type 0 where
+  pub none : judged ≡ None
+  pub nobody : notes ≡ []
+  pub nodes : new.nodes ≡ old.nodes
 
 -- what a step with this answer was to the jobs
-pub data IsNoted (old : Hosting) (judged : Option Judged) (notes : List Note) : Step → StepAnswer → Type 0 where
-  keeps_event : (place : ℕ) (e : Event) (told : Reply (List ℕ)) → IsEventNoted old place e told judged notes → IsNoted old judged notes (At place e) (Told told)
+pub data IsNoted (old new : Hosting) (judged : Option Judged) (notes : List Note) : Step → StepAnswer → Type 0 where
+  keeps_event : (place : ℕ) (e : Event) (told : Reply (List ℕ)) → IsEventNoted old new place e told judged notes → IsNoted old new judged notes (At place e) (Told told)
   keeps_arrival : (job : JobNo) (from : Place) (place m : ℕ) (damage : Bool) (a : Arrival) (told : Reply (List ℕ))
-      → arrival_of from (message_of a) ≡ Some a → IsArrivalNoted old place job a told judged notes
-      → IsNoted old judged notes (Deliver job from (Node place) m damage) (handed (message_of a) told)
+      → arrival_of from (message_of a) ≡ Some a → IsArrivalNoted old new place job a told judged notes
+      → IsNoted old new judged notes (Deliver job from (Node place) m damage) (handed (message_of a) told)
   -- what isn't made for a node
-  passes_node : (job : JobNo) (from : Place) (place m : ℕ) (damage : Bool) (msg : Message) (told : Reply (List ℕ)) → arrival_of from msg ≡ None → NotesNothing judged notes
-      → IsNoted old judged notes (Deliver job from (Node place) m damage) (handed msg told)
-  tells_directory : (job : JobNo) (from : Place) (m : ℕ) (damage : Bool) (told : StepAnswer) → NotesNothing judged notes → IsNoted old judged notes (Deliver job from Directory m damage) told
-  finds_nothing : (job : JobNo) (from to : Place) (m : ℕ) (damage : Bool) → NotesNothing judged notes → IsNoted old judged notes (Deliver job from to m damage) NoMessage
-  wants_memory : (step : Step) → NotesNothing judged notes → IsNoted old judged notes step (Told (reply.Refused NoMemory))
+  passes_node : (job : JobNo) (from : Place) (place m : ℕ) (damage : Bool) (msg : Message) (told : Reply (List ℕ)) → arrival_of from msg ≡ None → NotesNothing old new judged notes
+      → IsNoted old new judged notes (Deliver job from (Node place) m damage) (handed msg told)
+  tells_directory : (job : JobNo) (from : Place) (m : ℕ) (damage : Bool) (told : StepAnswer) → NotesNothing old new judged notes → IsNoted old new judged notes (Deliver job from Directory m damage) told
+  finds_nothing : (job : JobNo) (from to : Place) (m : ℕ) (damage : Bool) → NotesNothing old new judged notes → IsNoted old new judged notes (Deliver job from to m damage) NoMessage
+  wants_memory : (step : Step) → NotesNothing old new judged notes → IsNoted old new judged notes step (Told (reply.Refused NoMemory))

@@ -31,7 +31,7 @@ impl World {
     ) -> Result<Stepped, Refusal>
         requires { is_place (length self.old.nodes) to ≡ true }
         ensures ok { IfOk result (λ s. Turns self.old self.new (steps.Deliver job from to number damaged) s.answer) }
-        ensures kept { IfOk result (λ s. IsNoted self.old s.judged s.notes (steps.Deliver job from to number damaged) s.answer) }
+        ensures kept { IfOk result (λ s. IsNoted self.old self.new s.judged s.notes (steps.Deliver job from to number damaged) s.answer) }
         ensures err { OnErr result (self.new ≡ self.old) }
     {
         let Some(sent) = self.messages.find(job, from, to, number) else {
@@ -57,7 +57,7 @@ impl World {
     ) -> Result<Stepped, Refusal>
         requires { place < length self.old.nodes }
         ensures ok { IfOk result (λ s. Hands self.old job from message self.new (places.Node place) s.answer) }
-        ensures kept { IfOk result (λ s. (number : ℕ) (damaged : Bool) → IsNoted self.old s.judged s.notes (steps.Deliver job from (places.Node place) number damaged) s.answer) }
+        ensures kept { IfOk result (λ s. (number : ℕ) (damaged : Bool) → IsNoted self.old self.new s.judged s.notes (steps.Deliver job from (places.Node place) number damaged) s.answer) }
         ensures err { OnErr result (self.new ≡ self.old) }
     {
         match arrival(from, message) {
@@ -81,7 +81,7 @@ impl World {
     fn arrive(&mut self, job: JobNo, place: u32, arrival: &Arrival) -> Result<Given, Refusal>
         requires { place < length self.old.nodes }
         ensures ok { IfOk result (λ given. Arrives self.old place job arrival.now given.reply self.new) }
-        ensures kept { IfOk result (λ given. IsArrivalNoted self.old place job arrival.now given.reply given.judged given.notes) }
+        ensures kept { IfOk result (λ given. IsArrivalNoted self.old self.new place job arrival.now given.reply given.judged given.notes) }
         ensures err { OnErr result (self.new ≡ self.old) }
     {
         // all growth comes before the node's step, and a step that sends nothing needs none

@@ -105,7 +105,7 @@ impl World {
         ensures memory { (nodes memory : ℕ) (history : List Traced) → IsAfter nodes memory self.old history → is_no_memory result.answer ≡ true → self.new ≡ self.old }
         ensures replied { is_replied step.now result.answer ≡ true }
         ensures count { length self.new.nodes ≡ length self.old.nodes }
-        ensures kept { IsNoted self.old result.judged result.notes step.now result.answer }
+        ensures kept { IsNoted self.old self.new result.judged result.notes step.now result.answer }
     {
         let Ok(stepped) = self.turn(step) else {
             return Stepped::without_memory(self.alloc);
@@ -118,7 +118,7 @@ impl World {
         requires { is_within_lem (length self.old.nodes) step.now ≡ true }
         ensures ok { IfOk result (λ s. Turns self.old self.new step.now s.answer) }
         ensures replied { IfOk result (λ s. is_replied step.now s.answer ≡ true) }
-        ensures kept { IfOk result (λ s. IsNoted self.old s.judged s.notes step.now s.answer) }
+        ensures kept { IfOk result (λ s. IsNoted self.old self.new s.judged s.notes step.now s.answer) }
         ensures err { OnErr result (self.new ≡ self.old) }
     {
         match step {
@@ -144,7 +144,7 @@ impl World {
     fn apply(&mut self, place: u32, event: &Event) -> Result<Given, Refusal>
         requires { place < length self.old.nodes }
         ensures ok { IfOk result (λ given. Happens self.old place event.now given.reply self.new) }
-        ensures kept { IfOk result (λ given. IsEventNoted self.old place event.now given.reply given.judged given.notes) }
+        ensures kept { IfOk result (λ given. IsEventNoted self.old self.new place event.now given.reply given.judged given.notes) }
         ensures err { OnErr result (self.new ≡ self.old) }
     {
         let job = job_of(event);

@@ -4,7 +4,7 @@ use Rattle.obj_id.specs.declared.messages.Place.TheVariants as places
 use Rattle.private_store.specs.declared.schedules.Step.TheVariants as steps
 use Rattle.world_core.specs.Moves.{Turns}
 use Rattle.world_core.specs.Noting.{IsNoted, finds_nothing, tells_directory}
-use Rattle.world_core.proofs.HandedOver.{none_delivered, one_delivered, if_ok}
+use Rattle.world_core.proofs.HandedOver.{none_delivered, nodes_stay, one_delivered, if_ok}
 use Rattle.world_core.proofs.World.deliver.Goals as goal
 
 pub returns-in_default-clause-ok : goal.returns-in_default-clause-ok
@@ -27,16 +27,16 @@ returns-in_ok-answer-in-Directory-clause-ok c =
 
 pub returns-in_default-clause-kept : goal.returns-in_default-clause-kept
 returns-in_default-clause-kept c =
-    subst (λ s. IsNoted c.args.self.now s.judged s.notes (steps.Deliver c.args.job c.args.from c.args.to c.args.number c.args.damaged) s.answer) (sym c.alone.ensures)
-    (finds_nothing c.args.job c.args.from c.args.to c.args.number c.args.damaged (refl, refl))
+    subst (λ s. IsNoted c.args.self.now c.args.self.now s.judged s.notes (steps.Deliver c.args.job c.args.from c.args.to c.args.number c.args.damaged) s.answer) (sym c.alone.ensures)
+    (finds_nothing c.args.job c.args.from c.args.to c.args.number c.args.damaged (record { none = refl; nobody = refl; nodes = refl }))
 
 pub returns-in-Node-clause-kept : goal.returns-in-Node-clause-kept
 returns-in-Node-clause-kept c =
     if_ok c.hand_to_node.result c.hand_to_node.ensures.kept (λ s k.
-    subst (λ t. IsNoted c.args.self.now s.judged s.notes (steps.Deliver c.args.job c.args.from t c.args.number c.args.damaged) s.answer) (sym c.in-Node.is) (k c.args.number c.args.damaged))
+    subst (λ t. IsNoted c.args.self.now c.hand_to_node.new.self s.judged s.notes (steps.Deliver c.args.job c.args.from t c.args.number c.args.damaged) s.answer) (sym c.in-Node.is) (k c.args.number c.args.damaged))
 
 pub returns-in_ok-answer-in-Directory-clause-kept : goal.returns-in_ok-answer-in-Directory-clause-kept
 returns-in_ok-answer-in-Directory-clause-kept c =
-    subst (λ s. IsNoted c.args.self.now s.judged s.notes (steps.Deliver c.args.job c.args.from c.args.to c.args.number c.args.damaged) s.answer) (sym c.alone-in-Directory.ensures)
-    (subst (λ t. IsNoted c.args.self.now None [] (steps.Deliver c.args.job c.args.from t c.args.number c.args.damaged) c.in_ok-answer-in-Directory.answer) (sym c.in-Directory.is)
-    (tells_directory c.args.job c.args.from c.args.number c.args.damaged c.in_ok-answer-in-Directory.answer (refl, refl)))
+    subst (λ s. IsNoted c.args.self.now c.hand_to_directory.new.self s.judged s.notes (steps.Deliver c.args.job c.args.from c.args.to c.args.number c.args.damaged) s.answer) (sym c.alone-in-Directory.ensures)
+    (subst (λ t. IsNoted c.args.self.now c.hand_to_directory.new.self None [] (steps.Deliver c.args.job c.args.from t c.args.number c.args.damaged) c.in_ok-answer-in-Directory.answer) (sym c.in-Directory.is)
+    (tells_directory c.args.job c.args.from c.args.number c.args.damaged c.in_ok-answer-in-Directory.answer (record { none = refl; nobody = refl; nodes = nodes_stay _ _ _ places.Directory _ _ _ refl c.in_ok-answer-in-Directory.ensures.ok })))

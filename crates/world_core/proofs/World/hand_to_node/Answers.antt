@@ -23,7 +23,7 @@ returns-in-Err-clause-ok c =
 pub returns-in_ok-given-in-Ok-clause-kept : goal.returns-in_ok-given-in-Ok-clause-kept
 returns-in_ok-given-in-Ok-clause-kept c = λ number damaged.
     let given = c.in_ok-given-in-Ok.given in
-    subst (λ told. IsNoted c.args.self.now given.judged given.notes (steps.Deliver c.args.job c.args.from (places.Node c.args.place) number damaged) told)
+    subst (λ told. IsNoted c.args.self.now c.arrive.new.self given.judged given.notes (steps.Deliver c.args.job c.args.from (places.Node c.args.place) number damaged) told)
     (sym (c.handed.ensures ∙ ap (λ m. handed m given.reply) c.message_of.ensures))
     (keeps_arrival c.args.job c.args.from c.args.place number damaged c.in-Ok.arriving given.reply
     (ap (arrival_of c.args.from) (message_again c.args.from c.args.message c.in-Ok.arriving c.in-Ok.ensures.made) ∙ c.in-Ok.ensures.made)
@@ -31,7 +31,7 @@ returns-in_ok-given-in-Ok-clause-kept c = λ number damaged.
 
 pub returns-in-Err-clause-kept : goal.returns-in-Err-clause-kept
 returns-in-Err-clause-kept c = λ number damaged.
-    subst (λ s. IsNoted c.args.self.now s.judged s.notes (steps.Deliver c.args.job c.args.from (places.Node c.args.place) number damaged) s.answer) (sym c.alone.ensures)
-    (subst (λ told. IsNoted c.args.self.now None [] (steps.Deliver c.args.job c.args.from (places.Node c.args.place) number damaged) told)
+    subst (λ s. IsNoted c.args.self.now c.args.self.now s.judged s.notes (steps.Deliver c.args.job c.args.from (places.Node c.args.place) number damaged) s.answer) (sym c.alone.ensures)
+    (subst (λ told. IsNoted c.args.self.now c.args.self.now None [] (steps.Deliver c.args.job c.args.from (places.Node c.args.place) number damaged) told)
     (sym (c.handed-answer.ensures ∙ ap (λ m. handed m c.reply_to_nothing.result) c.in-Err.ensures.same))
-    (passes_node c.args.job c.args.from c.args.place number damaged c.args.message c.reply_to_nothing.result c.in-Err.ensures.none (refl, refl)))
+    (passes_node c.args.job c.args.from c.args.place number damaged c.args.message c.reply_to_nothing.result c.in-Err.ensures.none (record { none = refl; nobody = refl; nodes = refl })))

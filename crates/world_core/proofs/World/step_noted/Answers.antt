@@ -20,4 +20,4 @@ returns-in_default-clause-after c = λ nodes memory history h.
 
 pub returns-in_default-clause-kept : goal.returns-in_default-clause-kept
 returns-in_default-clause-kept c =
-    subst (λ s. IsNoted c.args.self.now s.judged s.notes c.args.step.now s.answer) (sym c.without_memory.ensures) (wants_memory c.args.step.now (refl, refl))
+    subst (λ s. IsNoted c.args.self.now c.turn.new.self s.judged s.notes c.args.step.now s.answer) (sym c.without_memory.ensures) (wants_memory c.args.step.now (record { none = refl; nobody = refl; nodes = ap (λ world. world.nodes) c.in_default.ensures.err }))

@@ -14,5 +14,5 @@ returns-in_ok-given-in-At-clause-ok c =
 
 pub returns-in_ok-given-in-At-clause-kept : goal.returns-in_ok-given-in-At-clause-kept
 returns-in_ok-given-in-At-clause-kept c =
-    subst (λ s. IsNoted c.args.self.now c.in_ok-given-in-At.given.judged c.in_ok-given-in-At.given.notes s (Told c.in_ok-given-in-At.given.reply)) (sym c.in-At.is)
+    subst (λ s. IsNoted c.args.self.now c.apply.new.self c.in_ok-given-in-At.given.judged c.in_ok-given-in-At.given.notes s (Told c.in_ok-given-in-At.given.reply)) (sym c.in-At.is)
     (keeps_event c.in-At.place c.in-At.event c.in_ok-given-in-At.given.reply c.in_ok-given-in-At.ensures.kept)

@@ -20,4 +20,4 @@ returns-clause-after c = λ marks h.
     (λ q. c.in-Ok.ensures.updates.0 q
     ∙ ap (λ x. cond (same_place c.args.mark.place q) (Some x) (lookup (same_place q) c.reserve.new.self.entries)) c.counted-more.ensures
     ∙ ap (λ es. cond (same_place c.args.mark.place q) (Some (counted c.counts_at-counts.result c.args.mark.line)) (lookup (same_place q) es)) c.reserve.ensures.entries)
-    (c.in_ok-extend_from_slice.ensures.items ∙ ap (λ t. c.self.inside.text.items ++ t) (c.as_bytes.ensures.value ∙ c.in_ok-text.ensures))
+    (c.in_ok-extend_from_slice.ensures.items ∙ ap (λ t. c.self.inside.text.items ++ t) (c.as_bytes.ensures.value ∙ c.in_ok-text.ensures.text)) c.in_ok-text.ensures.typed

@@ -1,0 +1,130 @@
+-- A job's entries with one more: the store that they lead to is that of its inputs.
+use Rattle.std.proofs.Common.{◌≡◌, ℕ, ◌≤◌, Bool, true, false, cond, ◌==◌, ◌&&◌, List, [], ◌∷◌, ◌++◌, Option, Some, None, refl, sym, ap, subst, ◌∙◌, arith}
+use Rattle.std.specs.Prelude.{⊤}
+use Rattle.std.proofs.lemmas.Bool.Decides.{nat_tests}
+use Rattle.obj_id.specs.declared.commands.Reply.{Reply}
+use Rattle.obj_id.specs.declared.ids.JobNo.{JobNo}
+use Rattle.private_store.specs.declared.inputs.Input.{Input}
+use Rattle.private_store.specs.declared.inputs.Judged.{Judged}
+use Rattle.private_store.specs.Contents.{View, judge}
+use Rattle.private_store.specs.Kept.{IsViewKept}
+use Rattle.private_store.specs.Private.{view_step, view_from}
+use Rattle.private_store.specs.Replay.{Brief, Line, brief_after, brief_of, brief_step, replayed, unbegun_brief}
+use Rattle.private_store.proofs.StepsKept.{view_keeps}
+use Rattle.private_store.proofs.Tests.{true_false}
+use Rattle.schedule_text.specs.declared.lines.JobAt.{JobAt}
+use Rattle.journal_text.specs.declared.entry.Entry.{Entry}
+use Rattle.journal_text.specs.declared.entry.Version.TheVariants.{Three}
+use Rattle.journal_text.specs.declared.saved.Answered.{Answered}
+use Rattle.journal_text.specs.Saved.{entry_at, place_of, same_place}
+use Rattle.journal_text.specs.Typed.{IsProper}
+use Rattle.journal_text.proofs.SamePlaces.{same_place-itself}
+use Rattle.journal_replay.specs.Inputs.{judged_of, line_of}
+use Rattle.journal_replay.specs.Replays.{due_after, lines_of, store_of}
+use Rattle.journal_replay.specs.Saved.{AreSound}
+
+abbrev pub place_at : ℕ → ℕ → JobAt
+place_at place job = record { node = place; job = record { 0 = job } }
+
+-- the entries of the job at its node lead to its view, without its contents
+pub record IsTold (place : JobAt) (view : View) (entries : List Entry) : Type 0 where
+  pub kept : IsViewKept view
+  pub replays : store_of Three place entries ≡ brief_of view
+
+-- of all jobs at a place
+abbrev pub AllTold : ℕ → (ℕ → View) → List Entry → Type 0
+AllTold place v entries = (job : ℕ) → IsTold (place_at place job) (v job) entries
+
+-- ---- one entry more
+
+replayed_last : (b : Brief) (lines : List Line) (l : Line) → replayed b (lines ++ l ∷ []) ≡ brief_after (replayed b lines) l.input
+replayed_last b [] l = refl
+replayed_last b (x ∷ xs) l = replayed_last (brief_after b x.input) xs l
+
+module _ (x : Entry) (entries : List Entry) where
+  abbrev here : JobAt
+  here = place_of x.address
+
+  abbrev store_with : Bool → JobAt → Brief
+  store_with b place = replayed (unbegun_brief place.job.0) (cond b (lines_of Three place entries ++ line_of Three x ∷ []) (lines_of Three place entries))
+
+  store_more : store_of Three here (x ∷ entries) ≡ brief_after (store_of Three here entries) (judged_of Three x.address x.input)
+  store_more = ap (λ b. store_with b here) (same_place-itself here) ∙ replayed_last (unbegun_brief here.job.0) (lines_of Three here entries) (line_of Three x)
+
+  store_other : (place : JobAt) → same_place here place ≡ false → store_of Three place (x ∷ entries) ≡ store_of Three place entries
+  store_other place e = ap (λ b. store_with b place) e
+
+  told_other : (place : JobAt) (view : View) → same_place here place ≡ false → IsTold place view entries → IsTold place view (x ∷ entries)
+  told_other place view e h = record { kept = h.kept; replays = store_other place e ∙ h.replays }
+
+  module _ (number : ℕ) (view : View) (input : Input) (is : judged_of Three x.address x.input ≡ judge number view input) (h : IsTold here view entries) where
+    told_more : IsTold here (view_step number view input).view (x ∷ entries)
+    told_more =
+        record {
+          kept = view_keeps number view input h.kept;
+          replays = store_more ∙ ap (brief_after (store_of Three here entries)) is ∙ ap (λ b. brief_after b (judge number view input)) h.replays;
+        }
+
+    -- the answer that the view gives is due
+    pub due_here : x.reply ≡ (brief_step (brief_of view) (judge number view input)).reply → x.reply ≡ due_after Three entries x
+    due_here e = e ∙ sym (ap (λ b. (brief_step b (judge number view input)).reply) h.replays) ∙ sym (ap (λ y. (brief_step (store_of Three here entries) y).reply) is)
+
+-- the input, if the job is this one
+abbrev pub if_own : Bool → Option Input → List Input
+if_own true (Some x) = x ∷ []
+if_own _ _ = []
+
+pub if_none : (b : Bool) → if_own b None ≡ []
+if_none true = refl
+if_none false = refl
+
+same_number : (a b : ℕ) → (a == b) ≡ true → a ≡ b
+same_number a b e = grind (arith, nat_tests, e)
+
+other_job : (place a b : ℕ) → (a == b) ≡ false → ((place == place) && (a == b)) ≡ false
+other_job place a b e = ap (λ t. (place == place) && t) e ∙ by (place == place)
+  where
+    by : (t : Bool) → (t && false) ≡ false
+    by true = refl
+    by false = refl
+
+other_place : (a b : ℕ) (t : Bool) → (a == b) ≡ false → ((a == b) && t) ≡ false
+other_place a b t e = ap (λ s. s && t) e
+
+module _ (place : ℕ) (job : JobNo) (k : ℕ) (line : Answered) (entries : List Entry) where
+  abbrev x : Entry
+  x = entry_at (record { node = place; job = job }) k line
+
+  -- all jobs at the place of an entry more
+  pub entered : (number : ℕ) (v : ℕ → View) (input : Input) → AllTold place v entries → judged_of Three x.address line.input ≡ judge number (v job.0) input
+      → AllTold place (λ j. view_from number (v j) (if_own (job.0 == j) (Some input))) (x ∷ entries)
+  entered number v input told is j = by (job.0 == j) refl
+    where
+      by : (b : Bool) → (job.0 == j) ≡ b → IsTold (place_at place j) (view_from number (v j) (if_own b (Some input))) (x ∷ entries)
+      by true e =
+          subst (λ n. IsTold (place_at place n) (view_step number (v n) input).view (x ∷ entries)) (same_number job.0 j e)
+          (told_more x entries number (v job.0) input is (told job.0))
+      by false e = told_other x entries (place_at place j) (v j) (other_job place job.0 j e) (told j)
+
+  -- and those elsewhere
+  pub entered_elsewhere : (p : ℕ) (w : ℕ → View) → (place == p) ≡ false → AllTold p w entries → AllTold p w (x ∷ entries)
+  entered_elsewhere p w e told j = told_other x entries (place_at p j) (w j) (other_place place p (job.0 == j) e) (told j)
+
+-- ---- no job
+
+below_one : (n : ℕ) → 1 ≤ n → (n == 0) ≡ false
+below_one n h = grind (arith, nat_tests, h)
+
+-- no entry is of number 0
+pub no_lines : (entries : List Entry) → AreSound entries → (node : ℕ) → lines_of Three (place_at node 0) entries ≡ []
+no_lines [] sound node = refl
+no_lines (x ∷ entries) sound node =
+    let other : same_place (place_of x.address) (place_at node 0) ≡ false = by (x.address.node == node) (x.address.job.0 == 0) (below_one x.address.job.0 sound.0.job) in
+    ap (λ b. cond b (lines_of Three (place_at node 0) entries ++ line_of Three x ∷ []) (lines_of Three (place_at node 0) entries)) other ∙ no_lines entries sound.2 node
+  where
+    by : (a b : Bool) → b ≡ false → (a && b) ≡ false
+    by true b e = e
+    by false b e = refl
+
+pub unbegun_here : (node : ℕ) (view : View) (entries : List Entry) → AreSound entries → IsTold (place_at node 0) view entries → brief_of view ≡ unbegun_brief 0
+unbegun_here node view entries sound h = sym h.replays ∙ ap (replayed (unbegun_brief 0)) (no_lines entries sound node)

@@ -1,0 +1,7 @@
+use Rattle.std.proofs.Common.{take}
+use Rattle.std.specs.Prelude.{All}
+use Rattle.journal_text.specs.Typed.{FitsGranted}
+use Rattle.journal_text.proofs.typed.typed_granted.Given as goal
+
+abbrev pub invariant-loop-item : goal.invariant-loop-item
+invariant-loop-item l = All FitsGranted (take l.item-index l.items)
