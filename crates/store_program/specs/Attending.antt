@@ -9,7 +9,8 @@ use Rattle.schedule_text.specs.declared.prefixes.Prefix.TheVariants.{Operator}
 use Rattle.schedule_text.specs.Printing.{line_text}
 use Rattle.schedule_text.specs.Reading.{is_skipped}
 use Rattle.session_threads.specs.declared.cluster.Report.{Report}
-use Rattle.store_program.specs.declared.TheConstants.{LONGEST_LINE, ORDERS}
+use Rattle.store_program.specs.declared.attending.TheConstants.{ORDERS}
+use Rattle.store_program.specs.declared.taking.TheConstants.{LONGEST_LINE}
 use Rattle.store_program.specs.declared.asked.Asked.{Asked}
 use Rattle.store_program.specs.declared.asked.Asked.TheVariants as asked
 use Rattle.store_program.specs.declared.attending.Answer.{Answer}

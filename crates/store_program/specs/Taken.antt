@@ -1,7 +1,7 @@
 -- What is read of a control connection, line by line.
 use Rattle.std.specs.Prelude.{◌≡◌, ◌≢◌, ℕ, ◌<◌, ◌≤◌, Bool, true, false, List, [], ◌∷◌, ◌++◌, length, All, Option}
 use Rattle.std.specs.Io.KnownBytes.{Consumes, IsAtEnd}
-use Rattle.store_program.specs.declared.TheConstants.{LONGEST_LINE}
+use Rattle.store_program.specs.declared.taking.TheConstants.{LONGEST_LINE}
 use Rattle.store_program.specs.declared.taking.Taken.{Taken}
 use Rattle.store_program.specs.declared.taking.Taken.TheVariants.{Line, TooLong, Rest}
 use Rattle.store_program.specs.Lines.{with_feed}

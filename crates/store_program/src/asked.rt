@@ -1,5 +1,5 @@
 //! The lines of a control connection: the operator's, and more.
-ghost use Rattle.std.specs.Prelude.{◌≡◌, ◌×◌, IfOk, map};
+ghost use Rattle.std.specs.Prelude.{◌≡◌, IfOk, map};
 ghost use Rattle.schedule_text.specs.Fields.{Reads};
 ghost use Rattle.schedule_text.specs.Reading.{IsNodeAlone};
 ghost use Rattle.store_program.specs.Asked.{IsAsked, IsJobLook, IsLookAfter, IsLookLine};

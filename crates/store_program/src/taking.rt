@@ -1,5 +1,5 @@
 //! Lines with a bound, of which no more is kept than that.
-ghost use Rattle.std.specs.Prelude.{◌≡◌, ◌∷◌, [], IfOk, OnOk, IfErr, MatchOption};
+ghost use Rattle.std.specs.Prelude.{◌≡◌, ◌∷◌, [], IfOk, IfErr, OnErr, MatchOption};
 ghost use Rattle.std.specs.Io.KnownBytes.{Consumes, IsAtEnd, Keeps};
 ghost use Rattle.store_program.specs.Runs.{IsReadingFault};
 ghost use Rattle.store_program.specs.Taken.{HasTaken, IsKeptByte, IsTaken};

@@ -1,4 +1,6 @@
 //! The threads of a control socket, and the one that takes standard input beside it.
+ghost use Rattle.std.specs.Prelude.{None};
+
 use crate::control::{Asking, Control};
 use crate::patient::Patient;
 use crate::serve_fault::ServeFault;
@@ -6,7 +8,7 @@ use crate::sockets::{SocketFile, bind_alone};
 use session_threads::SharedNode;
 use std::alloc::{AllocError, Global};
 use std::fs::Files;
-use std::io::BufReader;
+use std::io::{BufRead, BufReader, Read};
 use std::net::{Net, Shutdown};
 use std::os::fd::OwnedFd;
 use std::os::unix::net::{UnixListener, UnixStream};
@@ -180,19 +182,55 @@ pub fn take_input<
     }
 }
 
+/// Standard input, of which the server may have no more need.
+#[derive(Drop)]
+struct Input<'a, L: Ledger, R: Wait, S: Drop> {
+    rt: &'a R,
+    control: &'a Control<L>,
+    inner: S,
+}
+
+/// A contract isn't told what is read.
+impl<'a, L: Ledger, R: Wait, S: Read + Drop> Read for Input<'a, L, R, S> {
+    ghost remaining = { λ _. None };
+
+    fn read(&mut self, buf: &mut [u8]) -> io::Result<usize> {
+        self.control.end_piece(self.rt);
+        let count = self.inner.read(buf)?;
+        if self.control.take_piece(self.rt) {
+            Ok(count)
+        } else {
+            Ok(0)
+        }
+    }
+}
+
 /// Carries out the lines of standard input. Its end changes nothing.
 fn serve_input<L: Ledger, R: Wait>(rt: &R, host: HostRuntime, control: &Control<L>) {
-    let Ok(mut reader) = BufReader::new(host.alloc(), Patient::new(host.reader(), host)) else {
+    let inner = Patient::new(host.reader(), host);
+    let input = Input { rt, control, inner };
+    if let Ok(mut reader) = BufReader::new(host.alloc(), input) {
+        carry_out(rt, host, control, &mut reader);
+    } else {
         control.stop(rt, Some(Fault::NoMemory));
-        return;
-    };
+    }
+    control.end_piece(rt);
+}
+
+/// The same of lines that a reader gives.
+fn carry_out<L: Ledger, R: Wait, I: BufRead>(
+    rt: &R,
+    host: HostRuntime,
+    control: &Control<L>,
+    reader: &mut I,
+) {
     let mut writer = Patient::new(io::writer(&host), host);
     match serve_text(
         rt,
         host.alloc(),
         &control.nodes,
         control.count,
-        &mut reader,
+        reader,
         &mut writer,
     ) {
         Ok(LastLine::OfInput) => {}

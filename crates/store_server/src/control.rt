@@ -41,6 +41,8 @@ struct State {
     connections: Vec<Arc<UnixStream>>,
     // connections that wait for the report
     waiting: usize,
+    // lines of standard input are carried out
+    is_reading: bool,
 }
 
 /// The nodes as the operator's lines reach them, and how far the server has come.
@@ -65,6 +67,7 @@ impl<L: Ledger> Control<L> {
                 report: None,
                 connections: Vec::new(alloc),
                 waiting: 0,
+                is_reading: false,
             }),
             changed: Condvar::new(),
         }
@@ -90,7 +93,21 @@ impl<L: Ledger> Control<L> {
         state.fault
     }
 
-    /// No session begins any more. Waits for those that are open, and then until each connection has ended or waits for the report.
+    /// Whether what was read of standard input is to be carried out. Nothing is once no order is taken any more.
+    pub fn take_piece<R: Wait>(&self, rt: &R) -> bool {
+        let mut state = self.state.lock(rt);
+        state.is_reading = state.stage < Stage::Quiet;
+        state.is_reading
+    }
+
+    /// What was read of standard input is carried out.
+    pub fn end_piece<R: Wait>(&self, rt: &R) {
+        self.state.lock(rt).is_reading = false;
+        self.changed.notify_all();
+    }
+
+    /// No session begins any more. Waits for those that are open, and then until no order is carried out: each connection has ended or
+    /// waits for the report, and what was read of standard input is done.
     pub fn quiet<R: Wait>(&self, rt: &R) {
         self.state.lock(rt).stage = Stage::Shut;
         self.changed.notify_all();
@@ -104,7 +121,7 @@ impl<L: Ledger> Control<L> {
             let _ = stream.shutdown(Shutdown::Read);
         }
         let state = self.changed.wait_while(rt, state, |state| {
-            state.connections.len() > state.waiting
+            state.connections.len() > state.waiting || state.is_reading
         });
         drop(state);
     }
@@ -197,6 +214,7 @@ impl<L: Ledger> Control<L> {
 }
 
 /// How a connection lets the server close.
+#[derive(Drop)]
 pub struct Asking<'a, L: Ledger, C: Clock> {
     pub control: &'a Control<L>,
     pub clock: &'a C,

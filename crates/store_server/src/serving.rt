@@ -131,7 +131,7 @@ fn serve_named<
         Ok(()) => Ok(()),
         Err(fault) => Err(tell(host, fault)),
     };
-    let report = end_nodes(rt, cluster, served, outcome.is_ok());
+    let report = end_nodes(&rt, cluster, served, outcome.is_ok());
     outcome?;
     match write_report(alloc, &report, writer) {
         Ok(()) => Ok(()),
@@ -142,30 +142,30 @@ fn serve_named<
 /// Waits for the open sessions, and ends all that serves the nodes. The report is given to who asked for the end on the control
 /// socket, unless it isn't to be told.
 fn end_nodes<L: Ledger, R: Threads + Wait + Files>(
-    rt: R,
+    rt: &R,
     cluster: Cluster<L>,
     served: Served<L>,
     is_told: bool,
 ) -> Report {
-    cluster.shut(&rt);
+    cluster.shut(rt);
     let Served {
         folders,
         workers,
         doors,
         control,
     } = served;
-    close_doors(&rt, doors);
+    close_doors(rt, doors);
     let control = match control {
         Some(connecting) => {
-            connecting.control.quiet(&rt);
-            Some(connecting.end(&rt))
+            connecting.control.quiet(rt);
+            Some(connecting.end(rt))
         }
         None => None,
     };
-    let report = cluster.close(&rt, workers);
+    let report = cluster.close(rt, workers);
     clear_folders(&folders);
     if let Some(control) = control {
-        control.end(&rt, if is_told { Some(report) } else { None });
+        control.end(rt, if is_told { Some(report) } else { None });
     }
     report
 }

@@ -3,7 +3,7 @@ use Rattle.std.proofs.Common.{◌≡◌, ◌≢◌, ℕ, ◌<◌, ◌≤◌, Boo
 use Rattle.std.specs.Prelude.{All}
 use Rattle.std.specs.Io.KnownBytes.{Consumes, IsAtEnd, Keeps}
 use Rattle.private_store.proofs.KnownBytes.{Consumes-none, Consumes-then}
-use Rattle.store_program.specs.declared.TheConstants.{LONGEST_LINE}
+use Rattle.store_program.specs.declared.taking.TheConstants.{LONGEST_LINE}
 use Rattle.store_program.specs.Taken.{HasTaken, HasTakenAll, HasTakenLine, HasTakenLong, IsKeptByte, IsTaking, IsUnbroken}
 
 unbroken_more : (part : List ℕ) (byte : ℕ) → IsUnbroken part → byte ≢ 10 → IsUnbroken (part ++ byte ∷ [])
