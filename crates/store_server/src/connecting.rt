@@ -8,7 +8,7 @@ use crate::sockets::{SocketFile, bind_alone};
 use session_threads::SharedNode;
 use std::alloc::{AllocError, Global};
 use std::fs::Files;
-use std::io::{BufRead, BufReader, Read};
+use std::io::{BufReader, Read};
 use std::net::{Net, Shutdown};
 use std::os::fd::OwnedFd;
 use std::os::unix::net::{UnixListener, UnixStream};
@@ -170,10 +170,10 @@ fn answer_all<L: Ledger, R: Wait + Clock>(
 /// Takes the lines of standard input in a thread of its own, which nobody waits for: it may wait for a line that never comes.
 pub fn take_input<
     L: Ledger + Send + Sync + 'static,
-    R: Threads + Wait + Clock + Copy + Send + 'static,
->(rt: R, host: HostRuntime, control: &Arc<Control<L>>) -> Result<(), ServeFault> {
+    R: Threads + Wait + Clock + Print + Input + Copy + Send + 'static,
+>(rt: R, alloc: Global, control: &Arc<Control<L>>) -> Result<(), ServeFault> {
     let theirs = Arc::try_clone(control)?;
-    let job = move || serve_input(&rt, host, &*theirs);
+    let job = move || serve_input(&rt, alloc, &*theirs);
     match thread::spawn(&rt, job) {
         Ok(_) => Ok(()),
         Err(failed) => Err(ServeFault::Worker {
@@ -184,14 +184,14 @@ pub fn take_input<
 
 /// Standard input, of which the server may have no more need.
 #[derive(Drop)]
-struct Input<'a, L: Ledger, R: Wait, S: Drop> {
+struct Awaited<'a, L: Ledger, R: Wait, S: Drop> {
     rt: &'a R,
     control: &'a Control<L>,
     inner: S,
 }
 
 /// A contract isn't told what is read.
-impl<'a, L: Ledger, R: Wait, S: Read + Drop> Read for Input<'a, L, R, S> {
+impl<'a, L: Ledger, R: Wait, S: Read + Drop> Read for Awaited<'a, L, R, S> {
     ghost remaining = { λ _. None };
 
     fn read(&mut self, buf: &mut [u8]) -> io::Result<usize> {
@@ -206,35 +206,32 @@ impl<'a, L: Ledger, R: Wait, S: Read + Drop> Read for Input<'a, L, R, S> {
 }
 
 /// Carries out the lines of standard input. Its end changes nothing.
-fn serve_input<L: Ledger, R: Wait>(rt: &R, host: HostRuntime, control: &Control<L>) {
-    let inner = Patient::new(host.reader(), host);
-    let input = Input { rt, control, inner };
-    if let Ok(mut reader) = BufReader::new(host.alloc(), input) {
-        carry_out(rt, host, control, &mut reader);
+fn serve_input<L: Ledger, R: Wait + Clock + Print + Input + Copy>(
+    rt: &R,
+    alloc: Global,
+    control: &Control<L>,
+) {
+    let input = Awaited {
+        rt,
+        control,
+        inner: Patient::new(rt.reader(), *rt),
+    };
+    if let Ok(mut reader) = BufReader::new(alloc, input) {
+        let mut writer = Patient::new(io::writer(rt), *rt);
+        match serve_text(
+            rt,
+            alloc,
+            &control.nodes,
+            control.count,
+            &mut reader,
+            &mut writer,
+        ) {
+            Ok(LastLine::OfInput) => {}
+            Ok(LastLine::Close) => control.stop(rt, None),
+            Err(fault) => control.stop(rt, Some(fault)),
+        }
     } else {
         control.stop(rt, Some(Fault::NoMemory));
     }
     control.end_piece(rt);
-}
-
-/// The same of lines that a reader gives.
-fn carry_out<L: Ledger, R: Wait, I: BufRead>(
-    rt: &R,
-    host: HostRuntime,
-    control: &Control<L>,
-    reader: &mut I,
-) {
-    let mut writer = Patient::new(io::writer(&host), host);
-    match serve_text(
-        rt,
-        host.alloc(),
-        &control.nodes,
-        control.count,
-        reader,
-        &mut writer,
-    ) {
-        Ok(LastLine::OfInput) => {}
-        Ok(LastLine::Close) => control.stop(rt, None),
-        Err(fault) => control.stop(rt, Some(fault)),
-    }
 }
