@@ -49,6 +49,10 @@ edits:
 sessions: build
 	tests/sessions
 
+# Orders on the control socket of a built program.
+control: build
+	tests/control
+
 # Malicious clients at a built program (see tests/attack --help).
 attack: build
 	tests/attack
@@ -72,7 +76,7 @@ client-test: build
 client-check:
 	clients/check
 
-# tests/sessions, tests/shared_bytes, tests/journals, the client's tests and the daemon's at the program that is there already, as the gate
+# tests/sessions, tests/control, tests/shared_bytes, tests/journals, the client's tests and the daemon's at the program that is there already, as the gate
 # leaves it, with no new proof; and the tests of pages, of pictures and of who answers that memory ran out, which need none. This is what
 # the gate's script runs after the gate.
 try-built:

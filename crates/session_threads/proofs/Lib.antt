@@ -1,4 +1,4 @@
-mod Crossing
+pub mod Crossing
 mod Erasing
 mod Rounds
 mod SmallLists

@@ -2,3 +2,4 @@ pub mod Witnesses
 pub mod DeviceCalls
 pub mod Gathering
 pub mod Stepping
+pub mod Looking

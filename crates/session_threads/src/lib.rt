@@ -9,8 +9,10 @@ mod frames;
 mod gathered;
 mod leaving;
 mod listening;
+mod looking;
 mod makers;
 mod open_sessions;
+mod open_streams;
 mod posting;
 mod preparing;
 mod session;
@@ -28,6 +30,7 @@ mod working;
 
 pub use cluster::{Cluster, Report};
 pub use listening::{Listening, listen};
+pub use looking::LiveJob;
 pub use session::Session;
 pub use shared::SharedNode;
 pub use working::{WorkDone, Working, work};

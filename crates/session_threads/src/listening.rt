@@ -83,7 +83,7 @@ fn start_session<
     if !has_spare(alloc, &stream) || !node.upkeep.sessions.begin(&rt) {
         return Ok(());
     }
-    let job = move || serve_stream(&rt, alloc, &*theirs, &stream);
+    let job = move || serve_stream(&rt, alloc, &*theirs, stream);
     if thread::spawn(&rt, job).is_err() {
         node.upkeep.sessions.end(&rt);
     }
@@ -111,6 +111,21 @@ fn serve_stream<L: Ledger, R: Wait + Clock>(
     rt: &R,
     alloc: Global,
     node: &SharedNode<L>,
+    stream: UnixStream,
+) {
+    // without memory for its place among the open ones it is closed
+    if let Ok(stream) = node.upkeep.streams.open(rt, alloc, stream) {
+        serve_open(rt, alloc, node, &*stream);
+        node.upkeep.streams.close(rt, &*stream);
+    }
+    node.upkeep.sessions.end(rt);
+}
+
+/// The same of a stream that has its place among the open ones.
+fn serve_open<L: Ledger, R: Wait + Clock>(
+    rt: &R,
+    alloc: Global,
+    node: &SharedNode<L>,
     stream: &UnixStream,
 ) {
     let mut session = Session::of_stream(rt, node, stream);
@@ -121,6 +136,4 @@ fn serve_stream<L: Ledger, R: Wait + Clock>(
         let _ = serve(alloc, &mut reader, &mut writer, &mut session);
     }
     session.check();
-    let _ = stream.shutdown(Shutdown::Both);
-    node.upkeep.sessions.end(rt);
 }

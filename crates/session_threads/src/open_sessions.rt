@@ -73,6 +73,11 @@ impl OpenSessions {
         self.ended.notify_all();
     }
 
+    /// How many are open.
+    pub(crate) fn count<R: Wait>(&self, rt: &R) -> usize {
+        self.sessions.lock(rt).open
+    }
+
     /// Waits for the open sessions to end.
     pub(crate) fn wait_for_all<R: Wait>(&self, rt: &R) {
         let sessions = self

@@ -7,6 +7,7 @@ ghost use Rattle.session_threads.specs.DeviceCalls.{AreErased, IsErasedIf};
 use crate::device_calls::{Finishing, erase_all};
 use crate::makers::Makers;
 use crate::open_sessions::OpenSessions;
+use crate::open_streams::OpenStreams;
 use crate::tally::{Tallies, Tally};
 use crate::waiting::{Stir, Waiting};
 use crate::waiting_keys::WaitingKeys;
@@ -30,6 +31,7 @@ pub(crate) struct Upkeep {
     pub alloc: Global,
     pub tallies: Tallies,
     pub sessions: OpenSessions,
+    pub streams: OpenStreams,
     pub keys: WaitingKeys,
     pub place: WorkPlace,
     pub bell: WorkerBell,
@@ -44,6 +46,7 @@ impl Upkeep {
             alloc,
             tallies: Tallies::new(),
             sessions: OpenSessions::new(alloc),
+            streams: OpenStreams::new(alloc),
             keys: WaitingKeys::new(alloc),
             place: WorkPlace::new(),
             bell: WorkerBell::new(),

@@ -1,10 +1,12 @@
 -- Serving with one line more, and how it ends.
-use Rattle.std.proofs.Common.{◌≡◌, ℕ, suc, ◌+◌, List, [], ◌∷◌, length, Option, Result, Ok, Err, refl, sym, ap, subst, ◌∙◌, inl, inr, arith}
-use Rattle.std.specs.Prelude.{⊤, IfSome}
+use Rattle.std.proofs.Common.{◌≡◌, ℕ, suc, ◌+◌, List, [], ◌∷◌, length, Option, Result, Ok, Err, refl, sym, ap, subst, ◌∙◌, arith}
+use Rattle.std.specs.Prelude.{IfSome}
 use Rattle.std.specs.Io.BufRead.{take_through}
 use Rattle.std.specs.Io.KnownBytes.{Keeps, Consumes, IsAtEnd}
 use Rattle.store_program.specs.declared.fault.Fault.{Fault}
 use Rattle.store_program.specs.declared.fault.Fault.TheVariants.{NotAStep, Input, Output, Socket, Folded, NoMemory}
+use Rattle.store_program.specs.declared.serving.LastLine.{LastLine}
+use Rattle.store_program.specs.declared.serving.LastLine.TheVariants.{Close, OfInput}
 use Rattle.store_program.specs.Lines.{with_feed}
 use Rattle.store_program.specs.Runs.{IsReadingFault}
 use Rattle.store_program.specs.Servings.{Obeys, StopsOrder, Serving, ServingEnds, IsWritten, Served, close_line, orders_of, answers_of}
@@ -28,7 +30,7 @@ module _ (nodes number : ℕ) (a r b w : Option (List ℕ)) (so_far : Serving no
         }
 
     module _ (count : ℕ) where
-      ended : (w1 : Option (List ℕ)) (result : Result ⊤ Fault) → IsWritten b w1 (answers_of so_far.lines) result
+      ended : (w1 : Option (List ℕ)) (result : Result LastLine Fault) → IsWritten b w1 (answers_of so_far.lines) result
           → ServingEnds nodes count (suc (length so_far.lines)) a (orders_of so_far.lines) bytes result → Served nodes count a r1 b w1 result
       ended w1 result written ends =
           record {
@@ -48,11 +50,11 @@ module _ (nodes number : ℕ) (a r b w : Option (List ℕ)) (so_far : Serving no
       reading_failed Input is = ended w (Err Input) so_far.written tt
       reading_failed NoMemory is = ended w (Err NoMemory) so_far.written tt
 
-      pub input_ended : IsAtEnd r → Served nodes count a r1 b w (Ok tt)
-      input_ended end = ended w (Ok tt) so_far.written (inr (Consumes-all a r (orders_of so_far.lines) so_far.consumed end))
+      pub input_ended : IsAtEnd r → Served nodes count a r1 b w (Ok OfInput)
+      input_ended end = ended w (Ok OfInput) so_far.written (Consumes-all a r (orders_of so_far.lines) so_far.consumed end)
 
-      pub closed : (w1 : Option (List ℕ)) → bytes ≡ close_line → Keeps w w1 → Served nodes count a r1 b w1 (Ok tt)
-      closed w1 is kept = ended w1 (Ok tt) (Appends-kept b w w1 (answers_of so_far.lines) so_far.written kept) (inl is)
+      pub closed : (w1 : Option (List ℕ)) → bytes ≡ close_line → Keeps w w1 → Served nodes count a r1 b w1 (Ok Close)
+      closed w1 is kept = ended w1 (Ok Close) (Appends-kept b w w1 (answers_of so_far.lines) so_far.written kept) is
 
       pub line_stopped : IfSome r (λ left. bytes ≡ take_through 10 left) → (w1 : Option (List ℕ)) (fault : Fault) → StopsOrder nodes count number bytes w w1 fault → Served nodes count a r1 b w1 (Err fault)
       line_stopped whole w1 (NotAStep n) stops =

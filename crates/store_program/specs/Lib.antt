@@ -6,3 +6,7 @@ pub mod Orders
 pub mod Runs
 pub mod Servings
 pub mod Workers
+pub mod Asked
+pub mod Attending
+pub mod Looks
+pub mod Taken

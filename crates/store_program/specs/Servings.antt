@@ -1,5 +1,5 @@
 -- The operator's lines that were carried out, and what was printed for them.
-use Rattle.std.specs.Prelude.{◌≡◌, ℕ, suc, false, true, Bool, List, [], ◌∷◌, ◌++◌, length, Option, IfSome, Result, Ok, Err, codes, decimal, ⊤, ◌⊎◌}
+use Rattle.std.specs.Prelude.{◌≡◌, ℕ, suc, false, true, Bool, List, [], ◌∷◌, ◌++◌, length, Option, IfSome, Result, Ok, Err, codes, decimal, ⊤}
 use Rattle.std.specs.Io.KnownBytes.{Appends, Consumes, Keeps}
 use Rattle.std.specs.Str.{IsUtf8}
 use Rattle.obj_id.specs.declared.commands.Reply.{Reply}
@@ -12,6 +12,8 @@ use Rattle.store_program.specs.declared.fault.Fault.TheVariants.{NotAStep, Input
 use Rattle.store_program.specs.declared.operator.Change.{Change}
 use Rattle.store_program.specs.declared.operator.Order.{Order}
 use Rattle.store_program.specs.declared.operator.Order.TheVariants as order
+use Rattle.store_program.specs.declared.serving.LastLine.{LastLine}
+use Rattle.store_program.specs.declared.serving.LastLine.TheVariants.{Close, OfInput}
 use Rattle.store_program.specs.Lines.{with_feed}
 use Rattle.store_program.specs.Orders.{IsOrder, IsWithin}
 use Rattle.store_program.specs.Runs.{IsNextLine}
@@ -95,10 +97,11 @@ pub record Serving (nodes number : ℕ) (read_old read_new written_old written_n
   pub consumed : Consumes read_old read_new (orders_of lines)
   pub written : Appends written_old written_new (answers_of lines)
 
--- it ends without a fault at `close`, or once the lines are the whole input; a fault for a line tells its number, and the line is
--- the next one of the input, and none of the operator's
-abbrev pub ServingEnds : ℕ → ℕ → ℕ → Option (List ℕ) → List ℕ → List ℕ → Result ⊤ Fault → Type 0
-ServingEnds nodes count number read_old input rest (Ok u) = (rest ≡ close_line) ⊎ IfSome read_old (λ all. all ≡ input)
+-- it ends without a fault at `close`, or once the lines are the whole input, and tells which; a fault for a line tells its number, and
+-- the line is the next one of the input, and none of the operator's
+abbrev pub ServingEnds : ℕ → ℕ → ℕ → Option (List ℕ) → List ℕ → List ℕ → Result LastLine Fault → Type 0
+ServingEnds nodes count number read_old input rest (Ok Close) = rest ≡ close_line
+ServingEnds nodes count number read_old input rest (Ok OfInput) = IfSome read_old (λ all. all ≡ input)
 ServingEnds nodes count number read_old input rest (Err (NotAStep n)) = (n ≡ number) × IsNoOrder nodes count rest × IsNextLine read_old input rest
 ServingEnds nodes count number read_old input rest (Err Input) = ⊤
 ServingEnds nodes count number read_old input rest (Err Output) = ⊤
@@ -107,7 +110,7 @@ ServingEnds nodes count number read_old input rest (Err Folded) = ⊥
 ServingEnds nodes count number read_old input rest (Err NoMemory) = ⊤
 
 -- what was written; if the output failed, nobody knows
-abbrev pub IsWritten : Option (List ℕ) → Option (List ℕ) → List ℕ → Result ⊤ Fault → Type 0
+abbrev pub IsWritten : {A : Type 0} → Option (List ℕ) → Option (List ℕ) → List ℕ → Result A Fault → Type 0
 IsWritten written_old written_new text (Ok u) = Appends written_old written_new text
 IsWritten written_old written_new text (Err (NotAStep n)) = Appends written_old written_new text
 IsWritten written_old written_new text (Err Input) = Appends written_old written_new text
@@ -117,7 +120,7 @@ IsWritten written_old written_new text (Err Folded) = ⊥
 IsWritten written_old written_new text (Err NoMemory) = Appends written_old written_new text
 
 -- the whole of it, at a cluster of so many nodes, which lines may name up to another number
-pub record Served (nodes count : ℕ) (read_old read_new written_old written_new : Option (List ℕ)) (result : Result ⊤ Fault) : Type 0 where
+pub record Served (nodes count : ℕ) (read_old read_new written_old written_new : Option (List ℕ)) (result : Result LastLine Fault) : Type 0 where
   -- newest first
   pub lines : List Obeyed
   -- what was read of the line after them

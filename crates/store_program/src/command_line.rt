@@ -39,6 +39,8 @@ pub struct Serving<'a> {
     pub socket: &'a str,
     /// Node K spills into the folder K of this one.
     pub spill: &'a str,
+    /// The operator's lines are taken on the Unix socket of this path too, if there is one.
+    pub control: Option<&'a str>,
     /// Whether the nodes may have more memory in all than the machine has.
     pub overcommit: bool,
 }
@@ -115,6 +117,12 @@ fn serve_command<'a>(alloc: Global) -> Result<Command<'a>, AllocError> {
             ),
         )?
         .arg(
+            path_option(alloc, "control")
+                .required(false)
+                .value_name("PATH")
+                .help("The Unix socket that takes the operator's lines too, and more"),
+        )?
+        .arg(
             Arg::new(alloc, "overcommit")
                 .long("overcommit")
                 .action(ArgAction::SetTrue)
@@ -176,6 +184,7 @@ fn serving_asked<'a>(options: &ArgMatches<'a>) -> Option<Serving<'a>>
         shape,
         socket,
         spill,
+        control: options.get_str("control"),
         overcommit: options.get_flag("overcommit"),
     })
 }

@@ -3,18 +3,25 @@
 //! is said of a fault, and the status at the end.
 #![tactic(auto)]
 
+mod asked;
+mod attending;
 mod command_line;
 mod fault;
 mod journal;
 mod lines;
+mod looks;
 mod operator;
 mod run;
 mod serving;
+mod taking;
 mod workers;
 
+pub use asked::{Asked, Look, read_asked};
+pub use attending::{Closing, attend};
 pub use command_line::{ScheduleRun, Serving, Task, read_task, status_of_error};
 pub use fault::{Fault, status_of};
 pub use journal::{Keep, RunJournal};
 pub use operator::{Order, read_order};
 pub use run::run_text;
-pub use serving::{serve_text, write_report};
+pub use serving::{LastLine, serve_text, write_report};
+pub use taking::LONGEST_LINE;

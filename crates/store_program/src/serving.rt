@@ -1,5 +1,5 @@
-//! A cluster that serves, as its operator has it.
-ghost use Rattle.std.specs.Prelude.{◌≡◌, IfOk, OnOk, IfErr, IfSome, vec_len};
+//! Nodes that serve, as their operator has them on standard input.
+ghost use Rattle.std.specs.Prelude.{◌≡◌, ◌↔◌, ◌<◌, IfOk, OnOk, IfErr, IfSome, IsSome, length};
 ghost use Rattle.std.specs.Io.KnownBytes.{Appends};
 ghost use Rattle.std.specs.Str.{IsUtf8};
 ghost use Rattle.private_store.specs.declared.schedules.StepAnswer.TheVariants.{Told};
@@ -18,12 +18,21 @@ use bytes::Bytes;
 use obj_id::Reply;
 use private_store::StepAnswer;
 use schedule_text::{Prefix, answer_line};
-use session_threads::{Cluster, Report, SharedNode};
+use session_threads::{Report, SharedNode};
 use std::alloc::{AllocError, Global};
 use std::io::{BufRead, Write};
 use std::str;
-use std::sync::Wait;
 use std::sync::ledger::Ledger;
+use std::sync::{Arc, Wait};
+
+/// What the operator's lines ended with.
+#[derive(Clone, Copy, Debug, PartialEq, Eq)]
+pub enum LastLine {
+    /// `close`.
+    Close,
+    /// The last one of the input.
+    OfInput,
+}
 
 /// Carries out the operator's lines that the reader gives, up to `close` or the end of the input, and writes a line for each
 /// but `close`.
@@ -35,23 +44,23 @@ use std::sync::ledger::Ledger;
 pub fn serve_text<L: Ledger, R: Wait, I: BufRead, O: Write>(
     rt: &R,
     alloc: Global,
-    cluster: &Cluster<L>,
-    nodes: u32,
+    nodes: &[Arc<SharedNode<L>>],
+    count: u32,
     reader: &mut I,
     writer: &mut O,
-) -> Result<(), Fault>
-    ensures { Served nodes (vec_len cluster.now.nodes) (I.remaining reader.old) (I.remaining reader.new) (O.contents writer.old) (O.contents writer.new) result }
+) -> Result<LastLine, Fault>
+    ensures { Served count (length nodes.now) (I.remaining reader.old) (I.remaining reader.new) (O.contents writer.old) (O.contents writer.new) result }
 {
     let mut line = Vec::new(alloc);
     for number in 1..u64::MAX {
         match next_line(reader, &mut line) {
             Err(fault) => return Err(fault),
-            Ok(false) => return Ok(()),
+            Ok(false) => return Ok(LastLine::OfInput),
             Ok(true) => {}
         }
-        match serve_line(rt, alloc, cluster, nodes, number, &line, writer) {
+        match serve_line(rt, alloc, nodes, count, number, &line, writer) {
             Err(fault) => return Err(fault),
-            Ok(false) => return Ok(()),
+            Ok(false) => return Ok(LastLine::Close),
             Ok(true) => {}
         }
     }
@@ -64,25 +73,25 @@ pub fn serve_text<L: Ledger, R: Wait, I: BufRead, O: Write>(
 fn serve_line<L: Ledger, R: Wait, O: Write>(
     rt: &R,
     alloc: Global,
-    cluster: &Cluster<L>,
-    nodes: u32,
+    nodes: &[Arc<SharedNode<L>>],
+    count: u32,
     number: u64,
     line: &[u8],
     writer: &mut O,
 ) -> Result<bool, Fault>
-    ensures ok { IfOk result (ServesLine nodes line.now (O.contents writer.old) (O.contents writer.new)) }
-    ensures err { IfErr result (StopsOrder nodes (vec_len cluster.now.nodes) number line.now (O.contents writer.old) (O.contents writer.new)) }
+    ensures ok { IfOk result (ServesLine count line.now (O.contents writer.old) (O.contents writer.new)) }
+    ensures err { IfErr result (StopsOrder count (length nodes.now) number line.now (O.contents writer.old) (O.contents writer.new)) }
 {
     let Some((b'\n', text)) = line.split_last() else {
         return Err(Fault::NotAStep(number))
     };
-    match hear_order(alloc, text, nodes) {
+    match hear_order(alloc, text, count) {
         Err(AllocError) => Err(Fault::NoMemory),
         Ok(None) => Err(Fault::NotAStep(number)),
         Ok(Some(Order::Close)) => Ok(false),
-        Ok(Some(Order::Change(node, change))) => match cluster.node(node) {
+        Ok(Some(Order::Change(node, change))) => match node_at(nodes, node) {
             None => Err(Fault::NotAStep(number)),
-            Some(shared) => match answer_change(rt, alloc, &**shared, node, change, writer) {
+            Some(shared) => match answer_change(rt, alloc, shared, node, change, writer) {
                 Err(fault) => Err(fault),
                 Ok(()) => Ok(true),
             },
@@ -113,12 +122,34 @@ fn answer_change<L: Ledger, R: Wait, O: Write>(
     ensures ok { OnOk result (Replies node (O.contents writer.old) (O.contents writer.new)) }
     ensures err { IfErr result (StopsReply (O.contents writer.old) (O.contents writer.new)) }
 {
+    write_answer(alloc, node, carry_out(rt, shared, change), writer)
+}
+
+/// Makes a change at the node, and gives its reply.
+pub(crate) fn carry_out<L: Ledger, R: Wait>(
+    rt: &R,
+    shared: &SharedNode<L>,
+    change: Change,
+) -> Reply<Bytes> {
     let (reply, _receipt) = match change {
         Change::Admit(job, quota, key) => shared.admit(rt, job, quota, key),
         Change::Requota(job, quota) => shared.requota(rt, job, quota),
         Change::End(job) => shared.end_job(rt, job),
     };
-    write_answer(alloc, node, reply, writer)
+    reply
+}
+
+/// The node of this number, if there is one.
+pub(crate) fn node_at<L: Ledger>(
+    nodes: &[Arc<SharedNode<L>>],
+    number: u32,
+) -> Option<&SharedNode<L>>
+    ensures { IsSome result ↔ (number < length nodes.now) }
+{
+    match nodes.get(number as usize) {
+        Some(shared) => Some(&**shared),
+        None => None,
+    }
 }
 
 /// Writes the line of an answer to the operator, and hands it over.
@@ -138,7 +169,7 @@ fn write_answer<O: Write>(
 }
 
 /// Writes bytes, and hands them over.
-fn hand_over<O: Write>(bytes: &[u8], writer: &mut O) -> Result<(), Fault>
+pub(crate) fn hand_over<O: Write>(bytes: &[u8], writer: &mut O) -> Result<(), Fault>
     ensures ok { OnOk result (Appends (O.contents writer.old) (O.contents writer.new) bytes.now) }
     ensures err { IfErr result (λ fault. fault ≡ Output) }
 {
@@ -163,7 +194,7 @@ pub fn write_report<O: Write>(alloc: Global, report: &Report, writer: &mut O) ->
 }
 
 /// The line of a report.
-fn report_line(alloc: Global, report: &Report) -> Result<String, AllocError>
+pub(crate) fn report_line(alloc: Global, report: &Report) -> Result<String, AllocError>
     ensures { IfOk result (λ line. string_bytes line ≡ report_line report.now) }
 {
     let Report {

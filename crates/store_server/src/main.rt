@@ -4,10 +4,13 @@
 ghost use Rattle.std.specs.Prelude.{◌≡◌, true};
 ghost use Rattle.world_core.specs.Worlds.{is_shape};
 
+mod connecting;
+mod control;
 mod machine;
 mod patient;
 mod serve_fault;
 mod serving;
+mod sockets;
 
 use journal_replay::{ReplayFault, Verdict, replay_text, status_of as status_of_replay};
 use serve_fault::Told;

@@ -2,38 +2,29 @@
 ghost use Rattle.std.specs.Prelude.{◌≡◌, true};
 ghost use Rattle.world_core.specs.Worlds.{is_shape};
 
+use crate::connecting::{Connecting, connect_control, take_input};
 use crate::machine::machine_memory;
 use crate::patient::Patient;
 use crate::serve_fault::{ServeFault, Told};
-use session_threads::{Cluster, Listening, SharedNode, Working, listen, work};
+use crate::sockets::{SocketFile, bind};
+use session_threads::{Cluster, Listening, Report, SharedNode, Working, listen, work};
 use spill_device::{FileDevice, SpillFolder};
-use std::alloc::Global;
+use std::alloc::{AllocError, Global};
 use std::fs::Files;
-use std::io::{BufRead, BufReader, ErrorKind, Read, Write};
+use std::io::{BufRead, BufReader, Read, Write};
 use std::marker::Brand;
 use std::net::Net;
-use std::os::unix::fs::{FileTypeExt, MetadataExt};
-use std::os::unix::net::{UnixListener, UnixStream};
 use std::sync::ledger::{Blank, Ledger};
 use std::sync::{Arc, Wait};
 use std::thread::Threads;
 use std::time::Clock;
-use std::{fs, io};
 use store_program::{Fault, Serving, serve_text, write_report};
 
-/// The socket of a node, and which file it is.
+/// The socket of a node.
 #[derive(Drop)]
 struct Door {
-    path: String,
-    inode: Option<Inode>,
+    file: SocketFile,
     listening: Listening,
-}
-
-/// Which file a path names, whatever its name.
-#[derive(Clone, Copy, PartialEq, Eq)]
-struct Inode {
-    device: u64,
-    number: u64,
 }
 
 /// What serves the nodes.
@@ -42,15 +33,16 @@ struct Served<L: Ledger> {
     folders: Vec<SpillFolder>,
     workers: Vec<Working<L>>,
     doors: Vec<Door>,
+    control: Option<Connecting<L>>,
 }
 
 /// Serves the sockets of all nodes, which fetch from one another, carries out the operator's lines that the reader gives, and
-/// writes their answers, and a report at the end.
+/// writes their answers, and a report at the end. With a control socket the lines of standard input are taken beside it.
 ///
 /// `store: ready` is written to standard error once all sockets listen, and a fault as soon as it comes. After a fault nothing is
 /// reported. Sessions that are open are waited for, whatever ended the operator's lines. Then no spilled object is left in the folders.
 pub fn serve<
-    R: Threads + Wait + Clock + Files + Net + Copy + Send + 'static,
+    R: Threads + Wait + Clock + Files + Net + Print + Input + Copy + Send + 'static,
     I: Read + Drop,
     O: Write + Drop,
 >(rt: R, host: HostRuntime, serving: Serving<'_>, reader: I, writer: O) -> Result<(), Told>
@@ -99,7 +91,7 @@ fn memory_fault(host: &HostRuntime, serving: &Serving<'_>) -> Option<ServeFault>
 /// The same, under a name.
 fn serve_named<
     L: Ledger + Send + Sync + 'static,
-    R: Threads + Wait + Clock + Files + Net + Copy + Send + 'static,
+    R: Threads + Wait + Clock + Files + Net + Print + Input + Copy + Send + 'static,
     I: BufRead,
     O: Write,
 >(
@@ -125,11 +117,12 @@ fn serve_named<
         folders: Vec::new(alloc),
         workers: Vec::new(alloc),
         doors: Vec::new(alloc),
+        control: None,
     };
     let outcome = match cluster.connect(rt) {
         Err(_) => Err(ServeFault::Fault(Fault::NoMemory)),
         Ok(()) => match open_nodes(rt, host, &cluster, serving, &mut served) {
-            Ok(()) => take_orders(&rt, host, &cluster, nodes, reader, writer),
+            Ok(()) => take_orders(rt, host, &cluster, serving, reader, writer, &mut served),
             Err(fault) => Err(fault),
         },
     };
@@ -138,15 +131,7 @@ fn serve_named<
         Ok(()) => Ok(()),
         Err(fault) => Err(tell(host, fault)),
     };
-    cluster.shut(&rt);
-    let Served {
-        folders,
-        workers,
-        doors,
-    } = served;
-    close_doors(&rt, doors);
-    let report = cluster.close(&rt, workers);
-    clear_folders(&folders);
+    let report = end_nodes(&rt, cluster, served, outcome.is_ok());
     outcome?;
     match write_report(alloc, &report, writer) {
         Ok(()) => Ok(()),
@@ -154,21 +139,90 @@ fn serve_named<
     }
 }
 
-/// Says that all sockets listen, and carries out the operator's lines.
-fn take_orders<L: Ledger, R: Wait, I: BufRead, O: Write>(
+/// Waits for the open sessions, and ends all that serves the nodes. The report is given to who asked for the end on the control
+/// socket, unless it isn't to be told.
+fn end_nodes<L: Ledger, R: Threads + Wait + Files>(
     rt: &R,
+    cluster: Cluster<L>,
+    served: Served<L>,
+    is_told: bool,
+) -> Report {
+    cluster.shut(rt);
+    let Served {
+        folders,
+        workers,
+        doors,
+        control,
+    } = served;
+    close_doors(rt, doors);
+    let control = match control {
+        Some(connecting) => {
+            connecting.control.quiet(rt);
+            Some(connecting.end(rt))
+        }
+        None => None,
+    };
+    let report = cluster.close(rt, workers);
+    clear_folders(&folders);
+    if let Some(control) = control {
+        control.end(rt, if is_told { Some(report) } else { None });
+    }
+    report
+}
+
+/// Opens the control socket, if there is to be one, says that all sockets listen, and carries out the operator's lines.
+fn take_orders<
+    L: Ledger + Send + Sync + 'static,
+    R: Threads + Wait + Clock + Files + Net + Print + Input + Copy + Send + 'static,
+    I: BufRead,
+    O: Write,
+>(
+    rt: R,
     host: HostRuntime,
     cluster: &Cluster<L>,
-    nodes: u32,
+    serving: Serving<'_>,
     reader: &mut I,
     writer: &mut O,
+    served: &mut Served<L>,
 ) -> Result<(), ServeFault> {
-    // who reads no standard error is served all the same
-    let _ = host.eprintln("store: ready");
-    match serve_text(rt, host.alloc(), cluster, nodes, reader, writer) {
-        Ok(()) => Ok(()),
-        Err(fault) => Err(ServeFault::Fault(fault)),
+    let count = serving.shape.nodes;
+    let nodes = nodes_of(host.alloc(), cluster)?;
+    let Some(path) = serving.control else {
+        say_ready(host);
+        return match serve_text(&rt, host.alloc(), &nodes, count, reader, writer) {
+            Ok(_) => Ok(()),
+            Err(fault) => Err(ServeFault::Fault(fault)),
+        };
+    };
+    let connecting = connect_control(rt, host.alloc(), nodes, count, path)?;
+    let control = Arc::try_clone(&connecting.control)?;
+    served.control = Some(connecting);
+    say_ready(host);
+    take_input(rt, host.alloc(), &control)?;
+    match control.await_stop(&rt) {
+        None => Ok(()),
+        Some(fault) => Err(ServeFault::Fault(fault)),
     }
+}
+
+/// Says that all sockets listen. Who reads no standard error is served all the same.
+fn say_ready(host: HostRuntime) {
+    let _ = host.eprintln("store: ready");
+}
+
+/// The nodes of the cluster, by number.
+fn nodes_of<L: Ledger>(
+    alloc: Global,
+    cluster: &Cluster<L>,
+) -> Result<Vec<Arc<SharedNode<L>>>, AllocError> {
+    let mut nodes = Vec::new(alloc);
+    for number in 0..u32::MAX {
+        let Some(node) = cluster.node(number) else {
+            break;
+        };
+        nodes.push(Arc::try_clone(node)?)?;
+    }
+    Ok(nodes)
 }
 
 /// Starts the workers and opens the sockets of all nodes.
@@ -238,66 +292,25 @@ fn open_door<
         Ok(listener) => listener,
         Err(error) => return Err(ServeFault::Socket { path, error }),
     };
-    let inode = inode_of(&rt, path.as_str());
+    let file = SocketFile::new(&rt, path);
     match listen(rt, alloc, node, listener) {
-        Ok(listening) => Ok(Door {
-            path,
-            inode,
-            listening,
-        }),
+        Ok(listening) => Ok(Door { file, listening }),
         Err(error) => {
-            let _ = fs::remove_file(&rt, path.as_str());
-            Err(ServeFault::Socket { path, error })
+            file.remove(&rt);
+            Err(ServeFault::Socket {
+                path: file.into_path(),
+                error,
+            })
         }
     }
-}
-
-/// Opens the socket of this path. A socket that an earlier process left there, and that nobody listens on, is removed. Any other
-/// file stays, and then there is no socket.
-fn bind<R: Files + Net>(rt: &R, path: &str) -> io::Result<UnixListener> {
-    if let Ok(listener) = UnixListener::bind(rt, path) {
-        return Ok(listener);
-    }
-    if is_left(rt, path) {
-        fs::remove_file(rt, path)?;
-    }
-    UnixListener::bind(rt, path)
-}
-
-/// Whether there is a socket of this path of which the system says that nobody listens on it.
-fn is_left<R: Files + Net>(rt: &R, path: &str) -> bool {
-    match fs::symlink_metadata(rt, path) {
-        Ok(there) => there.file_type().is_socket() && is_refused(UnixStream::connect(rt, path)),
-        Err(_) => false,
-    }
-}
-
-/// Whether nobody accepts such a connection.
-fn is_refused(connected: io::Result<UnixStream>) -> bool {
-    matches!(connected, Err(error) if error.kind() == ErrorKind::ConnectionRefused)
-}
-
-/// Which file the path names, if there is one.
-fn inode_of<R: Files>(rt: &R, path: &str) -> Option<Inode> {
-    let there = fs::symlink_metadata(rt, path).ok()?;
-    Some(Inode {
-        device: there.dev(),
-        number: there.ino(),
-    })
 }
 
 /// Accepts no stream any more, and removes the sockets' files, unless somebody has put others in their places.
 fn close_doors<R: Threads + Files>(rt: &R, doors: Vec<Door>) {
     for door in doors {
-        let Door {
-            path,
-            inode,
-            listening,
-        } = door;
+        let Door { file, listening } = door;
         let _ = listening.end(rt);
-        if inode_of(rt, path.as_str()) == inode {
-            let _ = fs::remove_file(rt, path.as_str());
-        }
+        file.remove(rt);
     }
 }
 

@@ -1,11 +1,10 @@
-use Rattle.std.proofs.Common.{◌≡◌, subst}
-use Rattle.std.specs.Prelude.{vec_len}
+use Rattle.std.proofs.Common.{◌≡◌, length, subst}
 use Rattle.store_program.specs.Servings.{Obeys, ServesLine, StopsOrder, close_line}
 use Rattle.store_program.proofs.Serves.{begun, reading_failed, input_ended, closed, line_stopped, line_more, too_many}
 use Rattle.store_program.proofs.serving.serve_text.Goals as goal
 
 pub loop-number-init : goal.loop-number-init
-loop-number-init g c = begun c.args.nodes _ _
+loop-number-init g c = begun c.args.count _ _
 
 pub returns-in-Err : goal.returns-in-Err
 returns-in-Err g c = reading_failed _ _ _ _ _ _ c.loop-number.invariant _ _ c.next_line.ensures.consumed _ c.in-Err.fault c.in-Err.ensures.fault
@@ -17,22 +16,22 @@ pub returns-in-Err-serve_line : goal.returns-in-Err-serve_line
 returns-in-Err-serve_line g c =
     let w = g.O.Write.contents c.loop-number.writer in
     let w1 = g.O.Write.contents c.serve_line.new.writer in
-    let stops = subst (λ b. StopsOrder c.args.nodes (vec_len c.args.cluster.now.nodes) c.loop-number.number b w w1 c.in-Err-serve_line.fault) c.deref.ensures.value c.in-Err-serve_line.ensures.err in
+    let stops = subst (λ b. StopsOrder c.args.count (length c.args.nodes.now) c.loop-number.number b w w1 c.in-Err-serve_line.fault) c.deref.ensures.value c.in-Err-serve_line.ensures.err in
     line_stopped _ _ _ _ _ _ c.loop-number.invariant _ _ c.next_line.ensures.consumed _ c.in-Ok-true.ensures.whole _ c.in-Err-serve_line.fault stops
 
 pub returns-in-Ok-false-serve_line : goal.returns-in-Ok-false-serve_line
 returns-in-Ok-false-serve_line g c =
     let w = g.O.Write.contents c.loop-number.writer in
     let w1 = g.O.Write.contents c.serve_line.new.writer in
-    let told = subst (λ go. ServesLine c.args.nodes c.deref.result.now w w1 go) c.in-Ok-false-serve_line.field-0-test c.in-Ok-false-serve_line.ensures.ok in
+    let told = subst (λ go. ServesLine c.args.count c.deref.result.now w w1 go) c.in-Ok-false-serve_line.field-0-test c.in-Ok-false-serve_line.ensures.ok in
     closed _ _ _ _ _ _ c.loop-number.invariant _ _ c.next_line.ensures.consumed _ w1 (subst (λ b. b ≡ close_line) c.deref.ensures.value told.0) told.1
 
 pub loop-number-preserved : goal.loop-number-preserved
 loop-number-preserved g c =
     let w = g.O.Write.contents c.loop-number.writer in
     let w1 = g.O.Write.contents c.serve_line.new.writer in
-    let told = subst (λ go. ServesLine c.args.nodes c.deref.result.now w w1 go) c.in-Ok-true-serve_line.field-0-test c.in-Ok-true-serve_line.ensures.ok in
-    line_more _ _ _ _ _ _ c.loop-number.invariant _ _ c.next_line.ensures.consumed w1 (subst (λ b. Obeys c.args.nodes b w w1) c.deref.ensures.value told)
+    let told = subst (λ go. ServesLine c.args.count c.deref.result.now w w1 go) c.in-Ok-true-serve_line.field-0-test c.in-Ok-true-serve_line.ensures.ok in
+    line_more _ _ _ _ _ _ c.loop-number.invariant _ _ c.next_line.ensures.consumed w1 (subst (λ b. Obeys c.args.count b w w1) c.deref.ensures.value told)
 
 pub returns : goal.returns
 returns g c = too_many _ _ _ _ _ _ c.loop-number.invariant _

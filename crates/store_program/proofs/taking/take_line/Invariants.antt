@@ -1,0 +1,5 @@
+use Rattle.store_program.specs.Taken.{IsTaking}
+use Rattle.store_program.proofs.taking.take_line.Given as goal
+
+abbrev pub invariant-loop : goal.invariant-loop
+invariant-loop g l = IsTaking (g.R.Read.remaining l.fn.reader) (g.R.Read.remaining l.reader) l.line.items l.is_long

@@ -1,0 +1,56 @@
+-- What is read of a control connection, line by line.
+use Rattle.std.specs.Prelude.{◌≡◌, ◌≢◌, ℕ, ◌<◌, ◌≤◌, Bool, true, false, List, [], ◌∷◌, ◌++◌, length, All, Option}
+use Rattle.std.specs.Io.KnownBytes.{Consumes, IsAtEnd}
+use Rattle.store_program.specs.declared.taking.TheConstants.{LONGEST_LINE}
+use Rattle.store_program.specs.declared.taking.Taken.{Taken}
+use Rattle.store_program.specs.declared.taking.Taken.TheVariants.{Line, TooLong, Rest}
+use Rattle.store_program.specs.Lines.{with_feed}
+
+-- no line feed is among these bytes
+abbrev pub IsUnbroken : List ℕ → Type 0
+IsUnbroken bytes = All (λ byte. byte ≢ 10) bytes
+
+-- bytes were read, none of which is a line feed
+pub record HasTaken (read_old read_new : Option (List ℕ)) : Type 0 where
+  pub part : List ℕ
+  pub unbroken : IsUnbroken part
+  pub consumed : Consumes read_old read_new part
+
+-- the same, and there are no more
+pub record HasTakenAll (read_old read_new : Option (List ℕ)) : Type 0 where
+  pub part : List ℕ
+  pub unbroken : IsUnbroken part
+  pub consumed : Consumes read_old read_new part
+  pub at_end : IsAtEnd read_new
+
+-- a line was read with its line feed
+pub record HasTakenLine (read_old read_new : Option (List ℕ)) (line : List ℕ) : Type 0 where
+  pub unbroken : IsUnbroken line
+  pub consumed : Consumes read_old read_new (with_feed line)
+  pub within : length line ≤ LONGEST_LINE
+
+-- the same of one that is too long
+pub record HasTakenLong (read_old read_new : Option (List ℕ)) : Type 0 where
+  pub line : List ℕ
+  pub unbroken : IsUnbroken line
+  pub consumed : Consumes read_old read_new (with_feed line)
+  pub long : LONGEST_LINE < length line
+
+abbrev pub IsTaken : Option (List ℕ) → Option (List ℕ) → List ℕ → Taken → Type 0
+IsTaken read_old read_new line Line = HasTakenLine read_old read_new line
+IsTaken read_old read_new line TooLong = HasTakenLong read_old read_new
+IsTaken read_old read_new line Rest = HasTakenAll read_old read_new
+
+-- the byte is kept after those of the line, or the line is too long with it
+abbrev pub IsKeptByte : Bool → List ℕ → ℕ → List ℕ → Type 0
+IsKeptByte true old byte new = (new ≡ old ++ byte ∷ []) × (length new ≤ LONGEST_LINE)
+IsKeptByte false old byte new = (new ≡ old) × (LONGEST_LINE ≤ length old)
+
+-- a line so far
+pub record IsTaking (read_old read_new : Option (List ℕ)) (line : List ℕ) (is_long : Bool) : Type 0 where
+  pub part : List ℕ
+  pub unbroken : IsUnbroken part
+  pub consumed : Consumes read_old read_new part
+  pub kept : is_long ≡ false → line ≡ part
+  pub within : length line ≤ LONGEST_LINE
+  pub long : is_long ≡ true → LONGEST_LINE < length part

@@ -1,0 +1,77 @@
+//! Lines with a bound, of which no more is kept than that.
+ghost use Rattle.std.specs.Prelude.{◌≡◌, ◌∷◌, [], IfOk, IfErr, OnErr, MatchOption};
+ghost use Rattle.std.specs.Io.KnownBytes.{Consumes, IsAtEnd, Keeps};
+ghost use Rattle.store_program.specs.Runs.{IsReadingFault};
+ghost use Rattle.store_program.specs.Taken.{HasTaken, IsKeptByte, IsTaken};
+ghost use Rattle.store_program.specs.declared.fault.Fault.TheVariants.{NoMemory};
+
+use crate::Fault;
+use std::io::{ErrorKind, Read};
+
+/// The bytes that a line of a control connection has at most, without its line feed.
+pub const LONGEST_LINE: usize = 4096;
+
+/// What was taken of a reader.
+#[derive(Clone, Copy, Debug, PartialEq, Eq)]
+pub(crate) enum Taken {
+    /// A line with its line feed.
+    Line,
+    /// One that is longer than a line may be, with its line feed.
+    TooLong,
+    /// What was left: no line feed is in it.
+    Rest,
+}
+
+/// Takes a line from the reader. One that isn't too long is kept, without its line feed.
+pub(crate) fn take_line<R: Read>(reader: &mut R, line: &mut Vec<u8>) -> Result<Taken, Fault>
+    ensures taken { IfOk result (IsTaken (R.remaining reader.old) (R.remaining reader.new) line.new.items) }
+    ensures part { OnErr result (HasTaken (R.remaining reader.old) (R.remaining reader.new)) }
+    ensures fault { IfErr result IsReadingFault }
+{
+    line.clear();
+    let mut is_long = false;
+    for _ in 0..u64::MAX {
+        match take_byte(reader) {
+            Err(fault) => return Err(fault),
+            Ok(None) => return Ok(Taken::Rest),
+            Ok(Some(b'\n')) if is_long => return Ok(Taken::TooLong),
+            Ok(Some(b'\n')) => return Ok(Taken::Line),
+            Ok(Some(byte)) => match keep_byte(line, byte) {
+                Err(fault) => return Err(fault),
+                Ok(true) => {}
+                Ok(false) => is_long = true,
+            },
+        }
+    }
+    // more bytes than there are numbers
+    Err(Fault::Input)
+}
+
+/// Takes a byte from the reader, unless it is at its end.
+fn take_byte<R: Read>(reader: &mut R) -> Result<Option<u8>, Fault>
+    ensures taken { IfOk result (λ found. MatchOption found (IsAtEnd (R.remaining reader.new) × Keeps (R.remaining reader.old) (R.remaining reader.new)) (λ byte. Consumes (R.remaining reader.old) (R.remaining reader.new) (byte ∷ []))) }
+    ensures none { OnErr result (Keeps (R.remaining reader.old) (R.remaining reader.new)) }
+    ensures fault { IfErr result IsReadingFault }
+{
+    let mut byte = [0u8; 1];
+    match reader.read(&mut byte) {
+        Ok(0) => Ok(None),
+        Ok(_) => Ok(Some(byte[0])),
+        Err(error) if error.kind() == ErrorKind::OutOfMemory => Err(Fault::NoMemory),
+        Err(_) => Err(Fault::Input),
+    }
+}
+
+/// Keeps a byte of a line, unless the line is too long with it: whether it does.
+fn keep_byte(line: &mut Vec<u8>, byte: u8) -> Result<bool, Fault>
+    ensures kept { IfOk result (λ is_kept. IsKeptByte is_kept line.old.items byte line.new.items) }
+    ensures fault { IfErr result (λ fault. fault ≡ NoMemory) }
+{
+    if line.len() >= LONGEST_LINE {
+        return Ok(false);
+    }
+    match line.push(byte) {
+        Ok(()) => Ok(true),
+        Err(_) => Err(Fault::NoMemory),
+    }
+}

@@ -1,0 +1,47 @@
+-- What may cross threads: what control connections share.
+use denote.Param.{copied}
+use denote.Param.Send.{IsSend, IsSync, sendable}
+use denote.Param.SendFields.{as_row_send, declared_send, declared_sync}
+use denote.RattleType.{RattleType}
+use denote.Struct.Field.{row_field}
+use denote.Struct.Tuple.{TupleAt, type_at}
+use mathlib.Core.List.{[], ◌∷◌}
+use mir.Syntax.{Sym}
+use Rattle.std.specs.contracts.alloc.Global as Heap
+use Rattle.std.specs.contracts.impls.GlobalAllocator.TheImpl.{ghosts}
+use Rattle.std.specs.contracts.sync.Arc as Arc
+use Rattle.std.specs.declared.sync.ledger.Ledger.{Ghosts}
+use Rattle.std.proofs.Crossing.{crosses, send, Arc-send, Arc-sync, Vec-send, Vec-sync}
+use Rattle.session_threads.specs.contracts.shared.SharedNode as Shared
+use Rattle.session_threads.proofs.Crossing.{shared_send, shared_sync}
+use Rattle.store_server.specs.contracts.control.Control as Control
+
+module _ (L : RattleType) (g : Ghosts L.Denot) where
+  control_send : IsSend (Control.the_row L g)
+  control_send =
+      let one = Arc.the_row (Shared.the_row L g) Heap.the_row ghosts in
+      declared_send (Control.the_type L g)
+      (Vec-send one (Arc-send (Shared.the_row L g) (shared_send L g) (shared_sync L g)), (search sendable, (search (sendable, crosses) depth 20, (search (sendable, crosses) depth 20, tt))))
+
+  control_sync : IsSync (Control.the_row L g)
+  control_sync =
+      let one = Arc.the_row (Shared.the_row L g) Heap.the_row ghosts in
+      declared_sync (Control.the_type L g)
+      (Vec-sync one (Arc-sync (Shared.the_row L g) (shared_send L g) (shared_sync L g)), (search sendable, (search (sendable, crosses) depth 20, (search (sendable, crosses) depth 20, tt))))
+
+  pub control_arc_send : IsSend (Arc.the_row (Control.the_row L g) Heap.the_row ghosts)
+  control_arc_send = Arc-send (Control.the_row L g) control_send control_sync
+
+  -- what a thread's job captures: the runtime, the allocator, what they share and a socket
+  pub captures_send : (name : Sym) (R S : RattleType) → IsSend (copied 1 R) → IsSend S → IsSend (TupleAt name (copied 1 R ∷ Heap.the_row ∷ Arc.the_row (Control.the_row L g) Heap.the_row ghosts ∷ S ∷ []))
+  captures_send name R S r s =
+      let control = Arc.the_row (Control.the_row L g) Heap.the_row ghosts in
+      declared_send (type_at name (copied 1 R ∷ Heap.the_row ∷ control ∷ S ∷ []))
+      (as_row_send (row_field (copied 1 R)) r, (as_row_send (row_field Heap.the_row) send, (as_row_send (row_field control) control_arc_send, (as_row_send (row_field S) s, tt))))
+
+  -- the same of the thread of standard input, which has no socket
+  pub input_send : (name : Sym) (R : RattleType) → IsSend (copied 1 R) → IsSend (TupleAt name (copied 1 R ∷ Heap.the_row ∷ Arc.the_row (Control.the_row L g) Heap.the_row ghosts ∷ []))
+  input_send name R r =
+      let control = Arc.the_row (Control.the_row L g) Heap.the_row ghosts in
+      declared_send (type_at name (copied 1 R ∷ Heap.the_row ∷ control ∷ []))
+      (as_row_send (row_field (copied 1 R)) r, (as_row_send (row_field Heap.the_row) send, (as_row_send (row_field control) control_arc_send, tt)))
