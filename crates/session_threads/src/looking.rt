@@ -1,9 +1,11 @@
 //! What the operator is shown of a node that serves, and how its sessions are ended. None of it makes an entry or changes a job's store.
-ghost use Rattle.std.specs.Prelude.{◌≡◌, IfOk, IfErr};
+ghost use Rattle.std.specs.Prelude.{◌≡◌, ◌++◌, ◌∷◌, [], All, IfOk, IfErr, OnOk, filter, map};
 ghost use Rattle.obj_id.specs.declared.refusals.Refusal.TheVariants.{NotAdmitted};
-ghost use Rattle.session_threads.specs.Looking.{AreLive};
+ghost use Rattle.session_threads.specs.Looking.{AreLive, IsUsage, is_live};
+ghost use Rattle.session_threads.specs.declared.looking.LiveJob.{LiveJob};
 
 use crate::SharedNode;
+use node_core::Node;
 use node_journal::Kept;
 use obj_id::{JobNo, Refusal, Usage};
 use std::alloc::{AllocError, Global};
@@ -55,9 +57,19 @@ fn live_jobs_of<L: Ledger>(alloc: Global, kept: &Kept<L>) -> Result<Vec<LiveJob>
     let jobs = kept.jobs()?;
     let mut live = Vec::new(alloc);
     for job in jobs.as_slice() {
-        if let Ok(usage) = kept.node().usage(*job) {
-            live.push(LiveJob { job: *job, usage })?;
-        }
+        add_live(kept.node(), *job, &mut live)?;
     }
     Ok(live)
+}
+
+/// Adds the job, if it is live. The error is out of memory.
+fn add_live(node: &Node, job: JobNo, live: &mut Vec<LiveJob>) -> Result<(), AllocError>
+    ensures listed { OnOk result (map (λ (l : LiveJob). l.job) live.new.items ≡ map (λ (l : LiveJob). l.job) live.old.items ++ filter (is_live node.now) (job ∷ [])) }
+    ensures used { OnOk result (All (IsUsage node.now) live.old.items → All (IsUsage node.now) live.new.items) }
+{
+    let Ok(usage) = node.usage(job) else {
+        return Ok(());
+    };
+    live.push(LiveJob { job, usage })?;
+    Ok(())
 }
