@@ -1,16 +1,16 @@
 -- A control connection with one line more, and how it ends.
-use Rattle.std.proofs.Common.{◌≡◌, ℕ, suc, ◌+◌, Bool, true, false, List, [], ◌∷◌, ◌++◌, length, Option, Result, Ok, Err, refl, sym, ap, subst, ◌∙◌, inl, inr, arith}
+use Rattle.std.proofs.Common.{◌≡◌, ℕ, suc, ◌+◌, Bool, true, false, List, [], ◌∷◌, ◌++◌, length, Option, Some, Result, Ok, Err, refl, sym, ap, subst, ◌∙◌, inl, inr, arith}
 use Rattle.std.specs.Prelude.{⊤}
 use Rattle.std.specs.Io.KnownBytes.{Keeps, Consumes, IsAtEnd}
 use Rattle.private_store.proofs.KnownBytes.{Appends-none, Appends-then, Appends-kept, Consumes-none, Consumes-then}
 use Rattle.store_program.specs.declared.fault.Fault.{Fault}
 use Rattle.store_program.specs.declared.fault.Fault.TheVariants.{NotAStep, Input, Output, Socket, Folded, NoMemory}
 use Rattle.store_program.specs.declared.taking.Taken.{Taken}
-use Rattle.store_program.specs.declared.taking.Taken.TheVariants.{Line, TooLong, Rest}
+use Rattle.store_program.specs.declared.taking.Taken.TheVariants.{Line, TooLong}
 use Rattle.store_program.specs.Lines.{with_feed}
 use Rattle.store_program.specs.Runs.{IsReadingFault}
 use Rattle.store_program.specs.Servings.{IsWritten, StopsReply}
-use Rattle.store_program.specs.Attending.{Attending, AttendingEnds, HasAttended, IsHandled, IsTextOf, Replies, answers_of, texts_of, was_last}
+use Rattle.store_program.specs.Attending.{Attending, AttendingEnds, HasAttended, IsHandled, IsTextOf, Replies, answers_of, texts_of}
 use Rattle.store_program.specs.Taken.{HasTaken, HasTakenAll, IsTaken, IsUnbroken}
 
 pub begun : (nodes count : ℕ) (a b : Option (List ℕ)) → Attending nodes count 1 a a b b
@@ -23,10 +23,9 @@ pub record IsOneText (r r1 : Option (List ℕ)) (line : List ℕ) (taken : Taken
   pub unbroken : IsUnbroken text
   pub consumed : Consumes r r1 (with_feed text)
 
-pub one_text : (r r1 : Option (List ℕ)) (line : List ℕ) (taken : Taken) → (taken ≡ Rest → ⊥) → IsTaken r r1 line taken → IsOneText r r1 line taken
-one_text r r1 line Line other is = record { text = line; is_text = refl; unbroken = is.unbroken; consumed = is.consumed }
-one_text r r1 line TooLong other is = record { text = is.line; is_text = is.long; unbroken = is.unbroken; consumed = is.consumed }
-one_text r r1 line Rest other is = absurd (other refl)
+pub one_text : (r r1 : Option (List ℕ)) (line : List ℕ) (taken : Taken) → IsTaken r r1 line (Some taken) → IsOneText r r1 line taken
+one_text r r1 line Line is = record { text = line; is_text = refl; unbroken = is.unbroken; consumed = is.consumed }
+one_text r r1 line TooLong is = record { text = is.line; is_text = is.long; unbroken = is.unbroken; consumed = is.consumed }
 
 module _ (nodes count number : ℕ) (a r b w : Option (List ℕ)) (so_far : Attending nodes count number a r b w) where
   ended : (rest : List ℕ) (r1 w1 : Option (List ℕ)) (result : Result ⊤ Fault) → Consumes r r1 rest → IsWritten b w1 (answers_of so_far.lines) result → AttendingEnds r1 so_far.lines rest result → HasAttended nodes count a r1 b w1 result
@@ -76,14 +75,15 @@ module _ (nodes count number : ℕ) (a r b w : Option (List ℕ)) (so_far : Atte
             written = Appends-then b w w1 (answers_of so_far.lines) told.answer so_far.written told.written;
           }
 
--- after the last line
-pub closed : (nodes count number : ℕ) (a r b w : Option (List ℕ)) (so_far : Attending nodes count number a r b w) → was_last so_far.lines ≡ true → HasAttended nodes count a r b w (Ok tt)
-closed nodes count number a r b w so_far last =
-    record {
-      lines = so_far.lines;
-      rest = [];
-      attended = so_far.attended;
-      consumed = Consumes-then a r r (texts_of so_far.lines) [] so_far.consumed (Consumes-none r);
-      written = so_far.written;
-      ends = inl (last, refl);
-    }
+      -- the same, and it is the last
+      pub line_last : is_last ≡ true → HasAttended nodes count a r1 b w1 (Ok tt)
+      line_last last =
+          let told = replies one.text one.is_text in
+          record {
+            lines = record { text = one.text; answer = told.answer; is_last = is_last } ∷ so_far.lines;
+            rest = [];
+            attended = (one.unbroken, subst (λ n. IsHandled nodes count n one.text told.answer is_last) (sym so_far.counted) told.handled, so_far.attended);
+            consumed = Consumes-then a r1 r1 (texts_of so_far.lines ++ with_feed one.text) [] (Consumes-then a r r1 (texts_of so_far.lines) (with_feed one.text) so_far.consumed one.consumed) (Consumes-none r1);
+            written = Appends-then b w w1 (answers_of so_far.lines) told.answer so_far.written told.written;
+            ends = inl (last, refl);
+          }

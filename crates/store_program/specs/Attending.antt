@@ -18,7 +18,7 @@ use Rattle.store_program.specs.declared.fault.Fault.{Fault}
 use Rattle.store_program.specs.declared.fault.Fault.TheVariants.{NotAStep, Input, Output, Socket, Folded, NoMemory}
 use Rattle.store_program.specs.declared.operator.Order.TheVariants as order
 use Rattle.store_program.specs.declared.taking.Taken.{Taken}
-use Rattle.store_program.specs.declared.taking.Taken.TheVariants.{Line, TooLong, Rest}
+use Rattle.store_program.specs.declared.taking.Taken.TheVariants.{Line, TooLong}
 use Rattle.store_program.specs.Asked.{IsAsked, IsAskedWithin}
 use Rattle.store_program.specs.Lines.{with_feed}
 use Rattle.store_program.specs.Looks.{IsLookText}
@@ -90,7 +90,6 @@ IsMade count number what a = IsAnswerOf what a ⊎ ((IsAskedWithin count what �
 abbrev pub IsTextOf : Taken → List ℕ → List ℕ → Type 0
 IsTextOf Line line text = text ≡ line
 IsTextOf TooLong line text = LONGEST_LINE < length text
-IsTextOf Rest line text = ⊥
 
 -- a line is answered, and the answer written
 pub record Replies (nodes count number : ℕ) (text : List ℕ) (written_old written_new : Option (List ℕ)) (is_last : Bool) : Type 0 where

@@ -1,9 +1,9 @@
 -- What is read of a control connection, line by line.
-use Rattle.std.specs.Prelude.{◌≡◌, ◌≢◌, ℕ, ◌<◌, ◌≤◌, Bool, true, false, List, [], ◌∷◌, ◌++◌, length, All, Option}
+use Rattle.std.specs.Prelude.{◌≡◌, ◌≢◌, ℕ, ◌<◌, ◌≤◌, Bool, true, false, List, [], ◌∷◌, ◌++◌, length, All, Option, Some, None, ◌⊎◌}
 use Rattle.std.specs.Io.KnownBytes.{Consumes, IsAtEnd}
 use Rattle.store_program.specs.declared.taking.TheConstants.{LONGEST_LINE}
 use Rattle.store_program.specs.declared.taking.Taken.{Taken}
-use Rattle.store_program.specs.declared.taking.Taken.TheVariants.{Line, TooLong, Rest}
+use Rattle.store_program.specs.declared.taking.Taken.TheVariants.{Line, TooLong}
 use Rattle.store_program.specs.Lines.{with_feed}
 
 -- no line feed is among these bytes
@@ -36,15 +36,16 @@ pub record HasTakenLong (read_old read_new : Option (List ℕ)) : Type 0 where
   pub consumed : Consumes read_old read_new (with_feed line)
   pub long : LONGEST_LINE < length line
 
-abbrev pub IsTaken : Option (List ℕ) → Option (List ℕ) → List ℕ → Taken → Type 0
-IsTaken read_old read_new line Line = HasTakenLine read_old read_new line
-IsTaken read_old read_new line TooLong = HasTakenLong read_old read_new
-IsTaken read_old read_new line Rest = HasTakenAll read_old read_new
+-- what was taken, and the line that was kept
+abbrev pub IsTaken : Option (List ℕ) → Option (List ℕ) → List ℕ → Option Taken → Type 0
+IsTaken read_old read_new line (Some Line) = HasTakenLine read_old read_new line
+IsTaken read_old read_new line (Some TooLong) = HasTakenLong read_old read_new
+IsTaken read_old read_new line None = HasTakenAll read_old read_new
 
--- the byte is kept after those of the line, or the line is too long with it
-abbrev pub IsKeptByte : Bool → List ℕ → ℕ → List ℕ → Type 0
-IsKeptByte true old byte new = (new ≡ old ++ byte ∷ []) × (length new ≤ LONGEST_LINE)
-IsKeptByte false old byte new = (new ≡ old) × (LONGEST_LINE ≤ length old)
+-- the byte is kept after those of the line, or the line is too long with it, or was before, and so it stays
+abbrev pub IsKeptByte : Bool → List ℕ → ℕ → List ℕ → Bool → Type 0
+IsKeptByte is_long old byte new false = (is_long ≡ false) × (new ≡ old ++ byte ∷ []) × (length new ≤ LONGEST_LINE)
+IsKeptByte is_long old byte new true = (new ≡ old) × ((is_long ≡ true) ⊎ (LONGEST_LINE ≤ length old))
 
 -- a line so far
 pub record IsTaking (read_old read_new : Option (List ℕ)) (line : List ℕ) (is_long : Bool) : Type 0 where

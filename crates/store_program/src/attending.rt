@@ -64,8 +64,8 @@ pub fn attend<L: Ledger, R: Wait, I: Read, O: Write, C: Closing>(
     for number in 1..u64::MAX {
         match take_line(reader, &mut line) {
             Err(fault) => return Err(fault),
-            Ok(Taken::Rest) => return Ok(()),
-            Ok(taken) => match reply_to(
+            Ok(None) => return Ok(()),
+            Ok(Some(taken)) => match reply_to(
                 rt, alloc, nodes, count, number, taken, &line, writer, closing,
             ) {
                 Err(fault) => return Err(fault),
@@ -119,7 +119,7 @@ fn answer_of<L: Ledger, R: Wait, C: Closing>(
 {
     match taken {
         Taken::Line => answer_to(rt, alloc, nodes, count, number, line, closing),
-        Taken::TooLong | Taken::Rest => no_order(alloc, number),
+        Taken::TooLong => no_order(alloc, number),
     }
 }
 

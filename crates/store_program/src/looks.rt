@@ -54,8 +54,10 @@ fn sessions_line(alloc: Global, node: u32, sessions: usize) -> Result<String, Al
 fn jobs_line(alloc: Global, node: u32, jobs: &[LiveJob]) -> Result<String, AllocError>
     ensures { IfOk result (λ line. string_bytes line ≡ jobs_line_lem node jobs.now) }
 {
-    let jobs = jobs_text(alloc, jobs)?;
-    format!(in alloc; "n{node} op jobs{jobs}\n")
+    let mut line = format!(in alloc; "n{node} op jobs")?;
+    line.push_str(&jobs_text(alloc, jobs)?)?;
+    line.push('\n')?;
+    Ok(line)
 }
 
 /// Each job with its quotas, after a space.

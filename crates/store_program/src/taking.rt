@@ -11,19 +11,18 @@ use std::io::{ErrorKind, Read};
 /// The bytes that a line of a control connection has at most, without its line feed.
 pub const LONGEST_LINE: usize = 4096;
 
-/// What was taken of a reader.
+/// A line that was taken of a reader.
 #[derive(Clone, Copy, Debug, PartialEq, Eq)]
 pub(crate) enum Taken {
-    /// A line with its line feed.
+    /// One that is kept.
     Line,
-    /// One that is longer than a line may be, with its line feed.
+    /// One that is longer than a line may be.
     TooLong,
-    /// What was left: no line feed is in it.
-    Rest,
 }
 
-/// Takes a line from the reader. One that isn't too long is kept, without its line feed.
-pub(crate) fn take_line<R: Read>(reader: &mut R, line: &mut Vec<u8>) -> Result<Taken, Fault>
+/// Takes a line from the reader, with its line feed, which isn't kept; nor is more of a line that is too long. `None` at the end of the
+/// reader, of which there was no line feed left.
+pub(crate) fn take_line<R: Read>(reader: &mut R, line: &mut Vec<u8>) -> Result<Option<Taken>, Fault>
     ensures taken { IfOk result (IsTaken (R.remaining reader.old) (R.remaining reader.new) line.new.items) }
     ensures part { OnErr result (HasTaken (R.remaining reader.old) (R.remaining reader.new)) }
     ensures fault { IfErr result IsReadingFault }
@@ -33,13 +32,12 @@ pub(crate) fn take_line<R: Read>(reader: &mut R, line: &mut Vec<u8>) -> Result<T
     for _ in 0..u64::MAX {
         match take_byte(reader) {
             Err(fault) => return Err(fault),
-            Ok(None) => return Ok(Taken::Rest),
-            Ok(Some(b'\n')) if is_long => return Ok(Taken::TooLong),
-            Ok(Some(b'\n')) => return Ok(Taken::Line),
-            Ok(Some(byte)) => match keep_byte(line, byte) {
+            Ok(None) => return Ok(None),
+            Ok(Some(b'\n')) if is_long => return Ok(Some(Taken::TooLong)),
+            Ok(Some(b'\n')) => return Ok(Some(Taken::Line)),
+            Ok(Some(byte)) => match keep_byte(line, is_long, byte) {
                 Err(fault) => return Err(fault),
-                Ok(true) => {}
-                Ok(false) => is_long = true,
+                Ok(is_longer) => is_long = is_longer,
             },
         }
     }
@@ -62,16 +60,16 @@ fn take_byte<R: Read>(reader: &mut R) -> Result<Option<u8>, Fault>
     }
 }
 
-/// Keeps a byte of a line, unless the line is too long with it: whether it does.
-fn keep_byte(line: &mut Vec<u8>, byte: u8) -> Result<bool, Fault>
-    ensures kept { IfOk result (λ is_kept. IsKeptByte is_kept line.old.items byte line.new.items) }
+/// Keeps a byte of a line, unless the line is too long, or is with it: whether it is too long then.
+fn keep_byte(line: &mut Vec<u8>, is_long: bool, byte: u8) -> Result<bool, Fault>
+    ensures kept { IfOk result (λ is_longer. IsKeptByte is_long line.old.items byte line.new.items is_longer) }
     ensures fault { IfErr result (λ fault. fault ≡ NoMemory) }
 {
-    if line.len() >= LONGEST_LINE {
-        return Ok(false);
+    if is_long || line.len() >= LONGEST_LINE {
+        return Ok(true);
     }
     match line.push(byte) {
-        Ok(()) => Ok(true),
+        Ok(()) => Ok(false),
         Err(_) => Err(Fault::NoMemory),
     }
 }
