@@ -58,14 +58,14 @@ Hung hand = (nat_le 1 hand.depth ≡ true) × (gives_well hand.id.job.0 hand.giv
 over_good : (hand : Hand) (before : List Hand) → AreGood before → list_any (λ below. hangs_on hand below && hand.depth == below.depth + 1) before ≡ true → Hung hand
 over_good hand [] good e = true_false e
 over_good hand (below ∷ before) good e = elim (or_cases (hangs_on hand below && hand.depth == below.depth + 1) (list_any (λ below. hangs_on hand below && hand.depth == below.depth + 1) before) e) [
-    | inl here ↦
-        let hangs = both_left (hangs_on hand below) (hand.depth == below.depth + 1) here in
-        let taker = both_right (same_id hand.id below.id) (hand.giver == below.taker) (both_left (same_id hand.id below.id && hand.giver == below.taker) (option_map_or (λ g. g == below.giver) hand.hangs_on false) hangs) in
-        let is = both_left (is_good below) (list_all is_good before) good in
-        let of_below = both_left (nat_le 1 below.taker) (nat_le 1 below.depth && gives_well below.id.job.0 below.giver) is in
-        (deeper hand.depth below.depth (both_right (hangs_on hand below) (hand.depth == below.depth + 1) here), some_giver hand.id.job.0 hand.giver (taken hand.giver below.taker taker of_below))
-    | inr later ↦ over_good hand before (both_right (is_good below) (list_all is_good before) good) later
-  ]
+  | inl here ↦
+      let hangs = both_left (hangs_on hand below) (hand.depth == below.depth + 1) here in
+      let taker = both_right (same_id hand.id below.id) (hand.giver == below.taker) (both_left (same_id hand.id below.id && hand.giver == below.taker) (option_map_or (λ g. g == below.giver) hand.hangs_on false) hangs) in
+      let is = both_left (is_good below) (list_all is_good before) good in
+      let of_below = both_left (nat_le 1 below.taker) (nat_le 1 below.depth && gives_well below.id.job.0 below.giver) is in
+      (deeper hand.depth below.depth (both_right (hangs_on hand below) (hand.depth == below.depth + 1) here), some_giver hand.id.job.0 hand.giver (taken hand.giver below.taker taker of_below))
+  | inr later ↦ over_good hand before (both_right (is_good below) (list_all is_good before) good) later
+]
 
 hung_good : (before : List Hand) (hand : Hand) (o : Option ℕ) → AreGood before → hangs_right before hand o ≡ true → Hung hand
 hung_good before hand None good h =

@@ -194,8 +194,7 @@ module _ (nodes memory : ℕ) where
         by None skipped after old after_old same tell told = (subst (λ w. Tell w (entries_saved marks)) (sym same) tell, told)
         by (Some entry) spells after old after_old noted tell told =
             let now : AreTold (entry ∷ history) =
-            both (is_told entry.step entry.answer) (list_all (λ (e : Traced). is_told e.step e.answer) history) (noted_told old world line.kept.judged line.kept.notes entry.step entry.answer noted) told in
-            (
+            both (is_told entry.step entry.answer) (list_all (λ (e : Traced). is_told e.step e.answer) history) (noted_told old world line.kept.judged line.kept.notes entry.step entry.answer noted) told in (
               each_step old world marks tell line.kept.judged line.kept.notes nodes memory few history (entry ∷ history) after_old after told now entry.step entry.answer (spoken nodes history line.text entry.step spells) noted,
               now,
             )

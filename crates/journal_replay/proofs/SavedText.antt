@@ -205,8 +205,7 @@ own (mark ∷ before) typed sound = by mark.line (own before typed.1) typed.0 so
     by None rest t h = rest h
     by (Some line) rest t h =
         let x : Entry = entry_at mark.place number line in
-        let is = writable x t.0 h.0 in
-        (
+        let is = writable x t.0 h.0 in (
           record {
             whole = whole-written x is;
             utf = t.1;

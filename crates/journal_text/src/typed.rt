@@ -14,7 +14,11 @@ use obj_id::{
 pub(crate) fn typed(entry: &Entry)
     ensures { IsTyped entry.now }
 {
-    let Address { node: _, job, number } = entry.address;
+    let Address {
+        node: _,
+        job,
+        number,
+    } = entry.address;
     fits(job.0);
     fits(number);
     typed_input(&entry.input);
