@@ -1,6 +1,6 @@
 -- An event at a node: what it was to its own job, and its notes.
 use Rattle.std.proofs.Common.{◌≡◌, ℕ, zero, suc, ◌<◌, ◌≤◌, Bool, true, false, cond, ◌==◌, List, [], ◌∷◌, ◌++◌, length, map, filter, All, Option, Some, None, is_some, option_to_list, refl, sym, ap, subst, ◌∙◌, arith}
-use Rattle.std.specs.Prelude.{option_map, ⊤}
+use Rattle.std.specs.Prelude.{not, nat_le, ◌||◌, is_none, option_map, ⊤}
 use Rattle.std.specs.Option.{option_map_or}
 use Rattle.std.proofs.lemmas.List.{map-append}
 use Rattle.std.proofs.lemmas.List.Elements.{filter-append}
@@ -8,7 +8,7 @@ use Rattle.obj_id.specs.declared.commands.Reply.{Reply}
 use Rattle.obj_id.specs.declared.commands.Reply.TheVariants as reply
 use Rattle.obj_id.specs.declared.ids.JobNo.{JobNo}
 use Rattle.obj_id.specs.declared.refusals.Refusal.{Refusal}
-use Rattle.obj_id.specs.declared.refusals.Refusal.TheVariants.{BadId, Stale}
+use Rattle.obj_id.specs.declared.refusals.Refusal.TheVariants.{BadId, BadSize, Exists, NoRoom, Stale}
 use Rattle.obj_id.specs.declared.works.Quota.{Quota}
 use Rattle.private_store.specs.declared.inputs.Input.{Input}
 use Rattle.private_store.specs.declared.inputs.Input.TheVariants as input
@@ -21,6 +21,7 @@ use Rattle.private_store.specs.declared.schedules.StepAnswer.TheVariants as answ
 use Rattle.private_store.specs.Answers.{brief_reply, wants_memory}
 use Rattle.private_store.specs.Commands.{granted_items}
 use Rattle.private_store.specs.Contents.{View, judge}
+use Rattle.private_store.specs.Limits.{is_quota, most_live_jobs}
 use Rattle.private_store.specs.NodeInputs.{Before, JobInput, hands_after, inputs_to, notes_here, only_of, own_here}
 use Rattle.private_store.specs.Private.{view_step, view_from}
 use Rattle.private_store.specs.Replay.{brief_of, brief_step, unbegun_brief}
@@ -38,7 +39,7 @@ use Rattle.journal_text.specs.Saved.{entry_at, lines_of as lines_counted}
 use Rattle.journal_text.specs.Typed.{IsProperInput, IsProperReply}
 use Rattle.journal_replay.specs.Inputs.{judged_of}
 use Rattle.journal_replay.specs.Saved.{AreSound, entries_saved, with_line}
-use Rattle.job_admission.specs.Admissions.{Admissions, admit_check}
+use Rattle.job_admission.specs.Admissions.{Admissions, admit_check, lives_of, place_for}
 use Rattle.grants.specs.Private.{taken_by}
 use Rattle.node_core.specs.declared.outcome.Note.{Note}
 use Rattle.node_core.specs.Hosted.{Hosted, IsViewBy, Shows, ShowsAll, beside_at, bytes_here, row_at}
@@ -112,8 +113,16 @@ refused_first : (b : Bool) (r : Refusal) (checks : List (Bool × Refusal)) → b
 refused_first true r checks e = refl
 refused_first false r checks e = true_false e
 
+-- what an admission is checked for after its number
+abbrev later_checks : Admissions → JobNo → Quota → List (Bool × Refusal)
+later_checks a job quota =
+    (not (is_quota quota), BadSize)
+    ∷ (nat_le job.0 a.greatest, Exists)
+    ∷ (nat_le most_live_jobs (length (lives_of a.live)) || is_none (place_for a quota.window), NoRoom)
+    ∷ []
+
 admitted_one : (a : Admissions) (job : JobNo) (quota : Quota) → reply.Ok ≡ answered (admit_check a job quota) → 1 ≤ job.0
-admitted_one a job quota is = one_or job.0 (λ none. true_false (ap is_refused (is ∙ refused_first (job.0 == 0) BadId _ (ap (λ n. n == 0) none))))
+admitted_one a job quota is = one_or job.0 (λ none. true_false (ap is_refused (is ∙ refused_first (job.0 == 0) BadId (later_checks a job quota) (ap (λ n. n == 0) none))))
 
 -- it has a number, since a store of none never begins
 is_one : (node : Hosted) (v : ℕ → View) (number : ℕ) (e : Event) (told : Reply (List ℕ)) (x : Input) → input_of e told ≡ Some x → IsEventAnswer node v e told → IsSpoken e
@@ -138,7 +147,10 @@ from-append : (node : ℕ) (view : View) (xs ys : List Input) → view_from node
 from-append node view [] ys = refl
 from-append node view (x ∷ xs) ys = from-append node (view_step node view x).view xs ys
 
-pub own_inputs : (own job : ℕ) (o : Option Input) → only_of job (option_to_list (option_map (λ x. record { job = own; input = x }) o)) ≡ if_own (own == job) o
+abbrev of_job : ℕ → Option Input → Option JobInput
+of_job job o = option_map (λ x. record { job = job; input = x }) o
+
+pub own_inputs : (own job : ℕ) (o : Option Input) → only_of job (option_to_list (of_job own o)) ≡ if_own (own == job) o
 own_inputs own job None = sym (if_none (own == job))
 own_inputs own job (Some x) = by (own == job)
   where
@@ -180,7 +192,7 @@ module _ (place : ℕ) (e : Event) (before after : Hosted) (given : Given) (step
 
   told_is : (x : Input) → input_of e r ≡ Some x → IsStepOf number (v own) x given
   told_is x is =
-      subst (λ o. IsGiven number v (option_map (λ x. record { job = own; input = x }) o) given) is
+      subst (λ o. IsGiven number v (of_job own o) given) is
       (subst (λ o. IsGiven number v o given) (own_due_is b e r answer) from.told)
 
   inputs_are : (j : ℕ) → inputs_to b (Own e) r j ≡ if_own (own == j) (input_of e r) ++ only_of j (notes_here b (Own e) r)

@@ -19,12 +19,9 @@ use Rattle.private_store.specs.declared.schedules.Traced.{Traced}
 use Rattle.private_store.specs.declared.inputs.Judged.{Judged}
 use Rattle.private_store.specs.Trace.{hands_at, is_answered, replies_of}
 use Rattle.private_store.proofs.Tests.{both, both_left, both_right}
-use Rattle.schedule_text.specs.declared.line.Line.{Line}
 use Rattle.schedule_text.specs.declared.line.Line.TheVariants as line
-use Rattle.schedule_text.specs.declared.words.Verb.{Verb}
-use Rattle.schedule_text.specs.declared.words.Verb.TheVariants as verb
-use Rattle.schedule_text.specs.Fields.{fields_of}
-use Rattle.schedule_text.specs.Reading.{IsCallLine, IsLine, IsLineUnless, IsStep, IsStepLine, is_skipped}
+use Rattle.schedule_text.specs.Reading.{is_skipped}
+use Rattle.schedule_text.proofs.Within.{is_spoken, spelled_spoken}
 use Rattle.hand_laws.specs.Standing.{ArePrivate, is_told}
 use Rattle.hand_laws.proofs.Moments.{each_moment}
 use Rattle.grants.specs.Table.{AreHands}
@@ -38,41 +35,14 @@ use Rattle.journal_laws.proofs.EventTold.{IsSpoken}
 
 -- ---- a line's command is of a job
 
-abbrev is_voiced : Line → Bool
-is_voiced (line.Step (At place (event.Call job session c))) = nat_le 1 job.0
-is_voiced _ = true
-
-some_number : (n : ℕ) → 1 ≤ n → nat_le 1 n ≡ true
-some_number n h = grind (arith, nat_tests, h)
-
 at_least : (n : ℕ) → nat_le 1 n ≡ true → 1 ≤ n
 at_least n e = grind (arith, nat_tests, e)
-
-call_voiced : (nodes : ℕ) (fields : List (List ℕ)) (x : Line) → IsCallLine nodes fields x → is_voiced x ≡ true
-call_voiced nodes [] x h = absurd h
-call_voiced nodes (a ∷ []) x h = absurd h
-call_voiced nodes (a ∷ b ∷ []) x h = absurd h
-call_voiced nodes (a ∷ b ∷ c ∷ []) x h = absurd h
-call_voiced nodes (a ∷ b ∷ c ∷ d ∷ fields) x h = sym (ap is_voiced h.made) ∙ some_number h.speaker.at.job.0 h.speaks.positive
-
-step_voiced : (nodes : ℕ) (word : Verb) (fields : List (List ℕ)) (x : Line) → IsStep nodes word fields x → is_voiced x ≡ true
-step_voiced nodes verb.Admit fields x h = sym (ap is_voiced h.made)
-step_voiced nodes verb.Quota fields x h = sym (ap is_voiced h.made)
-step_voiced nodes verb.End fields x h = sym (ap is_voiced h.made)
-step_voiced nodes verb.Cmd fields x h = call_voiced nodes fields x h
-step_voiced nodes verb.Take fields x h = sym (ap is_voiced h.made)
-step_voiced nodes verb.Finish fields x h = sym (ap is_voiced h.made)
-step_voiced nodes verb.Deliver fields x h = sym (ap is_voiced h.made)
-
-fields_voiced : (nodes : ℕ) (fields : List (List ℕ)) (x : Line) → IsStepLine nodes fields x → is_voiced x ≡ true
-fields_voiced nodes [] x h = absurd h
-fields_voiced nodes (field ∷ fields) x h = step_voiced nodes h.verb fields x h.spelled
 
 abbrev pub IsSpokenStep : Step → Type 0
 IsSpokenStep (At place e) = IsSpoken e
 IsSpokenStep (Deliver job from to m damage) = ⊤
 
-spoken_event : (place : ℕ) (e : Event) → is_voiced (line.Step (At place e)) ≡ true → IsSpoken e
+spoken_event : (place : ℕ) (e : Event) → is_spoken (line.Step (At place e)) ≡ true → IsSpoken e
 spoken_event place (event.Call job session c) v = at_least job.0 v
 spoken_event place (event.Admit job quota key) v = tt
 spoken_event place (event.Requota job quota) v = tt
@@ -80,16 +50,16 @@ spoken_event place (event.JobEnd job) v = tt
 spoken_event place event.Take v = tt
 spoken_event place (event.Finish job number a) v = tt
 
-spoken_step : (step : Step) → is_voiced (line.Step step) ≡ true → IsSpokenStep step
+spoken_step : (step : Step) → is_spoken (line.Step step) ≡ true → IsSpokenStep step
 spoken_step (At place e) v = spoken_event place e v
 spoken_step (Deliver job from to m damage) v = tt
 
-spelled_spoken : (nodes : ℕ) (history : List Traced) (text : List ℕ) (step : Step) → is_skipped text ≡ false → IsSpelled nodes history text step → IsSpokenStep step
-spelled_spoken nodes history text step speaks (stands _ l) = spoken_step step (fields_voiced nodes (fields_of text) (line.Step step) (subst (λ skipped. IsLineUnless skipped nodes text (line.Step step)) speaks l))
-spelled_spoken nodes history text step speaks (finishes node job number outcome l) = tt
+said_spoken : (nodes : ℕ) (history : List Traced) (text : List ℕ) (step : Step) → is_skipped text ≡ false → IsSpelled nodes history text step → IsSpokenStep step
+said_spoken nodes history text step speaks (stands _ l) = spoken_step step (spelled_spoken nodes text (line.Step step) speaks l)
+said_spoken nodes history text step speaks (finishes node job number outcome l) = tt
 
 pub spoken : (nodes : ℕ) (history : List Traced) (text : List ℕ) (step : Step) → Spells nodes history text step → IsSpokenStep step
-spoken nodes history text step h = spelled_spoken nodes history text step h.speaks h.spelled
+spoken nodes history text step h = said_spoken nodes history text step h.speaks h.spelled
 
 -- ---- each command gets a reply
 
@@ -126,8 +96,8 @@ all_reversed p (x ∷ xs) h =
     ∙ both (list_all p (reverse xs)) (list_all p (x ∷ [])) (all_reversed p xs (both_right (p x) (list_all p xs) h)) (both (p x) true (both_left (p x) (list_all p xs) h) refl)
 
 module _ (nodes memory : ℕ) (world : Hosting) (history : List Traced) (after : IsAfter nodes memory world history) (told : AreTold history) where
-  private : ArePrivate nodes (reverse history)
-  private =
+  are_private : ArePrivate nodes (reverse history)
+  are_private =
       let again : IsAfter nodes memory world (reverse (reverse history)) = subst (IsAfter nodes memory world) (sym (reverse-reverse history)) after in
       record {
         told = all_reversed (λ entry. is_told entry.step entry.answer) history told;
@@ -135,7 +105,7 @@ module _ (nodes memory : ℕ) (world : Hosting) (history : List Traced) (after :
       }
 
   table : (place : ℕ) → AreHands (hands_at place history)
-  table place = subst (λ h. AreHands (hands_at place h)) (reverse-reverse history) ((each_moment nodes (reverse history) private).table place (reverse history) [] (append-nil (reverse history))).table
+  table place = subst (λ h. AreHands (hands_at place h)) (reverse-reverse history) ((each_moment nodes (reverse history) are_private).table place (reverse history) [] (append-nil (reverse history))).table
 
   pub hands_good : (place : ℕ) (node : Hosted) → slice_get world.nodes place ≡ Some node → AreGood node.hands
   hands_good place node f = subst AreGood (sym (after.each_node place node f).hands) (table_good (hands_at place history) (table place))

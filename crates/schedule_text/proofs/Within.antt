@@ -1,7 +1,7 @@
 -- A line names no node that isn't there: each step that it spells is one of a world with as many nodes. And it spells no
--- answer of a device.
-use Rattle.std.proofs.Common.{◌≡◌, ℕ, ◌<◌, Bool, true, false, List, [], ◌∷◌, sym, ap, subst, ◌∙◌, arith}
-use Rattle.std.specs.Prelude.{nat_lt, not, ◌&&◌}
+-- answer of a device. A command is of a job.
+use Rattle.std.proofs.Common.{◌≡◌, ℕ, ◌<◌, ◌≤◌, Bool, true, false, List, [], ◌∷◌, sym, ap, subst, ◌∙◌, arith}
+use Rattle.std.specs.Prelude.{nat_le, nat_lt, not, ◌&&◌}
 use Rattle.std.proofs.lemmas.Bool.Decides.{nat_tests}
 use Rattle.obj_id.specs.declared.works.Quota.{Quota}
 use Rattle.obj_id.specs.declared.ids.JobNo.{JobNo}
@@ -101,3 +101,36 @@ fields_within nodes (field ∷ fields) x h = step_within nodes h.verb fields x h
 -- one that isn't skipped
 pub spelled_within : (nodes : ℕ) (text : List ℕ) (x : Line) → is_skipped text ≡ false → IsLine nodes text x → line_within nodes x ≡ true
 spelled_within nodes text x speaks l = fields_within nodes (fields_of text) x (subst (λ skipped. IsLineUnless skipped nodes text x) speaks l)
+
+-- ---- commands
+
+-- whether a command is of a job
+abbrev pub is_spoken : Line → Bool
+is_spoken (line.Step (At place (event.Call job session c))) = nat_le 1 job.0
+is_spoken _ = true
+
+some_number : (n : ℕ) → 1 ≤ n → nat_le 1 n ≡ true
+some_number n h = grind (arith, nat_tests, h)
+
+call_spoken : (nodes : ℕ) (fields : List (List ℕ)) (x : Line) → IsCallLine nodes fields x → is_spoken x ≡ true
+call_spoken nodes [] x h = absurd h
+call_spoken nodes (a ∷ []) x h = absurd h
+call_spoken nodes (a ∷ b ∷ []) x h = absurd h
+call_spoken nodes (a ∷ b ∷ c ∷ []) x h = absurd h
+call_spoken nodes (a ∷ b ∷ c ∷ d ∷ fields) x h = sym (ap is_spoken h.made) ∙ some_number h.speaker.at.job.0 h.speaks.positive
+
+step_spoken : (nodes : ℕ) (word : Verb) (fields : List (List ℕ)) (x : Line) → IsStep nodes word fields x → is_spoken x ≡ true
+step_spoken nodes verb.Admit fields x h = sym (ap is_spoken h.made)
+step_spoken nodes verb.Quota fields x h = sym (ap is_spoken h.made)
+step_spoken nodes verb.End fields x h = sym (ap is_spoken h.made)
+step_spoken nodes verb.Cmd fields x h = call_spoken nodes fields x h
+step_spoken nodes verb.Take fields x h = sym (ap is_spoken h.made)
+step_spoken nodes verb.Finish fields x h = sym (ap is_spoken h.made)
+step_spoken nodes verb.Deliver fields x h = sym (ap is_spoken h.made)
+
+fields_spoken : (nodes : ℕ) (fields : List (List ℕ)) (x : Line) → IsStepLine nodes fields x → is_spoken x ≡ true
+fields_spoken nodes [] x h = absurd h
+fields_spoken nodes (field ∷ fields) x h = step_spoken nodes h.verb fields x h.spelled
+
+pub spelled_spoken : (nodes : ℕ) (text : List ℕ) (x : Line) → is_skipped text ≡ false → IsLine nodes text x → is_spoken x ≡ true
+spelled_spoken nodes text x speaks l = fields_spoken nodes (fields_of text) x (subst (λ skipped. IsLineUnless skipped nodes text x) speaks l)

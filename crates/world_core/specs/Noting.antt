@@ -44,10 +44,10 @@ pub record IsArrivalNoted (old new : Hosting) (place : ℕ) (job : JobNo) (a : A
   pub found : slice_get old.nodes place ≡ Some before
   pub steps : Steps before (Arrive job a) given after
   pub nodes : new.nodes ≡ slice_set old.nodes place after
-  pub reply : given.reply ≡ told
-  pub judged : IsArrivalJudged before job a told was
   -- what comes too late is nothing there
   pub stale : told ≡ reply.Refused Stale → after ≡ before
+  pub reply : given.reply ≡ told
+  pub judged : IsArrivalJudged before job a told was
   pub notes : noted ≡ []
 
 -- nothing to anybody, and the nodes are as they were
