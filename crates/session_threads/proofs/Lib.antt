@@ -1,4 +1,5 @@
 pub mod Crossing
 mod Erasing
+mod Live
 mod Rounds
 mod SmallLists

@@ -1,8 +1,10 @@
 -- What the operator is shown of a node's live jobs.
-use Rattle.std.specs.Prelude.{◌≡◌, ℕ, ◌==◌, Bool, true, List, All, map, filter, is_some}
+use Rattle.std.specs.Prelude.{◌≡◌, ℕ, ◌==◌, Bool, List, [], ◌∷◌, Result, Ok, Err, All, map, filter, is_some}
 use Rattle.std.specs.List.{list_any, IsDistinct}
 use Rattle.std.specs.List.Sorted.{IsNonDecreasingBy}
+use Rattle.obj_id.specs.declared.commands.Usage.{Usage}
 use Rattle.obj_id.specs.declared.ids.JobNo.{JobNo}
+use Rattle.obj_id.specs.declared.refusals.Refusal.{Refusal}
 use Rattle.private_store.specs.Jobs.{same_job}
 use Rattle.private_store.specs.Commands.{usage_of}
 use Rattle.private_store.specs.Contents.{View}
@@ -26,3 +28,8 @@ pub record AreLive (node : Hosted) (logs : List (JobNo × JobLog)) (live : List 
   pub rising : IsNonDecreasingBy (λ (job : JobNo). job.0) jobs
   pub listed : map (λ (l : LiveJob). l.job) live ≡ filter (is_live node) jobs
   pub used : All (IsUsage node) live
+
+-- the job with its usage, if that tells that it is live
+abbrev pub live_of : JobNo → Result Usage Refusal → List LiveJob
+live_of job (Ok usage) = record { job = job; usage = usage } ∷ []
+live_of job (Err refusal) = []

@@ -1,7 +1,7 @@
 //! What the operator is shown of a node that serves, and how its sessions are ended. None of it makes an entry or changes a job's store.
-ghost use Rattle.std.specs.Prelude.{◌≡◌, IfOk, IfErr};
+ghost use Rattle.std.specs.Prelude.{◌≡◌, ◌++◌, IfOk, OnOk, IfErr};
 ghost use Rattle.obj_id.specs.declared.refusals.Refusal.TheVariants.{NotAdmitted};
-ghost use Rattle.session_threads.specs.Looking.{AreLive};
+ghost use Rattle.session_threads.specs.Looking.{AreLive, live_of};
 
 use crate::SharedNode;
 use node_journal::Kept;
@@ -55,9 +55,21 @@ fn live_jobs_of<L: Ledger>(alloc: Global, kept: &Kept<L>) -> Result<Vec<LiveJob>
     let jobs = kept.jobs()?;
     let mut live = Vec::new(alloc);
     for job in jobs.as_slice() {
-        if let Ok(usage) = kept.node().usage(*job) {
-            live.push(LiveJob { job: *job, usage })?;
-        }
+        add_live(&mut live, *job, kept.node().usage(*job))?;
     }
     Ok(live)
+}
+
+/// Adds the job, if it is live.
+fn add_live(
+    live: &mut Vec<LiveJob>,
+    job: JobNo,
+    usage: Result<Usage, Refusal>,
+) -> Result<(), AllocError>
+    ensures { OnOk result (live.new.items ≡ live.old.items ++ live_of job usage) }
+{
+    if let Ok(usage) = usage {
+        live.push(LiveJob { job, usage })?;
+    }
+    Ok(())
 }
