@@ -32,16 +32,9 @@ module _ (L : RattleType) (g : Ghosts L.Denot) where
   pub control_arc_send : IsSend (Arc.the_row (Control.the_row L g) Heap.the_row ghosts)
   control_arc_send = Arc-send (Control.the_row L g) control_send control_sync
 
-  -- what a thread's job captures: the runtime, the allocator, what they share and a socket
+  -- what a thread's job captures: the runtime, the allocator, what they share, and a socket or the host
   pub captures_send : (name : Sym) (R S : RattleType) → IsSend (copied 1 R) → IsSend S → IsSend (TupleAt name (copied 1 R ∷ Heap.the_row ∷ Arc.the_row (Control.the_row L g) Heap.the_row ghosts ∷ S ∷ []))
   captures_send name R S r s =
       let control = Arc.the_row (Control.the_row L g) Heap.the_row ghosts in
       declared_send (type_at name (copied 1 R ∷ Heap.the_row ∷ control ∷ S ∷ []))
       (as_row_send (row_field (copied 1 R)) r, (as_row_send (row_field Heap.the_row) send, (as_row_send (row_field control) control_arc_send, (as_row_send (row_field S) s, tt))))
-
-  -- the same of the thread of standard input, which has no socket
-  pub input_send : (name : Sym) (R : RattleType) → IsSend (copied 1 R) → IsSend (TupleAt name (copied 1 R ∷ Heap.the_row ∷ Arc.the_row (Control.the_row L g) Heap.the_row ghosts ∷ []))
-  input_send name R r =
-      let control = Arc.the_row (Control.the_row L g) Heap.the_row ghosts in
-      declared_send (type_at name (copied 1 R ∷ Heap.the_row ∷ control ∷ []))
-      (as_row_send (row_field (copied 1 R)) r, (as_row_send (row_field Heap.the_row) send, (as_row_send (row_field control) control_arc_send, tt)))

@@ -170,10 +170,11 @@ fn answer_all<L: Ledger, R: Wait + Clock>(
 /// Takes the lines of standard input in a thread of its own, which nobody waits for: it may wait for a line that never comes.
 pub fn take_input<
     L: Ledger + Send + Sync + 'static,
-    R: Threads + Wait + Clock + Print + Input + Copy + Send + 'static,
->(rt: R, alloc: Global, control: &Arc<Control<L>>) -> Result<(), ServeFault> {
+    R: Threads + Wait + Clock + Copy + Send + 'static,
+>(rt: R, host: HostRuntime, control: &Arc<Control<L>>) -> Result<(), ServeFault> {
+    let alloc = host.alloc();
     let theirs = Arc::try_clone(control)?;
-    let job = move || serve_input(&rt, alloc, &*theirs);
+    let job = move || serve_input(&rt, alloc, &*theirs, host);
     match thread::spawn(&rt, job) {
         Ok(_) => Ok(()),
         Err(failed) => Err(ServeFault::Worker {
@@ -206,18 +207,19 @@ impl<'a, L: Ledger, R: Wait, S: Read + Drop> Read for Awaited<'a, L, R, S> {
 }
 
 /// Carries out the lines of standard input. Its end changes nothing.
-fn serve_input<L: Ledger, R: Wait + Clock + Print + Input + Copy>(
+fn serve_input<L: Ledger, R: Wait + Clock>(
     rt: &R,
     alloc: Global,
     control: &Control<L>,
+    host: HostRuntime,
 ) {
     let input = Awaited {
         rt,
         control,
-        inner: Patient::new(rt.reader(), *rt),
+        inner: Patient::new(host.reader(), host),
     };
     if let Ok(mut reader) = BufReader::new(alloc, input) {
-        let mut writer = Patient::new(io::writer(rt), *rt);
+        let mut writer = Patient::new(io::writer(&host), host);
         match serve_text(
             rt,
             alloc,

@@ -42,7 +42,7 @@ struct Served<L: Ledger> {
 /// `store: ready` is written to standard error once all sockets listen, and a fault as soon as it comes. After a fault nothing is
 /// reported. Sessions that are open are waited for, whatever ended the operator's lines. Then no spilled object is left in the folders.
 pub fn serve<
-    R: Threads + Wait + Clock + Files + Net + Print + Input + Copy + Send + 'static,
+    R: Threads + Wait + Clock + Files + Net + Copy + Send + 'static,
     I: Read + Drop,
     O: Write + Drop,
 >(rt: R, host: HostRuntime, serving: Serving<'_>, reader: I, writer: O) -> Result<(), Told>
@@ -91,7 +91,7 @@ fn memory_fault(host: &HostRuntime, serving: &Serving<'_>) -> Option<ServeFault>
 /// The same, under a name.
 fn serve_named<
     L: Ledger + Send + Sync + 'static,
-    R: Threads + Wait + Clock + Files + Net + Print + Input + Copy + Send + 'static,
+    R: Threads + Wait + Clock + Files + Net + Copy + Send + 'static,
     I: BufRead,
     O: Write,
 >(
@@ -173,7 +173,7 @@ fn end_nodes<L: Ledger, R: Threads + Wait + Files>(
 /// Opens the control socket, if there is to be one, says that all sockets listen, and carries out the operator's lines.
 fn take_orders<
     L: Ledger + Send + Sync + 'static,
-    R: Threads + Wait + Clock + Files + Net + Print + Input + Copy + Send + 'static,
+    R: Threads + Wait + Clock + Files + Net + Copy + Send + 'static,
     I: BufRead,
     O: Write,
 >(
@@ -198,7 +198,7 @@ fn take_orders<
     let control = Arc::try_clone(&connecting.control)?;
     served.control = Some(connecting);
     say_ready(host);
-    take_input(rt, host.alloc(), &control)?;
+    take_input(rt, host, &control)?;
     match control.await_stop(&rt) {
         None => Ok(()),
         Some(fault) => Err(ServeFault::Fault(fault)),

@@ -1,8 +1,10 @@
 use denote.Exit.{no}
 use denote.Param.{param}
-use denote.Param.Send.{param_send, arg_send}
-use Rattle.store_server.proofs.Crossing.{input_send}
+use denote.Param.Send.{param_send, arg_send, sendable}
+use Rattle.core.specs.contracts.rt.LibcRuntime as Host
+use Rattle.std.proofs.Crossing.{crosses}
+use Rattle.store_server.proofs.Crossing.{captures_send}
 use Rattle.store_server.proofs.connecting.take_input.Goals as goal
 
 pub spawn-requires-send-F : goal.spawn-requires-send-F
-spawn-requires-send-F g c κs within = param_send 1 _ (arg_send _ no _ (input_send (param 0 g.row.L) g.L.Ledger _ g.row.R c.type_bounds.send-R))
+spawn-requires-send-F g c κs within = param_send 1 _ (arg_send _ no _ (captures_send (param 0 g.row.L) g.L.Ledger _ g.row.R Host.the_row c.type_bounds.send-R (search (sendable, crosses) depth 20)))
