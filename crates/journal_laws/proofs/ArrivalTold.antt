@@ -1,5 +1,5 @@
 -- A message that arrives at a node: what it was to its job.
-use Rattle.std.proofs.Common.{◌≡◌, ℕ, zero, suc, ◌<◌, ◌≤◌, Bool, true, false, cond, ◌==◌, List, [], ◌∷◌, ◌++◌, Option, Some, None, is_some, option_to_list, refl, sym, ap, subst, ◌∙◌, arith}
+use Rattle.std.proofs.Common.{◌≡◌, ℕ, suc, ◌<◌, ◌≤◌, Bool, true, false, cond, ◌==◌, List, [], ◌∷◌, ◌++◌, Option, Some, None, is_some, option_to_list, refl, sym, ap, subst, ◌∙◌}
 use Rattle.std.specs.Prelude.{option_map}
 use Rattle.obj_id.specs.declared.commands.Reply.{Reply}
 use Rattle.obj_id.specs.declared.commands.Reply.TheVariants as reply
@@ -16,19 +16,17 @@ use Rattle.private_store.specs.declared.inputs.Judged.{Judged}
 use Rattle.private_store.specs.declared.inputs.Judged.TheVariants as judged
 use Rattle.private_store.specs.declared.schedules.NodeEvent.TheVariants.{Arrive}
 use Rattle.private_store.specs.declared.schedules.Step.TheVariants.{Deliver}
-use Rattle.private_store.specs.declared.schedules.StepAnswer.{StepAnswer}
 use Rattle.private_store.specs.declared.schedules.StepAnswer.TheVariants.{HandedOver}
 use Rattle.private_store.specs.Answers.{brief_reply, wants_memory}
 use Rattle.private_store.specs.Contents.{View, judge, source_in}
 use Rattle.private_store.specs.NodeInputs.{Before, inputs_to, only_of}
-use Rattle.private_store.specs.Private.{view_step, view_from}
+use Rattle.private_store.specs.Private.{view_from}
 use Rattle.private_store.specs.Replay.{brief_of, brief_step}
 use Rattle.private_store.proofs.AnswersAre.{answers_whole}
 use Rattle.private_store.proofs.Tests.{true_false}
 use Rattle.schedule_text.specs.declared.lines.JobAt.{JobAt}
 use Rattle.journal_text.specs.declared.entry.Address.{Address}
 use Rattle.journal_text.specs.declared.entry.Entry.{Entry}
-use Rattle.journal_text.specs.declared.entry.LineInput.{LineInput}
 use Rattle.journal_text.specs.declared.entry.Version.TheVariants.{Three}
 use Rattle.journal_text.specs.declared.saved.Answered.{Answered}
 use Rattle.journal_text.specs.declared.saved.Mark.{Mark}

@@ -1,23 +1,18 @@
 -- A job's entries with one more: the store that they lead to is that of its inputs.
 use Rattle.std.proofs.Common.{◌≡◌, ℕ, ◌≤◌, Bool, true, false, cond, ◌==◌, ◌&&◌, List, [], ◌∷◌, ◌++◌, Option, Some, None, refl, sym, ap, subst, ◌∙◌, arith}
-use Rattle.std.specs.Prelude.{⊤}
 use Rattle.std.proofs.lemmas.Bool.Decides.{nat_tests}
-use Rattle.obj_id.specs.declared.commands.Reply.{Reply}
 use Rattle.obj_id.specs.declared.ids.JobNo.{JobNo}
 use Rattle.private_store.specs.declared.inputs.Input.{Input}
-use Rattle.private_store.specs.declared.inputs.Judged.{Judged}
 use Rattle.private_store.specs.Contents.{View, judge}
 use Rattle.private_store.specs.Kept.{IsViewKept}
 use Rattle.private_store.specs.Private.{view_step, view_from}
 use Rattle.private_store.specs.Replay.{Brief, Line, brief_after, brief_of, brief_step, replayed, unbegun_brief}
 use Rattle.private_store.proofs.StepsKept.{view_keeps}
-use Rattle.private_store.proofs.Tests.{true_false}
 use Rattle.schedule_text.specs.declared.lines.JobAt.{JobAt}
 use Rattle.journal_text.specs.declared.entry.Entry.{Entry}
 use Rattle.journal_text.specs.declared.entry.Version.TheVariants.{Three}
 use Rattle.journal_text.specs.declared.saved.Answered.{Answered}
 use Rattle.journal_text.specs.Saved.{entry_at, place_of, same_place}
-use Rattle.journal_text.specs.Typed.{IsProper}
 use Rattle.journal_text.proofs.SamePlaces.{same_place-itself}
 use Rattle.journal_replay.specs.Inputs.{judged_of, line_of}
 use Rattle.journal_replay.specs.Replays.{due_after, lines_of, store_of}

@@ -1,7 +1,6 @@
 -- An event at a node: what it was to its own job, and its notes.
-use Rattle.std.proofs.Common.{◌≡◌, ℕ, zero, suc, ◌<◌, ◌≤◌, Bool, true, false, cond, ◌==◌, List, [], ◌∷◌, ◌++◌, length, map, filter, All, Option, Some, None, is_some, option_to_list, refl, sym, ap, subst, ◌∙◌, arith}
+use Rattle.std.proofs.Common.{◌≡◌, ℕ, zero, suc, ◌<◌, ◌≤◌, Bool, true, false, cond, ◌==◌, List, [], ◌∷◌, ◌++◌, length, map, filter, All, Option, Some, None, option_to_list, refl, sym, ap, subst, ◌∙◌, arith}
 use Rattle.std.specs.Prelude.{not, nat_le, ◌||◌, is_none, option_map, ⊤}
-use Rattle.std.specs.Option.{option_map_or}
 use Rattle.std.proofs.lemmas.List.{map-append}
 use Rattle.std.proofs.lemmas.List.Elements.{filter-append}
 use Rattle.obj_id.specs.declared.commands.Reply.{Reply}
@@ -11,7 +10,6 @@ use Rattle.obj_id.specs.declared.refusals.Refusal.{Refusal}
 use Rattle.obj_id.specs.declared.refusals.Refusal.TheVariants.{BadId, BadSize, Exists, NoRoom, Stale}
 use Rattle.obj_id.specs.declared.works.Quota.{Quota}
 use Rattle.private_store.specs.declared.inputs.Input.{Input}
-use Rattle.private_store.specs.declared.inputs.Input.TheVariants as input
 use Rattle.private_store.specs.declared.inputs.Judged.{Judged}
 use Rattle.private_store.specs.declared.schedules.Event.{Event}
 use Rattle.private_store.specs.declared.schedules.Event.TheVariants as event
@@ -22,9 +20,9 @@ use Rattle.private_store.specs.Answers.{brief_reply, wants_memory}
 use Rattle.private_store.specs.Commands.{granted_items}
 use Rattle.private_store.specs.Contents.{View, judge}
 use Rattle.private_store.specs.Limits.{is_quota, most_live_jobs}
-use Rattle.private_store.specs.NodeInputs.{Before, JobInput, hands_after, inputs_to, notes_here, only_of, own_here}
+use Rattle.private_store.specs.NodeInputs.{Before, JobInput, inputs_to, notes_here, only_of, own_here}
 use Rattle.private_store.specs.Private.{view_step, view_from}
-use Rattle.private_store.specs.Replay.{brief_of, brief_step, unbegun_brief}
+use Rattle.private_store.specs.Replay.{brief_of, brief_step}
 use Rattle.private_store.specs.Shared.{first_refusal}
 use Rattle.private_store.proofs.AnswersAre.{answers_whole}
 use Rattle.private_store.proofs.Tests.{none_some, some_value, true_false}
@@ -47,7 +45,7 @@ use Rattle.node_core.specs.Judged.{IsJudged}
 use Rattle.node_core.specs.OneJob.{input_of}
 use Rattle.node_core.specs.Outcomes.{inputs_noted}
 use Rattle.node_core.specs.Steps.{Given, IsEventAnswer, IsGiven, IsStepOf, Steps, StepsFrom, answered, before_of, job_of_event}
-use Rattle.node_core.proofs.AllJobs.{IsFinishAnswer, finish_answer, own_due_is, own_here_is, own_of}
+use Rattle.node_core.proofs.AllJobs.{IsFinishAnswer, finish_answer, own_due_is, own_here_is}
 use Rattle.node_core.proofs.Never.{told_never}
 use Rattle.node_table.specs.Row.{Row}
 use Rattle.store_program.specs.Kept.{Kept, entry_mark, input_said, kept_under, with_entry, with_notes, with_step}

@@ -1,5 +1,5 @@
 -- The notes of a step: the takers of hands are told of them, in order.
-use Rattle.std.proofs.Common.{◌≡◌, ℕ, ◌<◌, ◌≤◌, Bool, true, false, cond, ◌==◌, ◌||◌, List, [], ◌∷◌, map, filter, Option, Some, None, is_some, ◌&&◌, suc, refl, sym, ap, subst, ◌∙◌, arith}
+use Rattle.std.proofs.Common.{◌≡◌, ℕ, ◌<◌, ◌≤◌, Bool, true, false, cond, ◌==◌, ◌||◌, List, [], ◌∷◌, map, filter, Option, Some, None, ◌&&◌, suc, refl, sym, ap, subst, ◌∙◌, arith}
 use Rattle.std.specs.Prelude.{nat_le, ⊤}
 use Rattle.std.specs.List.{list_all}
 use Rattle.std.specs.Option.{option_map_or}
@@ -8,10 +8,8 @@ use Rattle.std.proofs.lemmas.Bool.Decides.{nat_tests}
 use Rattle.obj_id.specs.declared.commands.Command.TheVariants as command
 use Rattle.obj_id.specs.declared.commands.Reply.{Reply}
 use Rattle.obj_id.specs.declared.commands.Reply.TheVariants as reply
-use Rattle.obj_id.specs.declared.ids.ObjectId.{ObjectId}
 use Rattle.private_store.specs.declared.inputs.Input.{Input}
 use Rattle.private_store.specs.declared.inputs.Input.TheVariants as input
-use Rattle.private_store.specs.declared.inputs.Judged.{Judged}
 use Rattle.private_store.specs.declared.schedules.Event.{Event}
 use Rattle.private_store.specs.declared.schedules.Event.TheVariants as event
 use Rattle.private_store.specs.declared.schedules.NodeEvent.TheVariants.{Own}
@@ -30,7 +28,7 @@ use Rattle.journal_text.specs.declared.saved.Answered.{Answered}
 use Rattle.journal_text.specs.declared.saved.Mark.{Mark}
 use Rattle.journal_text.specs.Reading.{is_fitting}
 use Rattle.journal_text.specs.Saved.{entry_at, lines_of as lines_counted}
-use Rattle.journal_text.specs.Typed.{IsProper, IsProperInput}
+use Rattle.journal_text.specs.Typed.{IsProperInput}
 use Rattle.journal_replay.specs.Inputs.{judged_of}
 use Rattle.journal_replay.specs.Saved.{AreSound, entries_saved}
 use Rattle.node_core.specs.declared.outcome.Note.{Note}

@@ -1,6 +1,6 @@
 -- A run whose journal was saved: its text replays.
 use Rattle.std.proofs.Common.{◌≡◌, ℕ, ◌≤◌, true, false, List, [], ◌∷◌, Option, None, Some, Result, Ok, sym, subst, arith}
-use Rattle.std.specs.Prelude.{nat_le, ◌&&◌, ⊤}
+use Rattle.std.specs.Prelude.{nat_le, ◌&&◌}
 use Rattle.std.proofs.lemmas.Bool.Decides.{nat_tests}
 use Rattle.private_store.proofs.Tests.{both_left, both_right}
 use Rattle.journal_text.specs.declared.saved.Mark.{Mark}

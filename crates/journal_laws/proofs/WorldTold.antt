@@ -33,10 +33,10 @@ use Rattle.world_core.specs.Moves.{handed, message_of}
 use Rattle.world_core.specs.Noting.{IsArrivalNoted, IsEventNoted, IsNoted, NotesNothing, keeps_event, keeps_arrival, passes_node, tells_directory, finds_nothing, wants_memory}
 use Rattle.world_core.specs.Worlds.{Hosting, IsAfter}
 use Rattle.world_core.proofs.Places.{slice_get-slice_set, slice_get-slice_set_other}
-use Rattle.store_program.specs.Kept.{Kept, entry_place, with_entry, with_step}
+use Rattle.store_program.specs.Kept.{entry_place, with_entry, with_step}
 use Rattle.store_program.specs.Lines.{AreHeard, Heard, IsAnswered, history_of, marks_of, with_answered, with_heard}
 use Rattle.store_program.specs.Runs.{KeepsHeard, LeadTo}
-use Rattle.journal_laws.proofs.Entered.{AllTold, IsTold}
+use Rattle.journal_laws.proofs.Entered.{AllTold}
 use Rattle.journal_laws.proofs.EventTold.{IsSpoken, event_elsewhere, event_told, shown_after, views_after}
 use Rattle.journal_laws.proofs.ArrivalTold.{Tells, arrival_elsewhere, arrival_told}
 use Rattle.journal_laws.proofs.Histories.{AreTold, IsSpokenStep, hands_good, noted_told, spoken}
