@@ -1,8 +1,8 @@
 use denote.Exit.{no}
 use denote.Param.{param}
 use denote.Param.Send.{param_send, arg_send, sendable}
-use Rattle.core.specs.contracts.rt.LibcRuntime as Host
 use Rattle.std.proofs.Crossing.{crosses}
+use Rattle.std.specs.contracts.rt.LibcRuntime as Host
 use Rattle.store_server.proofs.Crossing.{captures_send}
 use Rattle.store_server.proofs.connecting.take_input.Goals as goal
 
