@@ -19,9 +19,9 @@ loop-job-preserved g c =
     let next = get_or jobs i none ∷ [] in
     record {
       listed = c.in_ok-add_live.ensures.listed
-        ∙ ap (λ (n : Hosted). map (λ (l : LiveJob). l.job) c.loop-job.live.items ++ filter (is_live n) next) c.node.ensures
-        ∙ ap (λ (xs : List JobNo). xs ++ filter (is_live node) next) c.loop-job.invariant.listed
-        ∙ sym (filter-append (is_live node) (take i jobs) next)
-        ∙ ap (filter (is_live node)) (sym (take_more jobs i none c.loop-job-test.true));
+          ∙ ap (λ (n : Hosted). map (λ (l : LiveJob). l.job) c.loop-job.live.items ++ filter (is_live n) next) c.node.ensures
+          ∙ ap (λ (xs : List JobNo). xs ++ filter (is_live node) next) c.loop-job.invariant.listed
+          ∙ sym (filter-append (is_live node) (take i jobs) next)
+          ∙ ap (filter (is_live node)) (sym (take_more jobs i none c.loop-job-test.true));
       used = subst (λ (n : Hosted). All (IsUsage n) c.loop-job.live.items → All (IsUsage n) c.add_live.new.live.items) c.node.ensures c.in_ok-add_live.ensures.used c.loop-job.invariant.used;
     }
