@@ -8,7 +8,7 @@ from __future__ import annotations
 
 from typing import Callable, Dict, Iterator, List, NamedTuple, Tuple
 
-from .answers import in_version, read_answer
+from .answers import in_version, read_answer, read_count
 from .fetching import choose_source, give_up, serve, take_chunk
 from .ids import NotAStep, ObjectId, read_id, read_long, read_number
 from .journal import without_contents
@@ -118,7 +118,7 @@ def read_command(version: int, job: int, fields: List[str]) -> Tuple[str, Tuple]
 
 def read_zeros(text: str) -> bytes:
     """So many zeros as were bytes written, or one more than may be."""
-    return bytes(min(read_marked("#", text), LONGEST_CALL + 1))
+    return bytes(min(read_count(text), LONGEST_CALL + 1))
 
 
 def read_location(text: str) -> Location:
