@@ -84,7 +84,12 @@ impl Buffer {
     pub(crate) fn freeze(&mut self, alloc: Global)
         ensures { self.new ≡ self.old }
     {
-        if !self.shared.is_empty() || self.own.len() < SHARED_FROM {
+        if !self.shared.is_empty() {
+            return;
+        }
+        if self.own.len() < SHARED_FROM {
+            // few bytes are hashed from a copy, which isn't to stay beside them
+            self.agreed = Agreed::nothing();
             return;
         }
         let Ok(room) = Vec::with_capacity(alloc, reserved(self.own.len())) else {
