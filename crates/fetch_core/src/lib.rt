@@ -3,8 +3,7 @@
 //! windows of the two nodes.
 #![tactic(auto)]
 
-ghost use Rattle.std.specs.Prelude.{◌≡◌, ℕ, ◌<◌, ◌*◌, Some, None, true, false, not, if◌then◌else◌, OnOk, OnErr, IfOk, IfSome, IsSome, IsErrOf, length, take, drop, filter, is_some, nat_lt, nat_eq};
-ghost use Rattle.obj_id.specs.declared.refusals.Refusal.TheVariants.{NoMemory};
+ghost use Rattle.std.specs.Prelude.{◌≡◌, ℕ, ◌*◌, not, if◌then◌else◌, OnOk, OnErr, IfOk, IfSome, length, take, drop, filter, is_some, nat_lt, nat_eq};
 ghost use Rattle.private_store.specs.declared.faults.FetchFault.TheVariants.{Damaged, Absent};
 ghost use Rattle.private_store.specs.Shape.{sized};
 ghost use Rattle.private_store.specs.Commands.{counted, chunk_count};
@@ -18,7 +17,7 @@ pub mod laws;
 
 use bytes::Bytes;
 use obj_id::limits::CHUNK_SIZE;
-use obj_id::{Digest, Location, ObjectId, PeerMessage, Refusal};
+use obj_id::{Digest, Location, ObjectId, PeerMessage};
 use private_store::FetchFault;
 use sha2::{Digest as _, Sha256};
 use std::alloc::{AllocError, Global};
@@ -142,12 +141,11 @@ impl FetchIn {
 
     /// All chunks are missing from now on. Does nothing to a fetch that isn't Sized, and takes no memory then.
     ///
-    /// `NoMemory` leaves it as it was. Takes as many steps as the object has chunks.
-    pub fn begin(&mut self, alloc: Global) -> Result<(), Refusal>
+    /// Out of memory leaves it as it was. Takes as many steps as the object has chunks.
+    pub fn begin(&mut self, alloc: Global) -> Result<(), AllocError>
         ensures ok { OnOk result (self.new ≡ pull_begun self.old) }
         ensures err { OnErr result (self.new ≡ self.old) }
         ensures grows { OnErr result ((source : ℕ) × (self.old.phase ≡ sized source)) }
-        ensures memory { (r : Refusal) → IsErrOf result r → r ≡ NoMemory }
     {
         let Stage::Sized(_) = self.stage else {
             return Ok(());
@@ -236,16 +234,15 @@ impl FetchIn {
 /// The chunks of an object with these bytes that a fetch of this number asked for: one for each index that
 /// the object has, in the order asked, and an index asked twice is sent twice.
 ///
-/// `NoMemory` if the messages can't be made. The chunks share the object's bytes.
+/// Out of memory if the messages can't be made. The chunks share the object's bytes.
 pub fn chunks_asked(
     alloc: Global,
     bytes: &Bytes,
     id: ObjectId,
     number: u64,
     indexes: &[u32],
-) -> Result<Vec<PeerMessage>, Refusal>
+) -> Result<Vec<PeerMessage>, AllocError>
     ensures ok { IfOk result (λ v. v.items ≡ chunks_asked_for bytes.now id number (length bytes.now) indexes.now) }
-    ensures memory { (r : Refusal) → IsErrOf result r → r ≡ NoMemory }
 {
     let mut sent = Vec::new(alloc);
     for index in indexes {

@@ -1,11 +1,10 @@
 //! Messages that arrive at a node for one of its jobs.
-ghost use Rattle.std.specs.Prelude.{◌≡◌, ℕ, ◌≤◌, List, [], false, length, Some, IfOk, OnOk, OnErr, IsErrOf};
+ghost use Rattle.std.specs.Prelude.{◌≡◌, ℕ, ◌≤◌, List, [], false, length, Some, IfOk, OnOk, OnErr};
 ghost use Rattle.obj_id.specs.declared.ids.JobNo.{JobNo};
 ghost use Rattle.obj_id.specs.declared.ids.ObjectId.{ObjectId};
 ghost use Rattle.obj_id.specs.declared.commands.Reply.TheVariants as reply;
 ghost use Rattle.obj_id.specs.declared.messages.Arrival.TheVariants as arrival;
-ghost use Rattle.obj_id.specs.declared.refusals.Refusal.{Refusal};
-ghost use Rattle.obj_id.specs.declared.refusals.Refusal.TheVariants.{NoMemory, Stale};
+ghost use Rattle.obj_id.specs.declared.refusals.Refusal.TheVariants.{Stale};
 ghost use Rattle.private_store.specs.declared.inputs.Input.TheVariants as input;
 ghost use Rattle.private_store.specs.declared.schedules.NodeEvent.TheVariants as node_event;
 ghost use Rattle.private_store.specs.Contents.{Contents, judge, source_in as source_in_lem};
@@ -29,23 +28,22 @@ use node_table::JobRow;
 use obj_id::{Arrival, JobNo, Location, PeerMessage, Refusal, Reply};
 use private_store::{Judged, Source};
 use spill_work::Works;
-use std::alloc::Global;
+use std::alloc::{AllocError, Global};
 
 impl Node {
     /// A message of a job arrives.
     ///
     /// The view that the node shows of the job afterwards is what the private step makes of the view before on that
-    /// message, and every other job's is as it was. `Stale` if the job isn't live, and then nothing changes. `NoMemory`
-    /// alone is an error, and then nothing has changed; it never stands in for `Stale`. It sends no more messages than
+    /// message, and every other job's is as it was. `Stale` if the job isn't live, and then nothing changes. The error
+    /// is out of memory, and then nothing has changed; it never stands in for `Stale`. It sends no more messages than
     /// `foresee_arrival` says, tells no job of a hand, and says what it was to its own job: nothing if it is stale.
-    pub fn arrive(&mut self, job: JobNo, arrival: &Arrival) -> Result<Outcome, Refusal>
+    pub fn arrive(&mut self, job: JobNo, arrival: &Arrival) -> Result<Outcome, AllocError>
         ensures ok { IfOk result (λ o. Steps self.old (node_event.Arrive job arrival.now) (given_of o) self.new) }
         ensures late { OnErr result (IsLate self.old (node_event.Arrive job arrival.now)) }
         ensures few { IfOk result (λ o. length o.messages ≤ most_by_arrival (row_at self.old job) arrival.now) }
         ensures judged { IfOk result (λ o. IsArrivalJudged self.old job arrival.now o.reply o.judged) }
         ensures silent { IfOk result (λ o. o.notes ≡ []) }
         ensures stale { IfOk result (λ o. o.reply ≡ reply.Refused Stale → self.new ≡ self.old) }
-        ensures memory { (r : Refusal) → IsErrOf result r → r ≡ NoMemory }
         ensures err { OnErr result (self.new ≡ self.old) }
     {
         let Some(row) = self.rows.get_mut(&job) else {
@@ -66,7 +64,7 @@ fn deliver(
     row: &mut JobRow,
     works: &mut Works,
     arrival: &Arrival,
-) -> Result<(node_table::Outcome, Judged), Refusal>
+) -> Result<(node_table::Outcome, Judged), AllocError>
     ensures ok { IfOk result (λ o. (hands : List Hand) (bytes : ObjectId → List ℕ) (contents : Contents) → IsShown row.old (beside_of works.old hands bytes row.old.job) contents
         → TakesStep node row.old (beside_of works.old hands bytes row.old.job) contents (input.Arrive arrival.now) (row_given_of o.0) row.new (beside_of works.new hands bytes row.old.job)) }
     ensures judged { IfOk result (λ o. (hands : List Hand) (bytes : ObjectId → List ℕ) (contents : Contents) → IsShown row.old (beside_of works.old hands bytes row.old.job) contents
@@ -75,7 +73,6 @@ fn deliver(
     ensures few { IfOk result (λ o. length o.0.messages ≤ most_by_arrival (Some row.old) arrival.now) }
     ensures line { OnOk result (HasAsked works.old (record { 0 = row.old.job }) works.new) }
     ensures others { (other : JobNo) → same_job (record { 0 = row.old.job }) other ≡ false → IsSameFor other works.old works.new }
-    ensures memory { (r : Refusal) → IsErrOf result r → r ≡ NoMemory }
     ensures err { OnErr result (row.new ≡ row.old) }
     ensures works { OnErr result (works.new ≡ works.old) }
 {
@@ -99,7 +96,7 @@ fn deliver_from(
     works: &mut Works,
     from: u32,
     message: &PeerMessage,
-) -> Result<(node_table::Outcome, Judged), Refusal>
+) -> Result<(node_table::Outcome, Judged), AllocError>
     ensures ok { IfOk result (λ o. (hands : List Hand) (bytes : ObjectId → List ℕ) (contents : Contents) → IsShown row.old (beside_of works.old hands bytes row.old.job) contents
         → TakesStep node row.old (beside_of works.old hands bytes row.old.job) contents (input.Arrive (arrival.FromPeer from message.now)) (row_given_of o.0) row.new (beside_of works.new hands bytes row.old.job)) }
     ensures judged { IfOk result (λ o. (hands : List Hand) (bytes : ObjectId → List ℕ) (contents : Contents) → IsShown row.old (beside_of works.old hands bytes row.old.job) contents
@@ -108,7 +105,6 @@ fn deliver_from(
     ensures few { IfOk result (λ o. length o.0.messages ≤ most_by_arrival (Some row.old) (arrival.FromPeer from message.now)) }
     ensures line { OnOk result (HasAsked works.old (record { 0 = row.old.job }) works.new) }
     ensures others { (other : JobNo) → same_job (record { 0 = row.old.job }) other ≡ false → IsSameFor other works.old works.new }
-    ensures memory { (r : Refusal) → IsErrOf result r → r ≡ NoMemory }
     ensures err { OnErr result (row.new ≡ row.old) }
     ensures works { OnErr result (works.new ≡ works.old) }
 {

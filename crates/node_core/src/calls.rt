@@ -1,8 +1,6 @@
 //! The commands of a session, carried out on the row of its job.
-ghost use Rattle.std.specs.Prelude.{◌≡◌, ℕ, ◌≤◌, length, Some, true, false, IfOk, OnOk, OnErr, IsErrOf, IsOk};
+ghost use Rattle.std.specs.Prelude.{◌≡◌, ℕ, ◌≤◌, length, Some, true, false, IfOk, OnOk, OnErr, IsOk};
 ghost use Rattle.obj_id.specs.declared.ids.JobNo.{JobNo};
-ghost use Rattle.obj_id.specs.declared.refusals.Refusal.{Refusal};
-ghost use Rattle.obj_id.specs.declared.refusals.Refusal.TheVariants.{NoMemory};
 ghost use Rattle.spill_work.specs.Line.{same_job, IsSameFor};
 ghost use Rattle.node_table.specs.Asked.{HasAsked};
 ghost use Rattle.node_table.specs.Outcomes.{given_of};
@@ -29,13 +27,12 @@ pub(crate) fn carry_out(
     works: &mut Works,
     session: u32,
     command: &Command<Bytes>,
-) -> Result<Outcome, Refusal>
+) -> Result<Outcome, AllocError>
     requires { is_of_row command.now ≡ true }
     ensures ok { IfOk result (λ o. Obeys node job.0 row.old works.old session command.now (given_of o) row.new works.new) }
     ensures few { IfOk result (λ o. length o.messages ≤ most_by_command (Some row.old) command.now) }
     ensures line { OnOk result (HasAsked works.old job works.new) }
     ensures others { (other : JobNo) → same_job job other ≡ false → IsSameFor other works.old works.new }
-    ensures memory { (r : Refusal) → IsErrOf result r → r ≡ NoMemory }
     ensures late { OnErr result (IsUnrefused row.old job.0 session command.now) }
     ensures room { OnErr result (row.old.job ≡ job.0 → IsRoomDue node row.old works.old command.now) }
     ensures frugal { takes_no_memory (Some row.old) command.now ≡ true → IsOk result }
@@ -60,11 +57,10 @@ fn carry_out_plain(
     works: &Works,
     session: u32,
     command: &Command<Bytes>,
-) -> Result<Outcome, Refusal>
+) -> Result<Outcome, AllocError>
     requires { is_plain command.now ≡ true }
     ensures ok { IfOk result (λ o. (job : ℕ) → is_own_lem job command.now ≡ true → Obeys node job row.old works.now session command.now (given_of o) row.new works.now) }
     ensures few { IfOk result (λ o. length o.messages ≤ most_by_command (Some row.old) command.now) }
-    ensures memory { (r : Refusal) → IsErrOf result r → r ≡ NoMemory }
     ensures late { OnErr result (IsLateOnRow row.old session command.now) }
     ensures err { OnErr result (row.new ≡ row.old) }
 {

@@ -1,7 +1,5 @@
 //! The works that a node's device workers take and answer.
-ghost use Rattle.std.specs.Prelude.{◌≡◌, [], IfOk, OnErr, IsErrOf, option_map, is_some};
-ghost use Rattle.obj_id.specs.declared.refusals.Refusal.{Refusal};
-ghost use Rattle.obj_id.specs.declared.refusals.Refusal.TheVariants.{NoMemory};
+ghost use Rattle.std.specs.Prelude.{◌≡◌, [], IfOk, OnErr, option_map, is_some};
 ghost use Rattle.private_store.specs.declared.schedules.Event.TheVariants as event;
 ghost use Rattle.private_store.specs.Contents.{View, judge};
 ghost use Rattle.spill_work.specs.Line.{front_of, taken_by};
@@ -15,6 +13,7 @@ use crate::Node;
 use crate::judged::if_ok;
 use obj_id::{DeviceAnswer, JobNo, Refusal, Reply};
 use private_store::Judged;
+use std::alloc::AllocError;
 
 impl Node {
     /// Whether a work waits that nobody has taken. No event: nothing changes. Takes no memory.
@@ -44,11 +43,10 @@ impl Node {
 
     /// A worker asks for a work: of all jobs' the first that nobody has taken, with a write's bytes. `NoWork` if there is
     /// none. The error is out of memory, and then nobody has taken the work.
-    pub(crate) fn take(&mut self) -> Result<node_table::Outcome, Refusal>
+    pub(crate) fn take(&mut self) -> Result<node_table::Outcome, AllocError>
         ensures ok { IfOk result (λ o. StepsOne self.old event.Take (row_given_of o) self.new) }
         ensures silent { IfOk result (λ o. o.messages ≡ []) }
         ensures late { OnErr result (IsFront self.old) }
-        ensures memory { (r : Refusal) → IsErrOf result r → r ≡ NoMemory }
         ensures err { OnErr result (self.new ≡ self.old) }
     {
         let Some(asked) = self.works.front() else {

@@ -1,7 +1,5 @@
 //! What a node knows of an event before it is taken.
-ghost use Rattle.std.specs.Prelude.{◌≡◌, ◌∷◌, [], Some, IfOk, IsErrOf};
-ghost use Rattle.obj_id.specs.declared.refusals.Refusal.{Refusal};
-ghost use Rattle.obj_id.specs.declared.refusals.Refusal.TheVariants.{NoMemory};
+ghost use Rattle.std.specs.Prelude.{◌≡◌, ◌∷◌, [], Some, IfOk};
 ghost use Rattle.node_core.specs.Hosted.{row_at};
 ghost use Rattle.node_core.specs.Foreseen.{takers_of_ended as takers_of_ended_lem, most_by_arrival as most_by_arrival_lem, most_by_command as most_by_command_lem, most_messages as most_messages_lem, takers_of as takers_of_lem, takers_told};
 
@@ -9,7 +7,7 @@ use crate::Node;
 use bytes::Bytes;
 use grants::Hand;
 use node_table::JobRow;
-use obj_id::{Arrival, Command, Items, JobNo, PeerMessage, Refusal};
+use obj_id::{Arrival, Command, Items, JobNo, PeerMessage};
 use private_store::Event;
 use std::alloc::{AllocError, Global};
 
@@ -42,11 +40,10 @@ impl Node {
         Foreseen { most_messages }
     }
 
-    /// The jobs that the event tells of hands if it is accepted, one for each note, in their order. `NoMemory` alone is an
-    /// error. It changes nothing.
-    pub fn takers(&self, event: &Event) -> Result<Items<JobNo>, Refusal>
+    /// The jobs that the event tells of hands if it is accepted, one for each note, in their order. The error is out
+    /// of memory. It changes nothing.
+    pub fn takers(&self, event: &Event) -> Result<Items<JobNo>, AllocError>
         ensures takers { IfOk result (λ takers. takers ≡ takers_of_lem self.now.hands event.now) }
-        ensures memory { (r : Refusal) → IsErrOf result r → r ≡ NoMemory }
     {
         match event {
             Event::Call(_, _, Command::Grant(_, target)) => Ok(one_taker(self.alloc, *target)?),

@@ -1,9 +1,7 @@
 //! Grant and Withdraw, and what they are to those to whom objects are granted.
-ghost use Rattle.std.specs.Prelude.{◌≡◌, [], None, map, IfOk, OnErr, IsErrOf};
+ghost use Rattle.std.specs.Prelude.{◌≡◌, [], None, map, IfOk, OnErr};
 ghost use Rattle.obj_id.specs.declared.commands.Command.TheVariants as command;
 ghost use Rattle.obj_id.specs.declared.commands.Reply.TheVariants as reply;
-ghost use Rattle.obj_id.specs.declared.refusals.Refusal.{Refusal};
-ghost use Rattle.obj_id.specs.declared.refusals.Refusal.TheVariants.{NoMemory};
 ghost use Rattle.private_store.specs.declared.schedules.Event.TheVariants as event;
 ghost use Rattle.private_store.specs.declared.schedules.NodeEvent.TheVariants as node_event;
 ghost use Rattle.node_table.specs.Outcomes.{given_of as row_given_of};
@@ -19,7 +17,7 @@ use crate::outcome::Outcome;
 use node_table::JobRow;
 use obj_id::{Command, JobNo, ObjectId, Refusal, Reply};
 use private_store::Judged;
-use std::alloc::Global;
+use std::alloc::{AllocError, Global};
 
 impl Node {
     /// Grants an object, the job's own or one that it was granted, to the target, live or not: the target is told.
@@ -32,13 +30,12 @@ impl Node {
         session: u32,
         id: &ObjectId,
         target: JobNo,
-    ) -> Result<Outcome, Refusal>
+    ) -> Result<Outcome, AllocError>
         ensures ok { IfOk result (λ o. Steps self.old (node_event.Own (event.Call job session (command.Grant id.now target))) (given_of o) self.new) }
         ensures silent { IfOk result (λ o. o.messages ≡ []) }
         ensures judged { IfOk result (λ o. o.judged ≡ judged_as (event.Call job session (command.Grant id.now target)) o.reply) }
         ensures takers { IfOk result (λ o. AreTakers self.old.hands (event.Call job session (command.Grant id.now target)) o.reply (map (λ note. note.job) o.notes)) }
         ensures late { OnErr result (IsCallUnrefused self.old job session (command.Grant id.now target)) }
-        ensures memory { (r : Refusal) → IsErrOf result r → r ≡ NoMemory }
         ensures err { OnErr result (self.new ≡ self.old) }
     {
         let judged = Some(Judged::Call(session, Command::Grant(*id, target)));
@@ -52,7 +49,7 @@ impl Node {
         }
         let notes = Vec::with_capacity(self.alloc, 1)?;
         let Ok(hand) = self.hands.grant(job, *id, target) else {
-            return Err(Refusal::NoMemory);
+            return Err(AllocError);
         };
         let outcome = give(self.alloc, job, row, session, id, target, table);
         Ok(Outcome::with_given(outcome, notes, &hand, length, judged))
@@ -67,13 +64,12 @@ impl Node {
         session: u32,
         id: &ObjectId,
         target: JobNo,
-    ) -> Result<Outcome, Refusal>
+    ) -> Result<Outcome, AllocError>
         ensures ok { IfOk result (λ o. Steps self.old (node_event.Own (event.Call job session (command.Withdraw id.now target))) (given_of o) self.new) }
         ensures silent { IfOk result (λ o. o.messages ≡ []) }
         ensures judged { IfOk result (λ o. o.judged ≡ judged_as (event.Call job session (command.Withdraw id.now target)) o.reply) }
         ensures takers { IfOk result (λ o. AreTakers self.old.hands (event.Call job session (command.Withdraw id.now target)) o.reply (map (λ note. note.job) o.notes)) }
         ensures late { OnErr result (IsCallUnrefused self.old job session (command.Withdraw id.now target)) }
-        ensures memory { (r : Refusal) → IsErrOf result r → r ≡ NoMemory }
         ensures err { OnErr result (self.new ≡ self.old) }
     {
         let judged = Some(Judged::Call(session, Command::Withdraw(*id, target)));
@@ -85,7 +81,7 @@ impl Node {
         }
         let notes = Vec::with_capacity(self.alloc, self.hands.len())?;
         let Ok(ended) = self.hands.withdraw(job, *id, target) else {
-            return Err(Refusal::NoMemory);
+            return Err(AllocError);
         };
         let granted = self.hands.is_granted(*id);
         let outcome = let_go(self.alloc, job, row, session, id, target, granted);

@@ -1,7 +1,5 @@
 //! The end of a job, and what it is to those to whom the job granted objects.
-ghost use Rattle.std.specs.Prelude.{◌≡◌, ◌≤◌, None, true, length, map, is_some, IfOk, OnErr, IsErrOf};
-ghost use Rattle.obj_id.specs.declared.refusals.Refusal.{Refusal};
-ghost use Rattle.obj_id.specs.declared.refusals.Refusal.TheVariants.{NoMemory};
+ghost use Rattle.std.specs.Prelude.{◌≡◌, ◌≤◌, None, true, length, map, is_some, IfOk, OnErr};
 ghost use Rattle.private_store.specs.declared.schedules.Event.TheVariants as event;
 ghost use Rattle.private_store.specs.declared.schedules.NodeEvent.TheVariants as node_event;
 ghost use Rattle.private_store.specs.Hands.{is_given_by};
@@ -25,13 +23,12 @@ impl Node {
     /// The operator ends a job: nothing is left of it here, the directory is told, the device keys of its copies are to be
     /// erased, and what it granted ends, with all that hangs on it: the takers are told in the order of the ends. The error
     /// is out of memory, and then nothing has changed.
-    pub(crate) fn end_job(&mut self, job: JobNo) -> Result<Outcome, Refusal>
+    pub(crate) fn end_job(&mut self, job: JobNo) -> Result<Outcome, AllocError>
         ensures ok { IfOk result (λ o. Steps self.old (node_event.Own (event.JobEnd job)) (given_of o) self.new) }
         ensures few { IfOk result (λ o. length o.messages ≤ 1) }
         ensures judged { IfOk result (λ o. o.judged ≡ judged_as (event.JobEnd job) o.reply) }
         ensures takers { IfOk result (λ o. AreTakers self.old.hands (event.JobEnd job) o.reply (map (λ note. note.job) o.notes)) }
         ensures late { OnErr result (end_check self.old.admissions job ≡ None) }
-        ensures memory { (r : Refusal) → IsErrOf result r → r ≡ NoMemory }
         ensures err { OnErr result (self.new ≡ self.old) }
     {
         if !self.admission.is_live(job) {

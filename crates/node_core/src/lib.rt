@@ -6,7 +6,7 @@ ghost use Rattle.std.specs.Option.{option_copied};
 ghost use Rattle.obj_id.specs.declared.ids.JobNo.{JobNo};
 ghost use Rattle.obj_id.specs.declared.commands.Reply.TheVariants as reply;
 ghost use Rattle.obj_id.specs.declared.refusals.Refusal.{Refusal};
-ghost use Rattle.obj_id.specs.declared.refusals.Refusal.TheVariants.{NoMemory, NotAdmitted};
+ghost use Rattle.obj_id.specs.declared.refusals.Refusal.TheVariants.{NotAdmitted};
 ghost use Rattle.private_store.specs.declared.schedules.Event.TheVariants as event;
 ghost use Rattle.private_store.specs.Jobs.{same_job};
 ghost use Rattle.private_store.specs.Contents.{View};
@@ -50,7 +50,7 @@ use obj_id::{Command, JobKey, JobNo, ObjectId, Quota, Refusal, Reply, Usage};
 pub use outcome::{Note, Outcome};
 use private_store::Event;
 use spill_work::Works;
-use std::alloc::Global;
+use std::alloc::{AllocError, Global};
 use std::marker::Model;
 
 /// A node of a cluster.
@@ -116,19 +116,18 @@ impl Node {
     /// Steps the node by one event of a schedule.
     ///
     /// For every job number, live or not, the view that the node shows of the job afterwards is what the private steps
-    /// make of the view before, on the list of inputs that the event is to that job. `NoMemory` alone, and then nothing
+    /// make of the view before, on the list of inputs that the event is to that job. The error is out of memory, and then nothing
     /// has changed: it never stands in for a refusal that is known before anything grows. A Finish and the commands Write,
     /// Release and Usage take no memory, nor does Leave while no copy is doomed. It sends no more messages than
     /// `foresee` says, tells of hands the jobs that `takers` says, and says what it was to its own job. The reply to a command
     /// has a frame.
-    pub fn apply(&mut self, event: &Event) -> Result<Outcome, Refusal>
+    pub fn apply(&mut self, event: &Event) -> Result<Outcome, AllocError>
         ensures ok { IfOk result (λ o. Steps self.old (node_event.Own event.now) (given_of o) self.new) }
         ensures late { OnErr result (IsLate self.old (node_event.Own event.now)) }
         ensures few { IfOk result (λ o. length o.messages ≤ most_messages self.old event.now) }
         ensures judged { IfOk result (λ o. IsJudged self.old event.now o.reply o.judged) }
         ensures takers { IfOk result (λ o. AreTakers self.old.hands event.now o.reply (map (λ note. note.job) o.notes)) }
         ensures small { IfOk result (λ o. IsSmall self.old event.now o.reply) }
-        ensures memory { (r : Refusal) → IsErrOf result r → r ≡ NoMemory }
         ensures frugal { is_frugal self.old event.now ≡ true → IsOk result }
         ensures err { OnErr result (self.new ≡ self.old) }
     {
@@ -153,14 +152,13 @@ impl Node {
     }
 
     /// A step of what may end hands or give one.
-    fn move_hands(&mut self, event: &Event) -> Result<Outcome, Refusal>
+    fn move_hands(&mut self, event: &Event) -> Result<Outcome, AllocError>
         requires moves { moves_hands event.now ≡ true }
         ensures ok { IfOk result (λ o. Steps self.old (node_event.Own event.now) (given_of o) self.new) }
         ensures few { IfOk result (λ o. length o.messages ≤ most_messages self.old event.now) }
         ensures judged { IfOk result (λ o. o.judged ≡ judged_as event.now o.reply) }
         ensures takers { IfOk result (λ o. AreTakers self.old.hands event.now o.reply (map (λ note. note.job) o.notes)) }
         ensures late { OnErr result (IsEventUnrefused self.old event.now) }
-        ensures memory { (r : Refusal) → IsErrOf result r → r ≡ NoMemory }
         ensures err { OnErr result (self.new ≡ self.old) }
     {
         match event {
@@ -179,13 +177,12 @@ impl Node {
     }
 
     /// A step of all else but a Finish.
-    fn step_one(&mut self, event: &Event) -> Result<node_table::Outcome, Refusal>
+    fn step_one(&mut self, event: &Event) -> Result<node_table::Outcome, AllocError>
         requires other { is_finish event.now ≡ false }
         requires lasting { moves_hands event.now ≡ false }
         ensures ok { IfOk result (λ o. StepsOne self.old event.now (row_given_of o) self.new) }
         ensures few { IfOk result (λ o. length o.messages ≤ most_messages self.old event.now) }
         ensures late { OnErr result (IsEventUnrefused self.old event.now) }
-        ensures memory { (r : Refusal) → IsErrOf result r → r ≡ NoMemory }
         ensures frugal { is_frugal self.old event.now ≡ true → IsOk result }
         ensures err { OnErr result (self.new ≡ self.old) }
     {
@@ -273,12 +270,11 @@ impl Node {
         job: JobNo,
         session: u32,
         command: &Command<Bytes>,
-    ) -> Result<node_table::Outcome, Refusal>
+    ) -> Result<node_table::Outcome, AllocError>
         requires lasting { moves_hands (event.Call job session command.now) ≡ false }
         ensures ok { IfOk result (λ o. StepsOne self.old (event.Call job session command.now) (row_given_of o) self.new) }
         ensures few { IfOk result (λ o. length o.messages ≤ most_by_command (row_at self.old job) command.now) }
         ensures late { OnErr result (IsCallUnrefused self.old job session command.now) }
-        ensures memory { (r : Refusal) → IsErrOf result r → r ≡ NoMemory }
         ensures frugal { takes_no_memory (row_at self.old job) command.now ≡ true → IsOk result }
         ensures err { OnErr result (self.new ≡ self.old) }
     {
@@ -297,12 +293,11 @@ impl Node {
         job: JobNo,
         session: u32,
         command: &Command<Bytes>,
-    ) -> Result<node_table::Outcome, Refusal>
+    ) -> Result<node_table::Outcome, AllocError>
         requires { is_of_row command.now ≡ true }
         ensures ok { IfOk result (λ o. StepsOne self.old (event.Call job session command.now) (row_given_of o) self.new) }
         ensures few { IfOk result (λ o. length o.messages ≤ most_by_command (row_at self.old job) command.now) }
         ensures late { OnErr result (IsCallUnrefused self.old job session command.now) }
-        ensures memory { (r : Refusal) → IsErrOf result r → r ≡ NoMemory }
         ensures frugal { takes_no_memory (row_at self.old job) command.now ≡ true → IsOk result }
         ensures err { OnErr result (self.new ≡ self.old) }
     {
@@ -327,11 +322,10 @@ impl Node {
         job: JobNo,
         quota: Quota,
         key: JobKey,
-    ) -> Result<node_table::Outcome, Refusal>
+    ) -> Result<node_table::Outcome, AllocError>
         ensures ok { IfOk result (λ o. StepsOne self.old (event.Admit job quota key) (row_given_of o) self.new) }
         ensures silent { IfOk result (λ o. o.messages ≡ []) }
         ensures late { OnErr result (admit_check self.old.admissions job quota ≡ None) }
-        ensures memory { (r : Refusal) → IsErrOf result r → r ≡ NoMemory }
         ensures err { OnErr result (self.new ≡ self.old) }
     {
         if let Some(refusal) = self.admission.admit_check(job, quota) {
@@ -342,22 +336,21 @@ impl Node {
     }
 
     /// The job is live from now on, with an empty row. All growth comes before the first change.
-    fn add_row(&mut self, job: JobNo, quota: Quota, key: JobKey) -> Result<(), Refusal>
+    fn add_row(&mut self, job: JobNo, quota: Quota, key: JobKey) -> Result<(), AllocError>
         requires { admit_check self.old.admissions job quota ≡ None }
         ensures ok { OnOk result (StepsOne self.old (event.Admit job quota key) (only reply.Ok) self.new) }
-        ensures memory { (r : Refusal) → IsErrOf result r → r ≡ NoMemory }
         ensures err { OnErr result (self.new ≡ self.old) }
     {
         let Ok(row) = JobRow::new(self.alloc, job, quota) else {
-            return Err(Refusal::NoMemory);
+            return Err(AllocError);
         };
         self.rows.reserve(1)?;
         let Ok(()) = self.admission.admit(job, quota, key) else {
-            return Err(Refusal::NoMemory);
+            return Err(AllocError);
         };
         match self.rows.insert(job, row) {
             Ok(_) => Ok(()),
-            Err(_) => Err(Refusal::NoMemory),
+            Err(_) => Err(AllocError),
         }
     }
 }

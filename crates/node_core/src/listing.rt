@@ -1,8 +1,6 @@
 //! What a job is told of its copies and of what others granted to it.
-ghost use Rattle.std.specs.Prelude.{◌≡◌, [], length, map, IfOk, OnErr, IsErrOf};
+ghost use Rattle.std.specs.Prelude.{◌≡◌, [], length, map, IfOk, OnErr};
 ghost use Rattle.obj_id.specs.declared.commands.Command.TheVariants as command;
-ghost use Rattle.obj_id.specs.declared.refusals.Refusal.{Refusal};
-ghost use Rattle.obj_id.specs.declared.refusals.Refusal.TheVariants.{NoMemory};
 ghost use Rattle.private_store.specs.declared.schedules.Event.TheVariants as event;
 ghost use Rattle.node_table.specs.Outcomes.{given_of as row_given_of};
 ghost use Rattle.node_core.specs.Granted.{granted_item as granted_item_lem, granted_here};
@@ -18,11 +16,10 @@ use std::alloc::AllocError;
 impl Node {
     /// List: the job's own copies by rising id, and the objects that others granted to it. `NotAdmitted` if the job
     /// isn't live. The error is out of memory. Changes nothing.
-    pub(crate) fn list(&self, job: JobNo, session: u32) -> Result<node_table::Outcome, Refusal>
+    pub(crate) fn list(&self, job: JobNo, session: u32) -> Result<node_table::Outcome, AllocError>
         ensures ok { IfOk result (λ o. StepsOne self.now (event.Call job session command.List) (row_given_of o) self.now) }
         ensures silent { IfOk result (λ o. o.messages ≡ []) }
         ensures late { OnErr result (IsCallUnrefused self.now job session command.List) }
-        ensures memory { (r : Refusal) → IsErrOf result r → r ≡ NoMemory }
     {
         let Some(row) = self.rows.get(&job) else {
             let reply = Reply::Refused(Refusal::NotAdmitted);

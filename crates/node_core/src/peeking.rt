@@ -1,9 +1,7 @@
 //! Peek: bytes of an object that another job granted.
-ghost use Rattle.std.specs.Prelude.{◌≡◌, [], length, IfOk, IfSome, OnErr, IsErrOf};
+ghost use Rattle.std.specs.Prelude.{◌≡◌, [], IfOk, IfSome, OnErr};
 ghost use Rattle.std.specs.List.{list_any};
 ghost use Rattle.obj_id.specs.declared.commands.Command.TheVariants as command;
-ghost use Rattle.obj_id.specs.declared.refusals.Refusal.{Refusal};
-ghost use Rattle.obj_id.specs.declared.refusals.Refusal.TheVariants.{NoMemory};
 ghost use Rattle.private_store.specs.declared.schedules.Event.TheVariants as event;
 ghost use Rattle.grants.specs.Table.{shows};
 ghost use Rattle.node_table.specs.Granting.{peek_check as peek_check_lem};
@@ -16,6 +14,7 @@ use crate::Node;
 use node_table::Lent;
 use obj_id::limits::MOST_BYTES;
 use obj_id::{JobNo, ObjectId, Refusal, Reply};
+use std::alloc::AllocError;
 
 impl Node {
     /// Peek: bytes of an object that another job granted, as they lie in the window of its own job. `NotAdmitted` if the
@@ -28,11 +27,10 @@ impl Node {
         id: &ObjectId,
         offset: u32,
         len: u32,
-    ) -> Result<node_table::Outcome, Refusal>
+    ) -> Result<node_table::Outcome, AllocError>
         ensures ok { IfOk result (λ o. StepsOne self.now (event.Call job session (command.Peek id.now offset len)) (row_given_of o) self.now) }
         ensures silent { IfOk result (λ o. o.messages ≡ []) }
         ensures late { OnErr result (IsCallUnrefused self.now job session (command.Peek id.now offset len)) }
-        ensures memory { (r : Refusal) → IsErrOf result r → r ≡ NoMemory }
     {
         let Some(_row) = self.rows.get(&job) else {
             let reply = Reply::Refused(Refusal::NotAdmitted);

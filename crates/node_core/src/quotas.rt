@@ -1,7 +1,5 @@
 //! Changes of the quotas of a node's jobs.
-ghost use Rattle.std.specs.Prelude.{◌≡◌, [], None, IfOk, OnErr, IsErrOf};
-ghost use Rattle.obj_id.specs.declared.refusals.Refusal.{Refusal};
-ghost use Rattle.obj_id.specs.declared.refusals.Refusal.TheVariants.{NoMemory};
+ghost use Rattle.std.specs.Prelude.{◌≡◌, [], None, IfOk, OnErr};
 ghost use Rattle.private_store.specs.declared.schedules.Event.TheVariants as event;
 ghost use Rattle.private_store.specs.Contents.{View};
 ghost use Rattle.node_table.specs.Outcomes.{given_of as row_given_of};
@@ -12,6 +10,7 @@ ghost use Rattle.node_core.specs.Steps.{requota_check as requota_check_lem};
 
 use crate::Node;
 use obj_id::{JobNo, Quota, Refusal, Reply};
+use std::alloc::AllocError;
 
 impl Node {
     /// Why the job can't have this quota: `NotAdmitted`, `BadSize`, `Full` if what it uses isn't within it, `NoRoom` if its
@@ -34,11 +33,10 @@ impl Node {
         &mut self,
         job: JobNo,
         quota: Quota,
-    ) -> Result<node_table::Outcome, Refusal>
+    ) -> Result<node_table::Outcome, AllocError>
         ensures ok { IfOk result (λ o. StepsOne self.old (event.Requota job quota) (row_given_of o) self.new) }
         ensures silent { IfOk result (λ o. o.messages ≡ []) }
         ensures late { OnErr result ((view : View) → Shows self.old job.0 view → requota_check_lem self.old.admissions view job quota ≡ None) }
-        ensures memory { (r : Refusal) → IsErrOf result r → r ≡ NoMemory }
         ensures err { OnErr result (self.new ≡ self.old) }
     {
         if let Some(refusal) = self.requota_check(job, quota) {
@@ -48,7 +46,7 @@ impl Node {
             unreachable!()
         };
         let Ok(()) = own_row.requota(quota) else {
-            return Err(Refusal::NoMemory);
+            return Err(AllocError);
         };
         let Ok(()) = self.admission.resize(job, quota) else {
             unreachable!()

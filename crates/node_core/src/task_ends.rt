@@ -1,8 +1,6 @@
 //! The end of a task, and what it is to those to whom its job granted the task's objects.
-ghost use Rattle.std.specs.Prelude.{◌≡◌, ◌≤◌, length, map, IfOk, OnErr, IsErrOf};
+ghost use Rattle.std.specs.Prelude.{◌≡◌, ◌≤◌, length, map, IfOk, OnErr};
 ghost use Rattle.obj_id.specs.declared.commands.Command.TheVariants as command;
-ghost use Rattle.obj_id.specs.declared.refusals.Refusal.{Refusal};
-ghost use Rattle.obj_id.specs.declared.refusals.Refusal.TheVariants.{NoMemory};
 ghost use Rattle.private_store.specs.declared.schedules.Event.TheVariants as event;
 ghost use Rattle.private_store.specs.declared.schedules.NodeEvent.TheVariants as node_event;
 ghost use Rattle.node_core.specs.Foreseen.{most_by_command, AreTakers};
@@ -16,6 +14,7 @@ use crate::Node;
 use crate::outcome::Outcome;
 use obj_id::{Command, JobNo, Refusal, Reply, TaskNo};
 use private_store::Judged;
+use std::alloc::AllocError;
 
 impl Node {
     /// A session ends a task of its job: the row doesn't take the task's commands from then on, and what the job granted
@@ -26,13 +25,12 @@ impl Node {
         job: JobNo,
         session: u32,
         task: TaskNo,
-    ) -> Result<Outcome, Refusal>
+    ) -> Result<Outcome, AllocError>
         ensures ok { IfOk result (λ o. Steps self.old (node_event.Own (event.Call job session (command.EndTask task))) (given_of o) self.new) }
         ensures few { IfOk result (λ o. length o.messages ≤ most_by_command (row_at self.old job) (command.EndTask task)) }
         ensures judged { IfOk result (λ o. o.judged ≡ judged_as (event.Call job session (command.EndTask task)) o.reply) }
         ensures takers { IfOk result (λ o. AreTakers self.old.hands (event.Call job session (command.EndTask task)) o.reply (map (λ note. note.job) o.notes)) }
         ensures late { OnErr result (IsCallUnrefused self.old job session (command.EndTask task)) }
-        ensures memory { (r : Refusal) → IsErrOf result r → r ≡ NoMemory }
         ensures err { OnErr result (self.new ≡ self.old) }
     {
         let judged = Some(Judged::Call(session, Command::EndTask(task)));

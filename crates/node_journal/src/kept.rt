@@ -89,12 +89,13 @@ impl<L: Ledger> Kept<L> {
     }
 
     /// Steps the node by one event, and adds one entry, which the receipt names, and after it a note to each job that the
-    /// step told of a hand. The entry stands under the event's job, and a Take's under the job whose work it gives. A list that might become longer than 65,536 lines by that is folded first: its base is then the
-    /// replay of its old base and lines, and it has the new lines alone.
+    /// step told of a hand. The entry stands under the event's job, and a Take's under the job whose work it gives. A list that
+    /// might become longer than 65,536 lines by that is folded first: its base is then the replay of its old base and lines, and
+    /// it has the new lines alone.
     ///
-    /// `NoMemory` alone, if the event, its entry or a fold finds no memory, if 1,152,921,504,606,846,975 entries were made,
-    /// or if the event tells 65,536 hands or more: then nothing has changed.
-    pub fn step(&mut self, event: &Event) -> Result<Made<L>, Refusal>
+    /// The error is out of memory: for the event, its entry or a fold, or since 1,152,921,504,606,846,975 entries were made or
+    /// the event tells 65,536 hands or more. Then nothing has changed.
+    pub fn step(&mut self, event: &Event) -> Result<Made<L>, AllocError>
         ensures node { IfOk result (λ r. Steps self.old.node (node_event.Own event.now) (given_of r.outcome) self.new.node) }
         ensures journal { IfOk result (λ r. (job : ℕ) → journal_of self.new.logs job
             ≡ journal_after self.old.node (self.old.count + 1) (node_event.Own event.now) r.outcome.judged (given_of r.outcome) job (journal_of self.old.logs job)) }
@@ -104,12 +105,11 @@ impl<L: Ledger> Kept<L> {
         ensures answered { IfOk result (λ r. is_call event.now ≡ true → wants_memory r.outcome.reply ≡ false) }
         ensures small { IfOk result (λ r. is_call event.now ≡ true → is_small_reply r.outcome.reply ≡ true) }
         ensures number { self.new.number ≡ self.old.number }
-        ensures memory { (r : Refusal) → IsErrOf result r → r ≡ NoMemory }
         ensures same { OnErr result ((self.new.node ≡ self.old.node) × (self.new.count ≡ self.old.count)) }
         ensures unchanged { OnErr result ((job : ℕ) → journal_of self.new.logs job ≡ journal_of self.old.logs job) }
     {
         if self.count >= LAST_ENTRY {
-            return Err(Refusal::NoMemory);
+            return Err(AllocError);
         }
         let Kept {
             alloc,
@@ -165,12 +165,12 @@ impl<L: Ledger> Kept<L> {
         }
         match arrival(from, message) {
             None => Err(Refusal::Stale),
-            Some(arrival) => self.take_in(job, &arrival),
+            Some(arrival) => Ok(self.take_in(job, &arrival)?),
         }
     }
 
     /// The message arrives, and its entry is added. The error is out of memory, and then nothing has changed.
-    fn take_in(&mut self, job: JobNo, arrival: &Arrival) -> Result<Made<L>, Refusal>
+    fn take_in(&mut self, job: JobNo, arrival: &Arrival) -> Result<Made<L>, AllocError>
         ensures node { IfOk result (λ r. Steps self.old.node (node_event.Arrive job arrival.now) (given_of r.outcome) self.new.node) }
         ensures journal { IfOk result (λ r. (other : ℕ) → journal_of self.new.logs other
             ≡ journal_after self.old.node (self.old.count + 1) (node_event.Arrive job arrival.now) r.outcome.judged (given_of r.outcome) other (journal_of self.old.logs other)) }
@@ -180,12 +180,11 @@ impl<L: Ledger> Kept<L> {
         ensures silent { IfOk result (λ r. r.outcome.notes ≡ []) }
         ensures count { OnOk result (self.new.count ≡ self.old.count + 1) }
         ensures number { self.new.number ≡ self.old.number }
-        ensures memory { (r : Refusal) → IsErrOf result r → r ≡ NoMemory }
         ensures same { OnErr result ((self.new.node ≡ self.old.node) × (self.new.count ≡ self.old.count)) }
         ensures unchanged { OnErr result ((other : ℕ) → journal_of self.new.logs other ≡ journal_of self.old.logs other) }
     {
         if self.count >= LAST_ENTRY {
-            return Err(Refusal::NoMemory);
+            return Err(AllocError);
         }
         let Kept {
             alloc,
@@ -230,16 +229,15 @@ impl<L: Ledger> Kept<L> {
         if matches!(self.agrees(receipt), Agreement::No) {
             return Err(Refusal::Stale);
         }
-        self.step(event)
+        Ok(self.step(event)?)
     }
 
     /// Folds the job's lines into its base: the new base is the replay of the old one and its lines, covers the number of the
     /// last of them, and no line is left. The memory of the lines is given back, and all else stays. Takes a walk over the lines
     /// and over the job's copies, works and hands. The error is out of memory, and then nothing has changed.
-    pub fn checkpoint(&mut self, job: JobNo) -> Result<(), Refusal>
+    pub fn checkpoint(&mut self, job: JobNo) -> Result<(), AllocError>
         ensures journal { OnOk result ((other : ℕ) → journal_of self.new.logs other ≡ folded_if (job.0 == other) (journal_of self.old.logs other)) }
         ensures same { (self.new.node ≡ self.old.node) × (self.new.count ≡ self.old.count) × (self.new.number ≡ self.old.number) }
-        ensures memory { (r : Refusal) → IsErrOf result r → r ≡ NoMemory }
         ensures unchanged { OnErr result (self.new.logs ≡ self.old.logs) }
     {
         let Kept {
@@ -290,11 +288,10 @@ impl<L: Ledger> Kept<L> {
     /// Sweeps the job's list, if the job isn't live. If it has notes alone, they become part of the base, and nothing more is covered;
     /// if then it is as that of a job that no step was of, nothing is kept of it. If it has entries and 64 lines or more, it is folded
     /// as by `checkpoint`. All else stays. The error is out of memory, and then nothing has changed.
-    pub fn sweep_job(&mut self, job: JobNo) -> Result<(), Refusal>
+    pub fn sweep_job(&mut self, job: JobNo) -> Result<(), AllocError>
         ensures journal { OnOk result ((other : ℕ) → journal_of self.new.logs other ≡ swept_if (job.0 == other && not (is_live_at self.old.node other)) (journal_of self.old.logs other)) }
         ensures forgotten { OnOk result (is_live_at self.old.node job.0 ≡ false → has_entries (journal_of self.old.logs job.0) ≡ false → settled (journal_of self.old.logs job.0) ≡ fresh job.0 → lookup (same_job job) self.new.logs ≡ None) }
         ensures same { (self.new.node ≡ self.old.node) × (self.new.count ≡ self.old.count) × (self.new.number ≡ self.old.number) }
-        ensures memory { (r : Refusal) → IsErrOf result r → r ≡ NoMemory }
         ensures unchanged { OnErr result (self.new.logs ≡ self.old.logs) }
     {
         let Kept {
@@ -520,7 +517,7 @@ fn record(
     number: u64,
     job: JobNo,
     event: &Event,
-) -> Result<Outcome, Refusal>
+) -> Result<Outcome, AllocError>
     requires job { job.0 ≡ job_at node.old.works.works (node_event.Own event.now) }
     requires told { ∥ Tells node.old (journal_of logs.old) ∥₁ }
     requires few { (job : ℕ) → length (list_of logs.old job) ≤ most_lines }
@@ -530,14 +527,13 @@ fn record(
     ensures logs { IfOk result (λ o. (job : ℕ) → journal_of logs.new job
         ≡ journal_after node.old number (node_event.Own event.now) o.judged (given_of o) job (journal_of logs.old job)) }
     ensures few { IfOk result (λ o. (job : ℕ) → length (list_of logs.new job) ≤ most_lines) }
-    ensures memory { (r : Refusal) → IsErrOf result r → r ≡ NoMemory }
     ensures err { OnErr result (node.new ≡ node.old) }
     ensures unchanged { OnErr result ((job : ℕ) → journal_of logs.new job ≡ journal_of logs.old job) }
 {
     // all growth comes before the node's step
     let takers = node.takers(event)?;
     if takers.as_slice().len() >= MOST_LINES {
-        return Err(Refusal::NoMemory);
+        return Err(AllocError);
     }
     logs.reserve(job, takers.as_slice())?;
     // the bases are those before the step
@@ -559,7 +555,7 @@ fn record_arrival(
     number: u64,
     job: JobNo,
     arrival: &Arrival,
-) -> Result<Outcome, Refusal>
+) -> Result<Outcome, AllocError>
     requires told { ∥ Tells node.old (journal_of logs.old) ∥₁ }
     requires few { (other : ℕ) → length (list_of logs.old other) ≤ most_lines }
     ensures node { IfOk result (λ o. Steps node.old (node_event.Arrive job arrival.now) (given_of o) node.new) }
@@ -569,7 +565,6 @@ fn record_arrival(
     ensures logs { IfOk result (λ o. (other : ℕ) → journal_of logs.new other
         ≡ journal_after node.old number (node_event.Arrive job arrival.now) o.judged (given_of o) other (journal_of logs.old other)) }
     ensures few { IfOk result (λ o. (other : ℕ) → length (list_of logs.new other) ≤ most_lines) }
-    ensures memory { (r : Refusal) → IsErrOf result r → r ≡ NoMemory }
     ensures err { OnErr result (node.new ≡ node.old) }
     ensures unchanged { OnErr result ((other : ℕ) → journal_of logs.new other ≡ journal_of logs.old other) }
 {

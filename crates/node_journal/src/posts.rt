@@ -1,17 +1,16 @@
 //! What a step gives: its answer, its receipt, and the messages that it sends.
-ghost use Rattle.std.specs.Prelude.{◌≡◌, ◌++◌, ◌⊎◌, ◌≢◌, Some, None, MatchOption, IfOk, IfSome, IsErrOf, OnErr, option_map};
+ghost use Rattle.std.specs.Prelude.{◌≡◌, IfOk, IfSome, OnErr, option_map};
 ghost use Rattle.std.specs.Option.{option_to_list};
 ghost use Rattle.obj_id.specs.declared.messages.Place.TheVariants as place;
-ghost use Rattle.obj_id.specs.declared.refusals.Refusal.{Refusal};
-ghost use Rattle.obj_id.specs.declared.refusals.Refusal.TheVariants.{NoMemory};
 ghost use Rattle.private_store.specs.Cluster.{arrival_of};
 ghost use Rattle.node_journal.specs.Posts.{posts_left, post_of, told_directory, Passes};
 
 use crate::entries::Receipt;
 use bytes::Bytes;
 use node_core::{Erase, Outcome};
-use obj_id::{Arrival, Items, JobNo, Message, Place, Refusal, Reply};
+use obj_id::{Arrival, JobNo, Message, Place, Reply};
 use owner_directory::{Directory, DirectoryReply};
+use std::alloc::AllocError;
 use std::marker::PhantomData;
 use std::sync::ledger::Ledger;
 use std::vec::IntoIter;
@@ -155,10 +154,9 @@ impl<L: Ledger> Posted<L> {
     /// the same job and entry. A message that isn't for the directory changes nothing, and has no answer.
     ///
     /// The error is out of memory, and then the directory is as it was.
-    pub fn through(self, directory: &mut Directory) -> Result<Option<Posted<L>>, Refusal>
+    pub fn through(self, directory: &mut Directory) -> Result<Option<Posted<L>>, AllocError>
         ensures passes { IfOk result (λ answer. Passes directory.old directory.new self.job (told_directory self.message) (option_to_list (option_map post_of answer))) }
         ensures sender { IfOk result (λ answer. IfSome answer (λ p. (p.job ≡ self.job) × (p.from ≡ place.Directory) × (p.entry ≡ self.entry))) }
-        ensures memory { (r : Refusal) → IsErrOf result r → r ≡ NoMemory }
         ensures err { OnErr result (directory.new ≡ directory.old) }
     {
         let Posted {

@@ -1,5 +1,5 @@
 -- A copy that is away is read back, in a place that is made for it.
-use Rattle.std.proofs.Common.{◌≡◌, ℕ, Bool, true, false, not, ◌&&◌, ◌||◌, ◌⊎◌, cond, inl, inr, ◌==◌, nat_eq, List, [], ◌∷◌, ◌++◌, ◌+◌, ◌-◌, ◌<◌, ◌≤◌, Option, Some, None, is_some, option_map, Ok, Err, refl, sym, ap, subst, ◌∙◌, arith}
+use Rattle.std.proofs.Common.{◌≡◌, ℕ, Bool, true, false, not, ◌&&◌, ◌||◌, ◌⊎◌, cond, nat_le, inl, inr, ◌==◌, nat_eq, List, [], ◌∷◌, ◌++◌, ◌+◌, ◌-◌, ◌<◌, ◌≤◌, Option, Some, None, is_some, option_map, Ok, Err, refl, sym, ap, subst, ◌∙◌, arith}
 use Rattle.std.specs.Prelude.{is_ok}
 use Rattle.std.proofs.lemmas.Bool.Decides.{nat_tests}
 use Rattle.std.proofs.lemmas.List.{append-nil}
@@ -31,7 +31,7 @@ use Rattle.private_store.specs.Tables.{at, is_among}
 use Rattle.private_store.proofs.KeptCopy.{has_work-split}
 use Rattle.private_store.proofs.Checks.{checked-nil, checked-true, checked-false}
 use Rattle.private_store.proofs.Tests.{both, none_some, none_here, true_false}
-use Rattle.spill_work.specs.Line.{WorkLine, Asks, used_by, works_of, in_flight}
+use Rattle.spill_work.specs.Line.{WorkLine, Asks, ask_check, used_by, works_of, in_flight}
 use Rattle.node_table.specs.Asked.{HasAsked}
 use Rattle.job_region.specs.Region.{extents_of}
 use Rattle.node_table.specs.Evicting.{placed_without, replaced, removals}
@@ -165,6 +165,12 @@ pub few_works : (line : WorkLine) (j : JobNo) (job : ℕ) → j ≡ record { 0 =
 few_works line j job own few =
     let here : in_flight line (record { 0 = job }) < most_works = subst (λ j. in_flight line j < most_works) own few in
     grind (arith, nat_tests, here)
+
+pub may_ask : (line : WorkLine) (j own : JobNo) → j ≡ own → in_flight line own < most_works → has_numbers (used_by line own) 1 ≡ true → ask_check line j ≡ None
+may_ask line j own is few numbers =
+    let free : nat_le most_works (in_flight line own) ≡ false = grind (arith, nat_tests, few) in
+    subst (λ j. ask_check line j ≡ None) (sym is)
+    (ap (λ b. cond b (Some Busy) (cond (has_numbers (used_by line own) 1) None (Some TooMany))) free ∙ ap (λ b. cond b None (Some TooMany)) numbers)
 
 pub all_works : (line : WorkLine) (j : JobNo) (job : ℕ) → j ≡ record { 0 = job } → most_works ≤ in_flight line j → (most_works - in_flight line (record { 0 = job }) == 0) ≡ true
 all_works line j job own many =

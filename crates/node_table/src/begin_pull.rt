@@ -1,8 +1,6 @@
 //! The bytes of an object are asked for at their source.
-ghost use Rattle.std.specs.Prelude.{◌≡◌, ◌==◌, ℕ, ◌+◌, ◌≤◌, List, length, true, false, Ok, Some, None, IfOk, OnOk, OnErr, IsErrOf};
+ghost use Rattle.std.specs.Prelude.{◌≡◌, ◌==◌, ℕ, ◌+◌, ◌≤◌, List, length, true, false, Ok, Some, IfOk, OnOk, OnErr};
 ghost use Rattle.obj_id.specs.declared.ids.JobNo.{JobNo};
-ghost use Rattle.obj_id.specs.declared.refusals.Refusal.{Refusal};
-ghost use Rattle.obj_id.specs.declared.refusals.Refusal.TheVariants.{NoMemory};
 ghost use Rattle.obj_id.specs.declared.commands.CopyState.TheVariants.{Fetching};
 ghost use Rattle.obj_id.specs.declared.commands.Command.TheVariants as command;
 ghost use Rattle.private_store.specs.declared.inputs.Input.TheVariants as input;
@@ -15,7 +13,7 @@ ghost use Rattle.node_table.specs.Asked.{HasAsked};
 ghost use Rattle.node_table.specs.Checks.{can_pull_at, visible_state};
 ghost use Rattle.node_table.specs.Outcomes.{given_of};
 ghost use Rattle.std.specs.Option.{option_map_or};
-ghost use Rattle.std.specs.Prelude.{◌∷◌, [], unwrap_or};
+ghost use Rattle.std.specs.Prelude.{unwrap_or};
 ghost use Rattle.obj_id.specs.declared.messages.PeerMessage.TheVariants.{Pull};
 ghost use Rattle.node_table.specs.Evicting.{fits_without};
 ghost use Rattle.private_store.specs.Commands.{counted, chunk_count};
@@ -36,7 +34,7 @@ use crate::outcome::Outcome;
 use crate::room::MadeRoom;
 use crate::row::JobRow;
 use fetch_core::{Stage, all_chunks};
-use obj_id::{Items, Message, ObjectId, PeerMessage, Place, Refusal};
+use obj_id::{Items, Message, ObjectId, PeerMessage, Place};
 use spill_work::Works;
 use std::alloc::{AllocError, Global};
 
@@ -51,7 +49,7 @@ impl JobRow {
         node: u32,
         works: &mut Works,
         id: &ObjectId,
-    ) -> Result<Outcome, Refusal>
+    ) -> Result<Outcome, AllocError>
         requires alive { is_remembered self.old.ended_tasks id.now.task ≡ false }
         requires visible { visible_state (at self.old.copies id.now) ≡ Ok (Some Fetching) }
         requires sized { can_pull_at self.old id.now ≡ true }
@@ -61,7 +59,6 @@ impl JobRow {
         ensures line { OnOk result (HasAsked works.old id.now.job works.new) }
         ensures late { OnErr result ((id.now.job.0 == self.old.job) ≡ true → IsDueMore node self.old works.old (command.Get id.now)) }
         ensures others { (other : JobNo) → same_job id.now.job other ≡ false → IsSameFor other works.old works.new }
-        ensures memory { (r : Refusal) → IsErrOf result r → r ≡ NoMemory }
         ensures err { OnErr result (self.new ≡ self.old) }
         ensures works { OnErr result (works.new ≡ works.old) }
     {
@@ -87,7 +84,7 @@ impl JobRow {
         id: &ObjectId,
         len: u32,
         victims: &[ObjectId],
-    ) -> Result<Outcome, Refusal>
+    ) -> Result<Outcome, AllocError>
         requires alive { is_remembered self.old.ended_tasks id.now.task ≡ false }
         requires visible { visible_state (at self.old.copies id.now) ≡ Ok (Some Fetching) }
         requires sized { can_pull_at self.old id.now ≡ true }
@@ -97,7 +94,6 @@ impl JobRow {
             → MakesPlace (make_room self.old.order (shape_of self.old beside) len) (shape_of self.old beside) len victims.now
             → TakesStep node self.old beside contents (input.Call session (command.Get id.now)) (given_of o) self.new beside) }
         ensures few { IfOk result (λ o. length o.messages ≤ length self.old.copies + 1) }
-        ensures memory { (r : Refusal) → IsErrOf result r → r ≡ NoMemory }
         ensures err { OnErr result (self.new ≡ self.old) }
     {
         let mut messages = removals(alloc, node, self.copies(), victims)?;

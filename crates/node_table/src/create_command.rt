@@ -1,8 +1,6 @@
 //! Create: a copy to be written, in a place that is made for it.
-ghost use Rattle.std.specs.Prelude.{◌≡◌, ◌==◌, ℕ, ◌≤◌, List, length, [], true, false, None, Some, IfOk, OnOk, OnErr, IsErrOf};
+ghost use Rattle.std.specs.Prelude.{◌≡◌, ◌==◌, ℕ, ◌≤◌, List, length, true, false, None, IfOk, OnOk, OnErr};
 ghost use Rattle.obj_id.specs.declared.ids.JobNo.{JobNo};
-ghost use Rattle.obj_id.specs.declared.refusals.Refusal.{Refusal};
-ghost use Rattle.obj_id.specs.declared.refusals.Refusal.TheVariants.{NoMemory};
 ghost use Rattle.obj_id.specs.declared.commands.Command.TheVariants as command;
 ghost use Rattle.private_store.specs.declared.inputs.Input.TheVariants as input;
 ghost use Rattle.private_store.specs.Contents.{Contents};
@@ -12,9 +10,7 @@ ghost use Rattle.spill_work.specs.Line.{same_job, IsSameFor};
 ghost use Rattle.node_table.specs.Asked.{HasAsked};
 ghost use Rattle.node_table.specs.Checks.{create_check as create_check_lem};
 ghost use Rattle.node_table.specs.Evicting.{fits_without, removals as removals_lem};
-ghost use Rattle.node_table.specs.Kept.{Kept};
 ghost use Rattle.node_table.specs.Late.{IsDueMore};
-ghost use Rattle.private_store.specs.Tables.{ById};
 ghost use Rattle.node_table.specs.Outcomes.{given_of};
 ghost use Rattle.node_table.specs.RoomPlans.{MakesPlace};
 ghost use Rattle.node_table.specs.Row.{Beside, beside_of, shape_of};
@@ -45,14 +41,13 @@ impl JobRow {
         id: &ObjectId,
         kind: Kind,
         len: u32,
-    ) -> Result<Outcome, Refusal>
+    ) -> Result<Outcome, AllocError>
         ensures ok { IfOk result (λ o. (session : ℕ) (hands : List Hand) (bytes : ObjectId → List ℕ) (contents : Contents) → (id.now.job.0 == self.old.job) ≡ true → IsShown self.old (beside_of works.old hands bytes self.old.job) contents
             → TakesStep node self.old (beside_of works.old hands bytes self.old.job) contents (input.Call session (command.Create id.now kind len)) (given_of o) self.new (beside_of works.new hands bytes self.old.job)) }
         ensures few { IfOk result (λ o. length o.messages ≤ length self.old.copies) }
         ensures line { OnOk result (HasAsked works.old id.now.job works.new) }
         ensures late { OnErr result ((id.now.job.0 == self.old.job) ≡ true → IsDueMore node self.old works.old (command.Create id.now kind len)) }
         ensures others { (other : JobNo) → same_job id.now.job other ≡ false → IsSameFor other works.old works.new }
-        ensures memory { (r : Refusal) → IsErrOf result r → r ≡ NoMemory }
         ensures err { OnErr result (self.new ≡ self.old) }
         ensures works { OnErr result (works.new ≡ works.old) }
     {
@@ -76,14 +71,13 @@ impl JobRow {
         kind: Kind,
         len: u32,
         victims: &[ObjectId],
-    ) -> Result<Outcome, Refusal>
+    ) -> Result<Outcome, AllocError>
         requires checked { create_check_lem self.old id.now len ≡ None }
         requires fits { fits_without self.old id.now len victims.now ≡ true }
         ensures ok { IfOk result (λ o. (session : ℕ) (beside : Beside) (contents : Contents) → (id.now.job.0 == self.old.job) ≡ true → IsShown self.old beside contents
             → MakesPlace (make_room self.old.order (shape_of self.old beside) len) (shape_of self.old beside) len victims.now
             → TakesStep node self.old beside contents (input.Call session (command.Create id.now kind len)) (given_of o) self.new beside) }
         ensures few { IfOk result (λ o. length o.messages ≤ length self.old.copies) }
-        ensures memory { (r : Refusal) → IsErrOf result r → r ≡ NoMemory }
         ensures err { OnErr result (self.new ≡ self.old) }
     {
         // what has no copy isn't in the order of use

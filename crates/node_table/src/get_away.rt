@@ -1,8 +1,6 @@
 //! Get of a copy that is on the device alone.
-ghost use Rattle.std.specs.Prelude.{◌≡◌, ◌==◌, ℕ, ◌+◌, ◌≤◌, List, length, true, false, Ok, Some, None, IfOk, OnOk, OnErr, IsErrOf};
+ghost use Rattle.std.specs.Prelude.{◌≡◌, ◌==◌, ℕ, ◌+◌, ◌≤◌, List, length, true, false, Ok, Some, IfOk, OnOk, OnErr};
 ghost use Rattle.obj_id.specs.declared.ids.JobNo.{JobNo};
-ghost use Rattle.obj_id.specs.declared.refusals.Refusal.{Refusal};
-ghost use Rattle.obj_id.specs.declared.refusals.Refusal.TheVariants.{NoMemory};
 ghost use Rattle.obj_id.specs.declared.commands.CopyState.TheVariants.{Away};
 ghost use Rattle.obj_id.specs.declared.commands.Command.TheVariants as command;
 ghost use Rattle.private_store.specs.declared.inputs.Input.TheVariants as input;
@@ -21,9 +19,9 @@ ghost use Rattle.node_table.specs.Shown.{IsShown, TakesStep};
 use crate::get_command::told;
 use crate::outcome::Outcome;
 use crate::row::JobRow;
-use obj_id::{ObjectId, Refusal};
+use obj_id::ObjectId;
 use spill_work::Works;
-use std::alloc::Global;
+use std::alloc::{AllocError, Global};
 
 impl JobRow {
     /// Get of a copy that is away: what its last restore came to is told, once; otherwise it is read back. `DeviceFailed`,
@@ -34,7 +32,7 @@ impl JobRow {
         node: u32,
         works: &mut Works,
         id: &ObjectId,
-    ) -> Result<Outcome, Refusal>
+    ) -> Result<Outcome, AllocError>
         requires alive { is_remembered self.old.ended_tasks id.now.task ≡ false }
         requires visible { visible_state (at self.old.copies id.now) ≡ Ok (Some Away) }
         ensures ok { IfOk result (λ o. (session : ℕ) (hands : List Hand) (bytes : ObjectId → List ℕ) (contents : Contents) → (id.now.job.0 == self.old.job) ≡ true → IsShown self.old (beside_of works.old hands bytes self.old.job) contents
@@ -43,7 +41,6 @@ impl JobRow {
         ensures line { OnOk result (HasAsked works.old id.now.job works.new) }
         ensures late { OnErr result ((id.now.job.0 == self.old.job) ≡ true → IsDueMore node self.old works.old (command.Get id.now)) }
         ensures others { (other : JobNo) → same_job id.now.job other ≡ false → IsSameFor other works.old works.new }
-        ensures memory { (r : Refusal) → IsErrOf result r → r ≡ NoMemory }
         ensures err { OnErr result (self.new ≡ self.old) }
         ensures works { OnErr result (works.new ≡ works.old) }
     {

@@ -1,9 +1,8 @@
 //! Get: a hold on a copy that is here, and otherwise what brings it here.
-ghost use Rattle.std.specs.Prelude.{◌≡◌, [], ◌==◌, ℕ, ◌+◌, ◌≤◌, List, length, true, false, Some, None, IsOk, IfOk, IfSome, IfNone, OnOk, OnErr, IsErrOf};
+ghost use Rattle.std.specs.Prelude.{◌≡◌, [], ◌==◌, ℕ, ◌+◌, ◌≤◌, List, length, true, false, None, IsOk, IfOk, IfSome, IfNone, OnOk, OnErr};
 ghost use Rattle.std.specs.Option.{option_map_or};
 ghost use Rattle.obj_id.specs.declared.ids.JobNo.{JobNo};
-ghost use Rattle.obj_id.specs.declared.refusals.Refusal.{Refusal};
-ghost use Rattle.obj_id.specs.declared.refusals.Refusal.TheVariants.{NoMemory, Pending};
+ghost use Rattle.obj_id.specs.declared.refusals.Refusal.TheVariants.{Pending};
 ghost use Rattle.obj_id.specs.declared.commands.Command.TheVariants as command;
 ghost use Rattle.obj_id.specs.declared.commands.Reply.TheVariants as reply;
 ghost use Rattle.private_store.specs.declared.inputs.Input.TheVariants as input;
@@ -16,7 +15,6 @@ ghost use Rattle.private_store.specs.Hands.{Hand};
 ghost use Rattle.spill_work.specs.Line.{WorkLine, same_job, IsSameFor};
 ghost use Rattle.node_table.specs.Asked.{HasAsked};
 ghost use Rattle.node_table.specs.Row.{Beside, beside_of};
-ghost use Rattle.node_table.specs.Checks.{fetch_check as fetch_check_lem};
 ghost use Rattle.node_table.specs.Kept.{is_ready};
 ghost use Rattle.node_table.specs.Late.{IsDueMore};
 ghost use Rattle.node_table.specs.Outcomes.{given_of};
@@ -25,27 +23,30 @@ ghost use Rattle.node_table.specs.Shown.{IsShown, TakesStep, only};
 use crate::outcome::{Erase, Outcome};
 use crate::row::JobRow;
 use bytes::Bytes;
-use obj_id::{CopyState, DirectoryMessage, Items, JobNo, Message, ObjectId, Place, Refusal, Reply};
+use obj_id::{CopyState, DirectoryMessage, Items, Message, ObjectId, Place, Refusal, Reply};
 use spill_work::Works;
 use std::alloc::{AllocError, Global};
 
 impl JobRow {
     /// Get of a sealed copy: one more hold of the session, and the copy is the most recently used one.
     /// `TooMany` at 64 holds. `None` if there is no sealed copy, and then nothing has changed.
-    fn get_sealed(&mut self, session: u32, id: &ObjectId) -> Result<Option<Reply<Bytes>>, Refusal>
+    fn get_sealed(
+        &mut self,
+        session: u32,
+        id: &ObjectId,
+    ) -> Result<Option<Reply<Bytes>>, AllocError>
         requires { is_remembered self.old.ended_tasks id.now.task ≡ false }
         ensures some { IfOk result (λ o. IfSome o (λ reply. (node : ℕ) (beside : Beside) (contents : Contents) → (id.now.job.0 == self.old.job) ≡ true → IsShown self.old beside contents
             → TakesStep node self.old beside contents (input.Call session (command.Get id.now)) (only reply) self.new beside)) }
         ensures none { IfOk result (λ o. IfNone o (option_map_or (λ k. is_ready k.copy) (at self.old.copies id.now) false ≡ false)) }
         ensures same { IfOk result (λ o. IfNone o (self.new ≡ self.old)) }
-        ensures memory { (r : Refusal) → IsErrOf result r → r ≡ NoMemory }
         ensures late { OnErr result ((node : ℕ) (line : WorkLine) → (id.now.job.0 == self.old.job) ≡ true → IsDueMore node self.old line (command.Get id.now)) }
         ensures err { OnErr result (self.new ≡ self.old) }
     {
         match self.hold_copy(id, session) {
             Ok(None) => Ok(None),
             Ok(Some(length)) => Ok(Some(Reply::Got(length))),
-            Err(refusal) if refusal == Refusal::NoMemory => Err(refusal),
+            Err(refusal) if refusal == Refusal::NoMemory => Err(AllocError),
             Err(refusal) => Ok(Some(Reply::Refused(refusal))),
         }
     }
@@ -54,13 +55,17 @@ impl JobRow {
 impl JobRow {
     /// Get of an object that isn't here: its fetch begins, under the job's next number, and its source is
     /// asked for. `TooMany` at 1,024 copies, and if no number is left; otherwise the answer is `Pending`.
-    fn begin_fetch(&mut self, alloc: Global, node: u32, id: &ObjectId) -> Result<Outcome, Refusal>
+    fn begin_fetch(
+        &mut self,
+        alloc: Global,
+        node: u32,
+        id: &ObjectId,
+    ) -> Result<Outcome, AllocError>
         requires alive { is_remembered self.old.ended_tasks id.now.task ≡ false }
         requires none { at self.old.copies id.now ≡ None }
         ensures ok { IfOk result (λ o. (session : ℕ) (beside : Beside) (contents : Contents) → (id.now.job.0 == self.old.job) ≡ true → IsShown self.old beside contents
             → TakesStep node self.old beside contents (input.Call session (command.Get id.now)) (given_of o) self.new beside) }
         ensures few { IfOk result (λ o. length o.messages ≤ 1) }
-        ensures memory { (r : Refusal) → IsErrOf result r → r ≡ NoMemory }
         ensures late { OnErr result ((line : WorkLine) → (id.now.job.0 == self.old.job) ≡ true → IsDueMore node self.old line (command.Get id.now)) }
         ensures err { OnErr result (self.new ≡ self.old) }
     {
@@ -83,7 +88,7 @@ impl JobRow {
         node: u32,
         works: &mut Works,
         id: &ObjectId,
-    ) -> Result<Outcome, Refusal>
+    ) -> Result<Outcome, AllocError>
         requires alive { is_remembered self.old.ended_tasks id.now.task ≡ false }
         requires unready { option_map_or (λ k. is_ready k.copy) (at self.old.copies id.now) false ≡ false }
         ensures ok { IfOk result (λ o. (session : ℕ) (hands : List Hand) (bytes : ObjectId → List ℕ) (contents : Contents) → (id.now.job.0 == self.old.job) ≡ true → IsShown self.old (beside_of works.old hands bytes self.old.job) contents
@@ -92,7 +97,6 @@ impl JobRow {
         ensures line { OnOk result (HasAsked works.old id.now.job works.new) }
         ensures late { OnErr result ((id.now.job.0 == self.old.job) ≡ true → IsDueMore node self.old works.old (command.Get id.now)) }
         ensures others { (other : JobNo) → same_job id.now.job other ≡ false → IsSameFor other works.old works.new }
-        ensures memory { (r : Refusal) → IsErrOf result r → r ≡ NoMemory }
         ensures err { OnErr result (self.new ≡ self.old) }
         ensures works { OnErr result (works.new ≡ works.old) }
     {
@@ -123,14 +127,13 @@ impl JobRow {
         works: &mut Works,
         session: u32,
         id: &ObjectId,
-    ) -> Result<Outcome, Refusal>
+    ) -> Result<Outcome, AllocError>
         ensures ok { IfOk result (λ o. (hands : List Hand) (bytes : ObjectId → List ℕ) (contents : Contents) → (id.now.job.0 == self.old.job) ≡ true → IsShown self.old (beside_of works.old hands bytes self.old.job) contents
             → TakesStep node self.old (beside_of works.old hands bytes self.old.job) contents (input.Call session (command.Get id.now)) (given_of o) self.new (beside_of works.new hands bytes self.old.job)) }
         ensures few { IfOk result (λ o. length o.messages ≤ length self.old.copies + 1) }
         ensures line { OnOk result (HasAsked works.old id.now.job works.new) }
         ensures late { OnErr result ((id.now.job.0 == self.old.job) ≡ true → IsDueMore node self.old works.old (command.Get id.now)) }
         ensures others { (other : JobNo) → same_job id.now.job other ≡ false → IsSameFor other works.old works.new }
-        ensures memory { (r : Refusal) → IsErrOf result r → r ≡ NoMemory }
         ensures err { OnErr result (self.new ≡ self.old) }
         ensures works { OnErr result (works.new ≡ works.old) }
     {
@@ -145,7 +148,7 @@ impl JobRow {
 }
 
 /// A refusal that is told, and nothing else.
-pub(crate) fn told(alloc: Global, refusal: Refusal) -> Result<Outcome, Refusal>
+pub(crate) fn told(alloc: Global, refusal: Refusal) -> Result<Outcome, AllocError>
     ensures ok { IfOk result (λ o. given_of o ≡ only (reply.Refused refusal)) }
     ensures told { IsOk result }
 {

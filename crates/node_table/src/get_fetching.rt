@@ -1,8 +1,6 @@
 //! Get of a copy that is on its way.
-ghost use Rattle.std.specs.Prelude.{◌≡◌, ◌==◌, ℕ, ◌+◌, ◌≤◌, List, length, true, false, Ok, Some, None, IfOk, OnOk, OnErr, IsErrOf, IsSome, ◌∷◌, [], unwrap_or};
+ghost use Rattle.std.specs.Prelude.{◌≡◌, ◌==◌, ℕ, ◌+◌, ◌≤◌, List, length, true, false, Ok, Some, IfOk, OnOk, OnErr, ◌∷◌, [], unwrap_or};
 ghost use Rattle.obj_id.specs.declared.ids.JobNo.{JobNo};
-ghost use Rattle.obj_id.specs.declared.refusals.Refusal.{Refusal};
-ghost use Rattle.obj_id.specs.declared.refusals.Refusal.TheVariants.{NoMemory};
 ghost use Rattle.obj_id.specs.declared.commands.CopyState.TheVariants.{Fetching};
 ghost use Rattle.obj_id.specs.declared.commands.Command.TheVariants as command;
 ghost use Rattle.private_store.specs.declared.inputs.Input.TheVariants as input;
@@ -43,7 +41,7 @@ impl JobRow {
         node: u32,
         works: &mut Works,
         id: &ObjectId,
-    ) -> Result<Outcome, Refusal>
+    ) -> Result<Outcome, AllocError>
         requires alive { is_remembered self.old.ended_tasks id.now.task ≡ false }
         requires visible { visible_state (at self.old.copies id.now) ≡ Ok (Some Fetching) }
         ensures ok { IfOk result (λ o. (session : ℕ) (hands : List Hand) (bytes : ObjectId → List ℕ) (contents : Contents) → (id.now.job.0 == self.old.job) ≡ true → IsShown self.old (beside_of works.old hands bytes self.old.job) contents
@@ -52,7 +50,6 @@ impl JobRow {
         ensures line { OnOk result (HasAsked works.old id.now.job works.new) }
         ensures late { OnErr result ((id.now.job.0 == self.old.job) ≡ true → IsDueMore node self.old works.old (command.Get id.now)) }
         ensures others { (other : JobNo) → same_job id.now.job other ≡ false → IsSameFor other works.old works.new }
-        ensures memory { (r : Refusal) → IsErrOf result r → r ≡ NoMemory }
         ensures err { OnErr result (self.new ≡ self.old) }
         ensures works { OnErr result (works.new ≡ works.old) }
     {
@@ -80,7 +77,7 @@ impl JobRow {
         works: &mut Works,
         id: &ObjectId,
         len: u32,
-    ) -> Result<Outcome, Refusal>
+    ) -> Result<Outcome, AllocError>
         requires alive { is_remembered self.old.ended_tasks id.now.task ≡ false }
         requires visible { visible_state (at self.old.copies id.now) ≡ Ok (Some Fetching) }
         requires sized { (k : Kept) → at self.old.copies id.now ≡ Some k → (source : ℕ) × IsInPhase k.copy (sized source) }
@@ -91,7 +88,6 @@ impl JobRow {
         ensures line { OnOk result (HasAsked works.old id.now.job works.new) }
         ensures late { OnErr result ((id.now.job.0 == self.old.job) ≡ true → IsDueMore node self.old works.old (command.Get id.now)) }
         ensures others { (other : JobNo) → same_job id.now.job other ≡ false → IsSameFor other works.old works.new }
-        ensures memory { (r : Refusal) → IsErrOf result r → r ≡ NoMemory }
         ensures err { OnErr result (self.new ≡ self.old) }
         ensures works { OnErr result (works.new ≡ works.old) }
     {

@@ -1,8 +1,6 @@
 //! A copy that is away is read back.
-ghost use Rattle.std.specs.Prelude.{◌≡◌, ◌==◌, ℕ, ◌+◌, ◌<◌, ◌≤◌, List, length, true, false, Ok, Some, None, IfOk, OnOk, OnErr, IsErrOf};
+ghost use Rattle.std.specs.Prelude.{◌≡◌, ◌==◌, ℕ, ◌+◌, ◌<◌, ◌≤◌, List, length, true, false, Ok, Some, None, IfOk, OnOk, OnErr};
 ghost use Rattle.obj_id.specs.declared.ids.JobNo.{JobNo};
-ghost use Rattle.obj_id.specs.declared.refusals.Refusal.{Refusal};
-ghost use Rattle.obj_id.specs.declared.refusals.Refusal.TheVariants.{NoMemory};
 ghost use Rattle.obj_id.specs.declared.commands.CopyState.TheVariants.{Away};
 ghost use Rattle.obj_id.specs.declared.commands.Command.TheVariants as command;
 ghost use Rattle.private_store.specs.declared.inputs.Input.TheVariants as input;
@@ -10,7 +8,8 @@ ghost use Rattle.private_store.specs.Tables.{at};
 ghost use Rattle.private_store.specs.Kept.{is_remembered};
 ghost use Rattle.private_store.specs.Hands.{Hand};
 ghost use Rattle.private_store.specs.Contents.{Contents};
-ghost use Rattle.spill_work.specs.Line.{same_job, in_flight, used_by, IsSameFor};
+ghost use Rattle.spill_work.specs.Line.{Asks, ask_check, same_job, in_flight, used_by, IsSameFor};
+ghost use Rattle.obj_id.specs.declared.works.WorkKind.TheVariants.{Read};
 ghost use Rattle.std.specs.Map.{lookup};
 ghost use Rattle.std.specs.Option.{option_map_or};
 ghost use Rattle.private_store.specs.Limits.{most_works, has_numbers};
@@ -32,9 +31,9 @@ use crate::outcome::Outcome;
 use crate::room::{MadeRoom, RoomPlan};
 use crate::row::JobRow;
 use obj_id::limits::MOST_WORKS;
-use obj_id::{ObjectId, Refusal, WorkKind};
+use obj_id::{JobNo, ObjectId, Refusal, WorkKind};
 use spill_work::Works;
-use std::alloc::Global;
+use std::alloc::{AllocError, Global};
 
 impl JobRow {
     /// Get of a copy that is away and has no fault to tell of: room is made for it, and its bytes are asked for at the
@@ -47,7 +46,7 @@ impl JobRow {
         node: u32,
         works: &mut Works,
         id: &ObjectId,
-    ) -> Result<Outcome, Refusal>
+    ) -> Result<Outcome, AllocError>
         requires alive { is_remembered self.old.ended_tasks id.now.task ≡ false }
         requires visible { visible_state (at self.old.copies id.now) ≡ Ok (Some Away) }
         requires sound { fault_at self.old.copies id.now ≡ None }
@@ -57,7 +56,6 @@ impl JobRow {
         ensures line { OnOk result (HasAsked works.old id.now.job works.new) }
         ensures late { OnErr result ((id.now.job.0 == self.old.job) ≡ true → IsDueMore node self.old works.old (command.Get id.now)) }
         ensures others { (other : JobNo) → same_job id.now.job other ≡ false → IsSameFor other works.old works.new }
-        ensures memory { (r : Refusal) → IsErrOf result r → r ≡ NoMemory }
         ensures err { OnErr result (self.new ≡ self.old) }
         ensures works { OnErr result (works.new ≡ works.old) }
     {
@@ -88,7 +86,7 @@ impl JobRow {
         id: &ObjectId,
         len: u32,
         plan: RoomPlan,
-    ) -> Result<Outcome, Refusal>
+    ) -> Result<Outcome, AllocError>
         requires alive { is_remembered self.old.ended_tasks id.now.task ≡ false }
         requires visible { visible_state (at self.old.copies id.now) ≡ Ok (Some Away) }
         requires sound { fault_at self.old.copies id.now ≡ None }
@@ -103,7 +101,6 @@ impl JobRow {
         ensures line { OnOk result (HasAsked works.old id.now.job works.new) }
         ensures late { OnErr result (refuses plan ≡ false) }
         ensures others { (other : JobNo) → same_job id.now.job other ≡ false → IsSameFor other works.old works.new }
-        ensures memory { (r : Refusal) → IsErrOf result r → r ≡ NoMemory }
         ensures err { OnErr result (self.new ≡ self.old) }
         ensures works { OnErr result (works.new ≡ works.old) }
     {
@@ -124,7 +121,7 @@ impl JobRow {
         id: &ObjectId,
         len: u32,
         victims: &[ObjectId],
-    ) -> Result<Outcome, Refusal>
+    ) -> Result<Outcome, AllocError>
         requires alive { is_remembered self.old.ended_tasks id.now.task ≡ false }
         requires visible { visible_state (at self.old.copies id.now) ≡ Ok (Some Away) }
         requires sound { fault_at self.old.copies id.now ≡ None }
@@ -139,18 +136,29 @@ impl JobRow {
         ensures few { IfOk result (λ o. length o.messages ≤ length self.old.copies + 1) }
         ensures line { OnOk result (HasAsked works.old id.now.job works.new) }
         ensures others { (other : JobNo) → same_job id.now.job other ≡ false → IsSameFor other works.old works.new }
-        ensures memory { (r : Refusal) → IsErrOf result r → r ≡ NoMemory }
         ensures err { OnErr result (self.new ≡ self.old) }
         ensures works { OnErr result (works.new ≡ works.old) }
     {
         let messages = removals(alloc, node, self.copies(), victims)?;
-        let number = works.ask(id.job(), *id, WorkKind::Read)?;
+        let number = ask_read(works, id.job(), *id)?;
         match self.place_copy(alloc, id, len, victims, Awaited::Device) {
             Ok(_) => Ok(pending(messages)),
-            Err(refusal) => {
+            Err(error) => {
                 works.take_back(id.job(), number);
-                Err(refusal)
+                Err(error)
             }
         }
+    }
+}
+
+/// Asks for a read of the job, whose works and numbers aren't at their end. The error is out of memory, and then nothing has changed.
+fn ask_read(works: &mut Works, job: JobNo, id: ObjectId) -> Result<u64, AllocError>
+    requires { ask_check works.old job ≡ None }
+    ensures ok { IfOk result (λ number. Asks works.old (record { job = job; number = number; id = id; kind = Read }) works.new) }
+    ensures err { OnErr result (works.new ≡ works.old) }
+{
+    match works.ask(job, id, WorkKind::Read) {
+        Ok(number) => Ok(number),
+        Err(_) => Err(AllocError),
     }
 }

@@ -1,8 +1,7 @@
 //! How room is made in a row's window.
-ghost use Rattle.std.specs.Prelude.{◌≡◌, ℕ, ◌<◌, ◌≤◌, List, true, false, not, ◌&&◌, nat_le, length, IfOk, OnOk, OnErr, IsErrOf};
+ghost use Rattle.std.specs.Prelude.{◌≡◌, ℕ, ◌<◌, ◌≤◌, List, true, false, not, ◌&&◌, nat_le, length, IfOk, OnOk, OnErr};
 ghost use Rattle.obj_id.specs.declared.ids.JobNo.{JobNo};
-ghost use Rattle.obj_id.specs.declared.refusals.Refusal.TheVariants.{NoMemory};
-ghost use Rattle.spill_work.specs.Line.{same_job, IsSameFor, room_for as room_for_lem};
+ghost use Rattle.spill_work.specs.Line.{same_job, IsSameFor};
 ghost use Rattle.node_table.specs.Asked.{HasAsked};
 ghost use Rattle.node_table.specs.MadeRooms.{IsMade, IsPlannedFor, WaitsForPlace, is_told};
 ghost use Rattle.node_table.specs.Evicting.{fits_without as fits_without_lem};
@@ -10,7 +9,6 @@ ghost use Rattle.node_table.specs.Kept.{is_sealed_at};
 ghost use Rattle.private_store.specs.Limits.{longest_object};
 ghost use Rattle.private_store.specs.Extents.{is_size};
 ghost use Rattle.private_store.specs.Tables.{is_among as is_among_lem};
-ghost use Rattle.obj_id.specs.declared.refusals.Refusal.{Refusal};
 ghost use Rattle.obj_id.specs.declared.ids.ObjectId.{ObjectId};
 ghost use Rattle.private_store.specs.Room.{make_room, plan};
 ghost use Rattle.private_store.specs.Hands.{Hand};
@@ -131,7 +129,7 @@ impl JobRow {
         works: &mut Works,
         id: &ObjectId,
         len: u32,
-    ) -> Result<MadeRoom, Refusal>
+    ) -> Result<MadeRoom, AllocError>
         requires { is_sealed_at self.old.copies id.now ≡ false }
         ensures ok { IfOk result (λ made. (hands : List Hand) (bytes : ObjectId → List ℕ) (contents : Contents) → id.now.job ≡ record { 0 = self.old.job } → IsShown self.old (beside_of works.old hands bytes self.old.job) contents
             → 0 < len → len ≤ longest_object
@@ -140,7 +138,6 @@ impl JobRow {
         ensures made { IfOk result (λ made. is_told made ≡ false → IsPlannedFor self.old works.old len) }
         ensures line { OnOk result (HasAsked works.old id.now.job works.new) }
         ensures others { (other : JobNo) → same_job id.now.job other ≡ false → IsSameFor other works.old works.new }
-        ensures memory { (r : Refusal) → IsErrOf result r → r ≡ NoMemory }
         ensures late { OnErr result (IsPlannedFor self.old works.old len) }
         ensures err { OnErr result (self.new ≡ self.old) }
         ensures works { OnErr result (works.new ≡ works.old) }
@@ -157,7 +154,7 @@ impl JobRow {
         id: &ObjectId,
         len: u32,
         plan: RoomPlan,
-    ) -> Result<MadeRoom, Refusal>
+    ) -> Result<MadeRoom, AllocError>
         requires { is_sealed_at self.old.copies id.now ≡ false }
         ensures ok { IfOk result (λ made. (hands : List Hand) (bytes : ObjectId → List ℕ) (contents : Contents) → id.now.job ≡ record { 0 = self.old.job } → IsShown self.old (beside_of works.old hands bytes self.old.job) contents
             → 0 < len → len ≤ longest_object → plan ≡ planned_by self.old.order (shape_of self.old (beside_of works.old hands bytes self.old.job)) len
@@ -166,7 +163,6 @@ impl JobRow {
         ensures made { IfOk result (λ made. is_told made ≡ false → makes_place_lem plan ≡ true) }
         ensures line { OnOk result (HasAsked works.old id.now.job works.new) }
         ensures others { (other : JobNo) → same_job id.now.job other ≡ false → IsSameFor other works.old works.new }
-        ensures memory { (r : Refusal) → IsErrOf result r → r ≡ NoMemory }
         ensures late { OnErr result (refuses plan ≡ false) }
         ensures err { OnErr result (self.new ≡ self.old) }
         ensures works { OnErr result (works.new ≡ works.old) }
@@ -196,13 +192,12 @@ impl JobRow {
         id: &ObjectId,
         len: u32,
         victims: Items<ObjectId>,
-    ) -> Result<MadeRoom, Refusal>
+    ) -> Result<MadeRoom, AllocError>
         requires { is_sealed_at self.now.copies id.now ≡ false }
         ensures ok { IfOk result (λ made. (beside : Beside) (contents : Contents) → IsShown self.now beside contents → 0 < len → len ≤ longest_object
             → MakesPlace (make_room self.now.order (shape_of self.now beside) len) (shape_of self.now beside) len victims
             → IsMade made self.now beside contents len self.now beside) }
         ensures place { IfOk result (λ made. (line : WorkLine) → WaitsForPlace made self.now line id.now len self.now line) }
-        ensures memory { (r : Refusal) → IsErrOf result r → r ≡ NoMemory }
     {
         if !self.fits_without(alloc, id, len, victims.as_slice())? {
             return Ok(MadeRoom::Told(Refusal::Full));
@@ -217,10 +212,9 @@ impl JobRow {
         id: &ObjectId,
         len: u32,
         victims: &[ObjectId],
-    ) -> Result<bool, Refusal>
+    ) -> Result<bool, AllocError>
         ensures ok { IfOk result (λ fits. fits ≡ fits_without_lem self.now id.now len victims.now) }
         ensures placed { ArePlaced self.now.window.placed (place_of self.now.copies) }
-        ensures memory { (r : Refusal) → result ≡ Err r → r ≡ Refusal.NoMemory }
     {
         let copies = self.copies();
         if !self.may_replace(id, len, victims) {
@@ -246,14 +240,13 @@ impl JobRow {
         job: JobNo,
         works: &mut Works,
         ids: &[ObjectId],
-    ) -> Result<MadeRoom, Refusal>
+    ) -> Result<MadeRoom, AllocError>
         ensures ok { IfOk result (λ made. (hands : List Hand) (bytes : ObjectId → List ℕ) (contents : Contents) (n : ℕ) → job ≡ record { 0 = self.old.job } → IsShown self.old (beside_of works.old hands bytes self.old.job) contents
             → AsksWrites (make_room self.old.order (shape_of self.old (beside_of works.old hands bytes self.old.job)) n) (shape_of self.old (beside_of works.old hands bytes self.old.job)) ids.now
             → IsMade made self.old (beside_of works.old hands bytes self.old.job) contents n self.new (beside_of works.new hands bytes self.old.job)) }
         ensures told { IfOk result (λ made. is_told made ≡ true) }
         ensures line { OnOk result (HasAsked works.old job works.new) }
         ensures others { (other : JobNo) → same_job job other ≡ false → IsSameFor other works.old works.new }
-        ensures memory { (r : Refusal) → IsErrOf result r → r ≡ NoMemory }
         ensures err { OnErr result (self.new ≡ self.old) }
         ensures works { OnErr result (works.new ≡ works.old) }
     {

@@ -1,5 +1,5 @@
 //! The row of one job.
-ghost use Rattle.std.specs.Prelude.{◌≡◌, ◌≢◌, ◌||◌, ◌↔◌, ℕ, ◌+◌, ◌^◌, ◌≤◌, ◌<◌, nat_eq, take, drop, length, true, false, Some, None, IfOk, IfErr, IfSome, IfNone, OnOk, OnErr, IsOk, IsErr, IsErrOf, option_to_list, option_map, ◌&&◌, is_some};
+ghost use Rattle.std.specs.Prelude.{◌≡◌, ◌≢◌, ◌↔◌, ◌+◌, ◌^◌, ◌≤◌, ◌<◌, nat_eq, take, length, true, false, Some, None, IfOk, IfErr, IfSome, IfNone, OnOk, OnErr, IsOk, IsErr, IsErrOf, option_to_list, option_map, ◌&&◌, is_some};
 ghost use Rattle.std.specs.Map.{set_value};
 ghost use Rattle.obj_id.specs.declared.works.Extent.{Extent};
 ghost use Rattle.obj_id.specs.declared.refusals.Refusal.{Refusal};
@@ -14,13 +14,13 @@ ghost use Rattle.private_store.specs.Copies.{is_created};
 ghost use Rattle.private_store.specs.Kept.{is_remembered, is_restoring};
 ghost use Rattle.node_table.specs.Usages.{is_spilling};
 ghost use Rattle.node_table.specs.Answering.{written_row, refilled, lost_row};
-ghost use Rattle.lru_evictor.specs.Orders.{touched, last_used, ids_of};
+ghost use Rattle.lru_evictor.specs.Orders.{last_used, ids_of};
 ghost use Rattle.node_table.specs.Followed.{AreFollowed, AreListed, facts_in};
 ghost use Rattle.private_store.specs.Shape.{Shape};
 ghost use Rattle.private_store.specs.Room.{plan as room_plan};
 ghost use Rattle.lru_evictor.specs.Plans.{IsDescribed, kind_of};
 ghost use Rattle.node_table.specs.Entries.{changed, all_changed, each_changed};
-ghost use Rattle.node_table.specs.Kept.{Kept, sealed, held, released, left, spilling_if, fetched_kept, unpinned, borrowed, given_up, doomed, marked, fault_told, new_kept, waits_for_place, placed_for, CanAwait};
+ghost use Rattle.node_table.specs.Kept.{Kept, sealed, released, left, spilling_if, fetched_kept, unpinned, borrowed, given_up, doomed, marked, fault_told, new_kept, waits_for_place, placed_for, CanAwait};
 ghost use Rattle.node_table.specs.Checks.{release_check, borrow_check};
 ghost use Rattle.node_table.specs.Quotas.{requoted};
 ghost use Rattle.node_table.specs.Scope.{with_copy};
@@ -28,7 +28,7 @@ ghost use Rattle.node_table.specs.Row.{Row, new_row, place_of, ArePlaced};
 ghost use Rattle.node_table.specs.EndingTasks.{task_row};
 ghost use Rattle.node_table.specs.Dropping.{dropped, is_over_at, settled_row, keys_settled, unheld_row};
 ghost use Rattle.node_table.specs.Holding.{IsUnreadyAt, IsHoldRefusedAt, IsRowHeld};
-ghost use Rattle.node_table.specs.Evicting.{fits_without, without_missing, IsReplaced};
+ghost use Rattle.node_table.specs.Evicting.{fits_without, IsReplaced};
 ghost use Rattle.private_store.specs.Kept.{is_fetching};
 ghost use Rattle.node_table.specs.Arriving.{located, gap_closed, brought, unfetched_row};
 
@@ -429,16 +429,15 @@ impl JobRow {
         alloc: Global,
         id: &ObjectId,
         number: u64,
-    ) -> Result<(), Refusal>
+    ) -> Result<(), AllocError>
         requires { at self.old.copies id.now ≡ None }
         ensures ok { OnOk result (self.new ≡ record self.old { copies = with_entry self.old.copies id.now (fetched_kept number); order = last_used id.now self.old.order; fetches_begun = number }) }
-        ensures memory { (r : Refusal) → IsErrOf result r → r ≡ NoMemory }
         ensures err { OnErr result (self.new ≡ self.old) }
     {
         self.copies.insert(*id, RowCopy::fetching(alloc, number))?;
         if self.order.enter(*id).is_err() {
             self.copies.remove(id);
-            return Err(Refusal::NoMemory);
+            return Err(AllocError);
         }
         self.fetches_begun = number;
         Ok(())
@@ -454,13 +453,12 @@ impl JobRow {
         kind: Kind,
         len: u32,
         victims: &[ObjectId],
-    ) -> Result<Extent, Refusal>
+    ) -> Result<Extent, AllocError>
         requires fits { fits_without self.old id.now len victims.now ≡ true }
         requires absent { at self.old.copies id.now ≡ None }
         requires unlisted { is_among self.old.order id.now ≡ false }
         ensures placed { ArePlaced self.old.window.placed (place_of self.old.copies) }
         ensures ok { IfOk result (λ e. IsReplaced self.old (Some id.now) id.now (new_kept kind len) len victims.now e self.new) }
-        ensures memory { (r : Refusal) → IsErrOf result r → r ≡ NoMemory }
         ensures err { OnErr result (self.new ≡ self.old) }
     {
         let gone = extents_by_offset(alloc, &self.copies, victims)?;
@@ -473,13 +471,13 @@ impl JobRow {
         // it lies nowhere, as far as the order knows, until the victims have gone
         if self.order.enter(*id).is_err() {
             self.copies.remove(id);
-            return Err(Refusal::NoMemory);
+            return Err(AllocError);
         }
         match self.window.replace(alloc, &gone, len) {
             Err(_) => {
                 self.copies.remove(id);
                 self.order.forget(*id);
-                Err(Refusal::NoMemory)
+                Err(AllocError)
             }
             Ok(extent) => {
                 evict_for(&mut self.order, &mut self.copies, victims, id, room, extent);
@@ -497,19 +495,18 @@ impl JobRow {
         len: u32,
         victims: &[ObjectId],
         awaited: Awaited,
-    ) -> Result<Extent, Refusal>
+    ) -> Result<Extent, AllocError>
         requires fits { fits_without self.old id.now len victims.now ≡ true }
         requires waits { option_map_or (waits_for_place len) (at self.old.copies id.now) false ≡ true }
         requires awaits { (k : Kept) → at self.old.copies id.now ≡ Some k → CanAwait awaited k }
         ensures placed { ArePlaced self.old.window.placed (place_of self.old.copies) }
         ensures ok { IfOk result (λ e. (k : Kept) → at self.old.copies id.now ≡ Some k → IsReplaced self.old None id.now (λ offset. placed_for awaited offset k) len victims.now e self.new) }
-        ensures memory { (r : Refusal) → IsErrOf result r → r ≡ NoMemory }
         ensures err { OnErr result (self.new ≡ self.old) }
     {
         let gone = extents_by_offset(alloc, &self.copies, victims)?;
         let room = Room::new(alloc)?;
         match self.window.replace(alloc, &gone, len) {
-            Err(_) => Err(Refusal::NoMemory),
+            Err(_) => Err(AllocError),
             Ok(extent) => {
                 self.copies.take_place(id, extent.offset, awaited);
                 evict_for(&mut self.order, &mut self.copies, victims, id, room, extent);

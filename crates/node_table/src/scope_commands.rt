@@ -1,9 +1,7 @@
 //! The commands that say what keeps an object in scope: Unpin, Borrow, GiveUp and Delete.
-ghost use Rattle.std.specs.Prelude.{◌≡◌, ◌==◌, ◌||◌, ℕ, ◌≤◌, [], length, true, false, None, IfOk, OnErr, IsErrOf};
+ghost use Rattle.std.specs.Prelude.{◌≡◌, ◌==◌, ◌||◌, ℕ, ◌≤◌, [], length, true, None, IfOk, OnErr};
 ghost use Rattle.obj_id.specs.declared.commands.Command.TheVariants as command;
 ghost use Rattle.obj_id.specs.declared.commands.Reply.TheVariants as reply;
-ghost use Rattle.obj_id.specs.declared.refusals.Refusal.{Refusal};
-ghost use Rattle.obj_id.specs.declared.refusals.Refusal.TheVariants.{NoMemory};
 ghost use Rattle.private_store.specs.declared.inputs.Input.TheVariants as input;
 ghost use Rattle.private_store.specs.Contents.{Contents};
 ghost use Rattle.private_store.specs.Kept.{is_remembered};
@@ -55,12 +53,11 @@ impl JobRow {
         session: u32,
         id: &ObjectId,
         task: TaskNo,
-    ) -> Result<Outcome, Refusal>
+    ) -> Result<Outcome, AllocError>
         ensures ok { IfOk result (λ o. (node : ℕ) (beside : Beside) (contents : Contents) → (id.now.job.0 == self.old.job) ≡ true → IsShown self.old beside contents
             → TakesStep node self.old beside contents (input.Call session (command.Borrow id.now task)) (given_of o) self.new beside) }
         ensures silent { IfOk result (λ o. o.messages ≡ []) }
         ensures late { OnErr result (row_borrow_check self.old id.now task ≡ None) }
-        ensures memory { (r : Refusal) → IsErrOf result r → r ≡ NoMemory }
         ensures err { OnErr result (self.new ≡ self.old) }
     {
         if self.has_either_ended(id.task(), task) {
@@ -68,7 +65,7 @@ impl JobRow {
         }
         match self.borrow_copy(id, task) {
             Ok(()) => Ok(Outcome::only(alloc, Reply::Ok)),
-            Err(refusal) if refusal == Refusal::NoMemory => Err(refusal),
+            Err(refusal) if refusal == Refusal::NoMemory => Err(AllocError),
             Err(refusal) => Ok(Outcome::only(alloc, Reply::Refused(refusal))),
         }
     }

@@ -1,5 +1,5 @@
 //! A Pull that arrives: another node asks for chunks of a copy.
-ghost use Rattle.std.specs.Prelude.{◌≡◌, ℕ, ◌+◌, ◌≤◌, List, [], ◌∷◌, map, take, length, false, Ok, Some, None, IfOk, OnOk, OnErr, IsErrOf};
+ghost use Rattle.std.specs.Prelude.{◌≡◌, ℕ, ◌+◌, ◌≤◌, List, [], ◌∷◌, map, take, length, false, Ok, Some, None, IfOk, OnOk, OnErr};
 ghost use Rattle.std.specs.Option.{option_map_or};
 ghost use Rattle.obj_id.specs.declared.ids.JobNo.{JobNo};
 ghost use Rattle.obj_id.specs.declared.commands.CopyState.TheVariants.{Away};
@@ -7,8 +7,6 @@ ghost use Rattle.obj_id.specs.declared.commands.Reply.TheVariants as reply;
 ghost use Rattle.obj_id.specs.declared.messages.Arrival.TheVariants as arrival;
 ghost use Rattle.obj_id.specs.declared.messages.Digest.{Digest};
 ghost use Rattle.obj_id.specs.declared.messages.PeerMessage.TheVariants as peer;
-ghost use Rattle.obj_id.specs.declared.refusals.Refusal.{Refusal};
-ghost use Rattle.obj_id.specs.declared.refusals.Refusal.TheVariants.{NoMemory};
 ghost use Rattle.obj_id.specs.declared.works.Extent.{Extent};
 ghost use Rattle.private_store.specs.declared.inputs.Input.TheVariants as input;
 ghost use Rattle.private_store.specs.Tables.{at};
@@ -32,7 +30,7 @@ use crate::copy::RowCopy;
 use crate::outcome::{Erase, Outcome};
 use crate::row::JobRow;
 use fetch_core::chunks_asked;
-use obj_id::{CopyState, Digest, Items, Message, ObjectId, PeerMessage, Place, Refusal, Reply};
+use obj_id::{CopyState, Digest, Items, Message, ObjectId, PeerMessage, Place, Reply};
 use spill_work::Works;
 use std::alloc::{AllocError, Global};
 
@@ -115,14 +113,13 @@ impl JobRow {
         len: u32,
         digest: &Digest,
         indexes: &[u32],
-    ) -> Result<Outcome, Refusal>
+    ) -> Result<Outcome, AllocError>
         ensures ok { IfOk result (λ o. (hands : List Hand) (bytes : ObjectId → List ℕ) (contents : Contents) → IsShown self.old (beside_of works.old hands bytes self.old.job) contents
             → TakesStep node self.old (beside_of works.old hands bytes self.old.job) contents (input.Arrive (arrival.FromPeer from (peer.Pull id.now number len digest.now indexes.now))) (given_of o) self.new (beside_of works.new hands bytes self.old.job)) }
         ensures told { IfOk result (λ o. o.reply ≡ reply.Ok) }
         ensures few { IfOk result (λ o. length o.messages ≤ length self.old.copies + length indexes.now + 1) }
         ensures line { OnOk result (HasAsked works.old (record { 0 = self.old.job }) works.new) }
         ensures others { (other : JobNo) → same_job (record { 0 = self.old.job }) other ≡ false → IsSameFor other works.old works.new }
-        ensures memory { (r : Refusal) → IsErrOf result r → r ≡ NoMemory }
         ensures err { OnErr result (self.new ≡ self.old) }
         ensures works { OnErr result (works.new ≡ works.old) }
     {
@@ -144,11 +141,10 @@ impl JobRow {
         id: &ObjectId,
         number: u64,
         indexes: &[u32],
-    ) -> Result<Items<(Place, Message)>, Refusal>
+    ) -> Result<Items<(Place, Message)>, AllocError>
         ensures ok { IfOk result (λ messages. (k : Kept) (e : Extent) → at self.now.copies id.now ≡ Some k → extent_of k.copy ≡ Some e
             → messages ≡ chunks_to (take k.copy.length (placed_bytes e self.now.window.placed)) from id.now number indexes.now) }
         ensures few { IfOk result (λ messages. length messages ≤ length indexes.now) }
-        ensures memory { (r : Refusal) → IsErrOf result r → r ≡ NoMemory }
     {
         let bytes = self.lent(id).whole(alloc)?;
         let chunks = chunks_asked(alloc, &bytes, *id, number, indexes)?;
@@ -163,7 +159,7 @@ impl JobRow {
         node: u32,
         works: &mut Works,
         id: &ObjectId,
-    ) -> Result<Outcome, Refusal>
+    ) -> Result<Outcome, AllocError>
         requires visible { visible_state (at self.old.copies id.now) ≡ Ok (Some Away) }
         requires sound { fault_at self.old.copies id.now ≡ None }
         ensures ok { IfOk result (λ o. (from number n : ℕ) (digest : Digest) (indexes : List ℕ) (hands : List Hand) (bytes : ObjectId → List ℕ) (contents : Contents)
@@ -173,7 +169,6 @@ impl JobRow {
         ensures few { IfOk result (λ o. length o.messages ≤ length self.old.copies + 1) }
         ensures line { OnOk result (HasAsked works.old (record { 0 = self.old.job }) works.new) }
         ensures others { (other : JobNo) → same_job (record { 0 = self.old.job }) other ≡ false → IsSameFor other works.old works.new }
-        ensures memory { (r : Refusal) → IsErrOf result r → r ≡ NoMemory }
         ensures err { OnErr result (self.new ≡ self.old) }
         ensures works { OnErr result (works.new ≡ works.old) }
     {

@@ -2,10 +2,8 @@
 //! locations of each job number, and nothing of one job depends on another's.
 #![tactic(auto)]
 
-ghost use Rattle.std.specs.Prelude.{◌≡◌, [], false, IfOk, OnOk, OnErr, IsErrOf, IsOk};
-ghost use Rattle.obj_id.specs.declared.messages.DirectoryMessage.TheVariants.{AddLocation, RemoveLocation, Free, EndJob, Locate};
-ghost use Rattle.obj_id.specs.declared.refusals.Refusal.{Refusal};
-ghost use Rattle.obj_id.specs.declared.refusals.Refusal.TheVariants.{NoMemory};
+ghost use Rattle.std.specs.Prelude.{◌≡◌, [], false, IfOk, OnOk, OnErr, IsOk};
+ghost use Rattle.obj_id.specs.declared.messages.DirectoryMessage.TheVariants.{AddLocation, RemoveLocation, Free, EndJob};
 ghost use Rattle.obj_id.specs.declared.ids.JobNo.{JobNo};
 ghost use Rattle.private_store.specs.Directory.{directory_posts, entries_at, entry_placed};
 ghost use Rattle.owner_directory.specs.Locations.{locations_of, Applies, posts_of, needs_memory, is_longer, takes_memory};
@@ -15,8 +13,8 @@ mod row;
 
 use crate::row::Row;
 use indexmap::IndexMap;
-use obj_id::{DirectoryMessage, Items, JobNo, Location, ObjectId, Refusal};
-use std::alloc::Global;
+use obj_id::{DirectoryMessage, Items, JobNo, Location, ObjectId};
+use std::alloc::{AllocError, Global};
 use std::marker::Model;
 
 /// What the directory answers a message.
@@ -68,16 +66,15 @@ impl Directory {
         }
     }
 
-    /// Applies a message of a job to that job's locations, and answers it. `NoMemory` changes nothing; only
+    /// Applies a message of a job to that job's locations, and answers it. Out of memory changes nothing; only
     /// an `AddLocation` of a node without an entry and a `Locate` that finds entries take memory.
     pub fn apply(
         &mut self,
         job: JobNo,
         message: DirectoryMessage,
-    ) -> Result<DirectoryReply, Refusal>
+    ) -> Result<DirectoryReply, AllocError>
         ensures locations { OnOk result (Applies self.old self.new job message) }
         ensures posts { IfOk result (λ reply. posts_of reply ≡ directory_posts (locations_of self.old job) message) }
-        ensures refused { (r : Refusal) → IsErrOf result r → r ≡ NoMemory }
         ensures succeeds { needs_memory message ≡ false → IsOk result }
         ensures grows { takes_memory (locations_of self.old job) message ≡ false → IsOk result }
         ensures err { OnErr result (self.new ≡ self.old) }
@@ -112,9 +109,8 @@ impl Directory {
     }
 
     /// Sets the entry of its node.
-    fn add(&mut self, job: JobNo, id: ObjectId, entry: Location) -> Result<(), Refusal>
+    fn add(&mut self, job: JobNo, id: ObjectId, entry: Location) -> Result<(), AllocError>
         ensures ok { OnOk result (Applies self.old self.new job (AddLocation id entry)) }
-        ensures refused { (r : Refusal) → IsErrOf result r → r ≡ NoMemory }
         ensures succeeds { is_longer (entry_placed entry (entries_at (locations_of self.old job) id)) (entries_at (locations_of self.old job) id) ≡ false → IsOk result }
         ensures err { OnErr result (self.new ≡ self.old) }
     {
@@ -125,7 +121,7 @@ impl Directory {
         let mut row = Row::new(self.alloc);
         row.set(self.alloc, id, entry)?;
         match self.rows.insert(job, row) {
-            Err(_) => Err(Refusal::NoMemory),
+            Err(_) => Err(AllocError),
             Ok(_) => Ok(()),
         }
     }
@@ -176,9 +172,8 @@ impl Directory {
     }
 
     /// A copy of the object's entries.
-    fn located(&self, job: JobNo, id: ObjectId) -> Result<Items<Location>, Refusal>
+    fn located(&self, job: JobNo, id: ObjectId) -> Result<Items<Location>, AllocError>
         ensures ok { IfOk result (λ entries. entries ≡ entries_at (locations_of self.now job) id) }
-        ensures refused { (r : Refusal) → IsErrOf result r → r ≡ NoMemory }
         ensures succeeds { entries_at (locations_of self.now job) id ≡ [] → IsOk result }
     {
         match self.rows.get(&job) {

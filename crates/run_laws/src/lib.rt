@@ -2,10 +2,8 @@
 //! about every run, whatever its schedule is.
 #![tactic(auto)]
 
-ghost use Rattle.std.specs.Prelude.{◌≡◌, ℕ, List, true, filter, IfOk, IsErrOf};
+ghost use Rattle.std.specs.Prelude.{◌≡◌, ℕ, List, true, filter, IfOk};
 ghost use Rattle.std.specs.List.{list_all};
-ghost use Rattle.obj_id.specs.declared.refusals.Refusal.{Refusal};
-ghost use Rattle.obj_id.specs.declared.refusals.Refusal.TheVariants.{NoMemory};
 ghost use Rattle.private_store.specs.declared.schedules.Step.{Step};
 ghost use Rattle.private_store.specs.declared.schedules.Traced.{Traced};
 ghost use Rattle.private_store.specs.Trace.{replies_of, is_answered, Agree};
@@ -14,9 +12,8 @@ ghost use Rattle.hand_laws.specs.Telling.{heard_where_due, counting, ShowsAlike}
 ghost use Rattle.world_core.specs.Worlds.{is_shape, is_within};
 ghost use Rattle.world_core.specs.Runs.{IsRun};
 
-use obj_id::Refusal;
 use private_store::Step;
-use std::alloc::Global;
+use std::alloc::{AllocError, Global};
 use world_core::{Shape, Trace, run};
 
 /// The laws of hands hold at every moment of every run: the standing hands of a node are a table; a job sees an object
@@ -38,14 +35,14 @@ pub fn others_hands_dont_show_in_runs()
 
 /// Runs two schedules, each in a new world. A job whose inputs are the same in both is given equal replies, but for want of
 /// memory, whatever all others do. Two runs that differ in other jobs' Grants, Withdraws and Peeks of a job's objects alone,
-/// as `others_hands_dont_show_in_runs` has it, give the job the same inputs and the same replies. `NoMemory` if there is
-/// none for a world or a trace.
+/// as `others_hands_dont_show_in_runs` has it, give the job the same inputs and the same replies. The error is out of
+/// memory for a world or a trace.
 pub fn run_two(
     alloc: Global,
     shape: Shape,
     first: Vec<Step>,
     second: Vec<Step>,
-) -> Result<(Trace, Trace), Refusal>
+) -> Result<(Trace, Trace), AllocError>
     requires shape { is_shape shape ≡ true }
     requires first { list_all (is_within shape.nodes) first.items ≡ true }
     requires second { list_all (is_within shape.nodes) second.items ≡ true }
@@ -55,7 +52,6 @@ pub fn run_two(
         → filter is_answered (replies_of job traces.0) ≡ filter is_answered (replies_of job traces.1)) }
     ensures hands { IfOk result (λ traces. (job : ℕ) → counting (heard_where_due job) job traces.0 ≡ counting (heard_where_due job) job traces.1
         → ShowsAlike shape.nodes job traces.0 traces.1) }
-    ensures memory { (r : Refusal) → IsErrOf result r → r ≡ NoMemory }
 {
     let first = run(alloc, shape, first)?;
     let second = run(alloc, shape, second)?;

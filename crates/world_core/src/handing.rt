@@ -17,10 +17,11 @@ use node_core::Outcome;
 use obj_id::{Arrival, DirectoryMessage, JobNo, Message, Place, Refusal, Reply};
 use owner_directory::DirectoryReply;
 use private_store::StepAnswer;
+use std::alloc::AllocError;
 
 impl World {
     /// The job's message of this number, from 1, that was sent from the one place to the other is handed over, damaged or
-    /// not. `NoMemory` alone is an error, and then nothing has changed.
+    /// not. The error is out of memory, and then nothing has changed.
     pub(crate) fn deliver(
         &mut self,
         job: JobNo,
@@ -28,7 +29,7 @@ impl World {
         to: Place,
         number: u64,
         damaged: bool,
-    ) -> Result<Stepped, Refusal>
+    ) -> Result<Stepped, AllocError>
         requires { is_place (length self.old.nodes) to ≡ true }
         ensures ok { IfOk result (λ s. Turns self.old self.new (steps.Deliver job from to number damaged) s.answer) }
         ensures kept { IfOk result (λ s. IsNoted self.old self.new s.judged s.notes (steps.Deliver job from to number damaged) s.answer) }
@@ -54,7 +55,7 @@ impl World {
         from: Place,
         place: u32,
         message: Message,
-    ) -> Result<Stepped, Refusal>
+    ) -> Result<Stepped, AllocError>
         requires { place < length self.old.nodes }
         ensures ok { IfOk result (λ s. Hands self.old job from message self.new (places.Node place) s.answer) }
         ensures kept { IfOk result (λ s. (number : ℕ) (damaged : Bool) → IsNoted self.old self.new s.judged s.notes (steps.Deliver job from (places.Node place) number damaged) s.answer) }
@@ -78,7 +79,7 @@ impl World {
     }
 
     /// The job's message arrives at the node of the place.
-    fn arrive(&mut self, job: JobNo, place: u32, arrival: &Arrival) -> Result<Given, Refusal>
+    fn arrive(&mut self, job: JobNo, place: u32, arrival: &Arrival) -> Result<Given, AllocError>
         requires { place < length self.old.nodes }
         ensures ok { IfOk result (λ given. Arrives self.old place job arrival.now given.reply self.new) }
         ensures kept { IfOk result (λ given. IsArrivalNoted self.old self.new place job arrival.now given.reply given.judged given.notes) }
@@ -122,7 +123,7 @@ impl World {
         job: JobNo,
         from: Place,
         message: Message,
-    ) -> Result<StepAnswer, Refusal>
+    ) -> Result<StepAnswer, AllocError>
         ensures ok { IfOk result (λ told. Hands self.old job from message self.new places.Directory told) }
         ensures err { OnErr result (self.new ≡ self.old) }
     {
@@ -135,7 +136,7 @@ impl World {
     }
 
     /// The directory takes a message of the job, and what it answers is sent.
-    fn tell_directory(&mut self, job: JobNo, message: DirectoryMessage) -> Result<(), Refusal>
+    fn tell_directory(&mut self, job: JobNo, message: DirectoryMessage) -> Result<(), AllocError>
         ensures ok { OnOk result (MovesDirectory self.old job message self.new) }
         ensures err { OnErr result (self.new ≡ self.old) }
     {

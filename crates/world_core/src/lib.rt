@@ -2,9 +2,7 @@
 //! number, the job's locations, and what it sent; after every history of steps that is the job's private cluster.
 #![tactic(auto)]
 
-ghost use Rattle.std.specs.Prelude.{◌≡◌, ℕ, ◌<◌, List, [], ◌∷◌, true, length, IfOk, OnErr, IsErrOf};
-ghost use Rattle.obj_id.specs.declared.refusals.Refusal.{Refusal};
-ghost use Rattle.obj_id.specs.declared.refusals.Refusal.TheVariants.{NoMemory};
+ghost use Rattle.std.specs.Prelude.{◌≡◌, ℕ, ◌<◌, List, [], ◌∷◌, true, length, IfOk, OnErr};
 ghost use Rattle.private_store.specs.declared.schedules.Traced.{Traced};
 ghost use Rattle.private_store.specs.Trace.{is_no_memory};
 ghost use Rattle.node_core.specs.Steps.{job_of_event};
@@ -22,7 +20,7 @@ mod within;
 
 use messages::Messages;
 use node_core::{Node, Outcome};
-use obj_id::{JobNo, Place, Refusal};
+use obj_id::{JobNo, Place};
 use owner_directory::Directory;
 use private_store::{Event, Step, StepAnswer};
 pub use runs::{Trace, run};
@@ -69,11 +67,10 @@ impl Model for World {
 }
 
 impl World {
-    /// A world in which nothing has happened. `NoMemory` alone.
-    pub fn new(alloc: Global, shape: Shape) -> Result<World, Refusal>
+    /// A world in which nothing has happened. The error is out of memory.
+    pub fn new(alloc: Global, shape: Shape) -> Result<World, AllocError>
         requires { is_shape shape ≡ true }
         ensures ok { IfOk result (λ world. IsAfter shape.nodes shape.memory world []) }
-        ensures memory { (r : Refusal) → IsErrOf result r → r ≡ NoMemory }
     {
         let nodes = new_nodes(alloc, shape)?;
         Ok(World {
@@ -113,8 +110,8 @@ impl World {
         stepped
     }
 
-    /// The same, and `NoMemory` is an error.
-    fn turn(&mut self, step: &Step) -> Result<Stepped, Refusal>
+    /// The same, and out of memory is an error.
+    fn turn(&mut self, step: &Step) -> Result<Stepped, AllocError>
         requires { is_within_lem (length self.old.nodes) step.now ≡ true }
         ensures ok { IfOk result (λ s. Turns self.old self.new step.now s.answer) }
         ensures replied { IfOk result (λ s. is_replied step.now s.answer ≡ true) }
@@ -140,8 +137,8 @@ impl World {
         }
     }
 
-    /// An event at the node of the place. `NoMemory` alone, and then nothing has changed.
-    fn apply(&mut self, place: u32, event: &Event) -> Result<Given, Refusal>
+    /// An event at the node of the place. The error is out of memory, and then nothing has changed.
+    fn apply(&mut self, place: u32, event: &Event) -> Result<Given, AllocError>
         requires { place < length self.old.nodes }
         ensures ok { IfOk result (λ given. Happens self.old place event.now given.reply self.new) }
         ensures kept { IfOk result (λ given. IsEventNoted self.old self.new place event.now given.reply given.judged given.notes) }

@@ -1,15 +1,12 @@
 //! Runs of whole schedules.
-ghost use Rattle.std.specs.Prelude.{◌≡◌, ℕ, List, [], ◌∷◌, ◌++◌, true, map, IfOk, OnOk, OnErr, IsErrOf};
+ghost use Rattle.std.specs.Prelude.{◌≡◌, ℕ, List, [], ◌∷◌, ◌++◌, true, map, IfOk, OnOk, OnErr};
 ghost use Rattle.std.specs.List.{list_all};
-ghost use Rattle.obj_id.specs.declared.refusals.Refusal.{Refusal};
-ghost use Rattle.obj_id.specs.declared.refusals.Refusal.TheVariants.{NoMemory};
 ghost use Rattle.private_store.specs.Trace.{IsPrivate};
 ghost use Rattle.private_store.specs.Shared.{AreSharedAnswers};
 ghost use Rattle.world_core.specs.Worlds.{is_shape, is_within};
 ghost use Rattle.world_core.specs.Runs.{all_replied};
 
 use crate::{Shape, World};
-use obj_id::Refusal;
 use private_store::{Step, Traced};
 use std::alloc::{AllocError, Global};
 use std::marker::Model;
@@ -60,16 +57,15 @@ impl Trace {
 ///
 /// For every schedule, and for every job number: the job's replies, but for `NoMemory`, are those of
 /// its private cluster, which nobody else uses, on its own inputs; and what neighbours share is answered
-/// as it is due. `NoMemory` if there is none for the world or the trace; a step that wants memory is
-/// answered so.
-pub fn run(alloc: Global, shape: Shape, schedule: Vec<Step>) -> Result<Trace, Refusal>
+/// as it is due. The error is out of memory for the world or the trace; a step that is out of memory is
+/// answered `NoMemory`.
+pub fn run(alloc: Global, shape: Shape, schedule: Vec<Step>) -> Result<Trace, AllocError>
     requires shape { is_shape shape ≡ true }
     requires places { list_all (is_within shape.nodes) schedule.items ≡ true }
     ensures steps { IfOk result (λ trace. map (λ entry. entry.step) trace ≡ schedule.items) }
     ensures replied { IfOk result (λ trace. all_replied trace ≡ true) }
     ensures shared { IfOk result (λ trace. AreSharedAnswers shape.nodes shape.memory trace) }
     ensures private { IfOk result (λ trace. (job : ℕ) → IsPrivate shape.nodes job trace) }
-    ensures memory { (r : Refusal) → IsErrOf result r → r ≡ NoMemory }
 {
     let mut world = World::new(alloc, shape)?;
     let mut trace = Trace::new(alloc);

@@ -21,7 +21,7 @@ use Rattle.node_table.specs.Shown.{Given, TakesStep}
 use Rattle.node_table.proofs.Evicting.{length-removals}
 use Rattle.node_table.proofs.Getting.{some_at}
 use Rattle.node_table.proofs.Pulling.{own_job, waiting, stays_of, few_of}
-use Rattle.node_table.proofs.Restoring.{few_works, has_asked, asked_beside, restore_done}
+use Rattle.node_table.proofs.Restoring.{few_works, may_ask, has_asked, asked_beside, restore_done}
 use Rattle.node_table.proofs.row.JobRow.restore_in_place.Goals as goal
 
 pub returns-in-Ok-clause-ok : goal.returns-in-Ok-clause-ok
@@ -34,9 +34,9 @@ returns-in-Ok-clause-ok c session hands bytes contents mine h makes =
     let beside : Beside = beside_of c.args.works.now hands bytes c.args.self.now.job in
     let e = c.in-Ok.field-0 in
     let r : IsReplaced c.args.self.now None c.args.id.now (λ offset. restoring offset v.k) c.args.len c.args.victims.now e c.place_copy.new.self = c.in-Ok.ensures.ok v.k v.found in
-    let asks = subst (λ j. Asks c.args.works.now (record { job = j; number = c.in_ok-number.number; id = c.args.id.now; kind = Read }) c.ask.new.self) (c.job.ensures.value ∙ own) c.in_ok-number.ensures.ok in
-    subst (λ g. TakesStep c.args.node c.args.self.now beside contents (input.Call session (command.Get c.args.id.now)) g c.place_copy.new.self (beside_of c.ask.new.self hands bytes c.args.self.now.job)) (sym c.pending.ensures)
-    (subst (λ b. TakesStep c.args.node c.args.self.now beside contents (input.Call session (command.Get c.args.id.now)) (record { reply = reply.Refused Pending; posts = c.in_ok-messages.messages; erased = [] }) c.place_copy.new.self b) (sym (asked_beside c.args.works.now c.ask.new.self c.args.self.now.job c.in_ok-number.number c.args.id.now hands bytes asks))
+    let asks = subst (λ j. Asks c.args.works.now (record { job = j; number = c.in_ok-number.number; id = c.args.id.now; kind = Read }) c.ask_read.new.works) (c.job.ensures.value ∙ own) c.in_ok-number.ensures.ok in
+    subst (λ g. TakesStep c.args.node c.args.self.now beside contents (input.Call session (command.Get c.args.id.now)) g c.place_copy.new.self (beside_of c.ask_read.new.works hands bytes c.args.self.now.job)) (sym c.pending.ensures)
+    (subst (λ b. TakesStep c.args.node c.args.self.now beside contents (input.Call session (command.Get c.args.id.now)) (record { reply = reply.Refused Pending; posts = c.in_ok-messages.messages; erased = [] }) c.place_copy.new.self b) (sym (asked_beside c.args.works.now c.ask_read.new.works c.args.self.now.job c.in_ok-number.number c.args.id.now hands bytes asks))
     (subst (λ row. TakesStep c.args.node c.args.self.now beside contents (input.Call session (command.Get c.args.id.now)) (record { reply = reply.Refused Pending; posts = c.in_ok-messages.messages; erased = [] }) row
     (record beside { works = beside.works ++ record { number = beside.used + 1; id = c.args.id.now; writes = false } ∷ []; used = beside.used + 1 })) (sym (r.row ∙ ap (λ n. replaced c.args.self.now None c.args.id.now (restoring e.offset v.k) n e.offset c.args.victims.now) long))
     (subst (λ (ps : List Post). TakesStep c.args.node c.args.self.now beside contents (input.Call session (command.Get c.args.id.now)) (record { reply = reply.Refused Pending; posts = ps; erased = [] }) (replaced c.args.self.now None c.args.id.now (restoring e.offset v.k) v.k.copy.length e.offset c.args.victims.now)
@@ -57,13 +57,16 @@ returns-in-Ok-clause-few c =
 
 pub returns-in-Ok-clause-line : goal.returns-in-Ok-clause-line
 returns-in-Ok-clause-line c =
-    has_asked c.args.works.now c.ask.new.self c.args.id.now.job c.in_ok-number.number c.args.id.now
-    (subst (λ j. Asks c.args.works.now (record { job = j; number = c.in_ok-number.number; id = c.args.id.now; kind = Read }) c.ask.new.self) c.job.ensures.value c.in_ok-number.ensures.ok)
+    has_asked c.args.works.now c.ask_read.new.works c.args.id.now.job c.in_ok-number.number c.args.id.now
+    (subst (λ j. Asks c.args.works.now (record { job = j; number = c.in_ok-number.number; id = c.args.id.now; kind = Read }) c.ask_read.new.works) c.job.ensures.value c.in_ok-number.ensures.ok)
 
 pub returns-in-Err-clause-works : goal.returns-in-Err-clause-works
 returns-in-Err-clause-works c =
-    let asks : Asks c.args.works.now (record { job = c.args.id.now.job; number = c.in_ok-number.number; id = c.args.id.now; kind = Read }) c.ask.new.self =
-    subst (λ j. Asks c.args.works.now (record { job = j; number = c.in_ok-number.number; id = c.args.id.now; kind = Read }) c.ask.new.self) c.job.ensures.value c.in_ok-number.ensures.ok in
-    let back = subst (λ j. TakesBack c.ask.new.self j c.in_ok-number.number c.take_back.new.self) c.job-in-Err.ensures.value c.take_back.ensures in
+    let asks : Asks c.args.works.now (record { job = c.args.id.now.job; number = c.in_ok-number.number; id = c.args.id.now; kind = Read }) c.ask_read.new.works =
+    subst (λ j. Asks c.args.works.now (record { job = j; number = c.in_ok-number.number; id = c.args.id.now; kind = Read }) c.ask_read.new.works) c.job.ensures.value c.in_ok-number.ensures.ok in
+    let back = subst (λ j. TakesBack c.ask_read.new.works j c.in_ok-number.number c.take_back.new.self) c.job-in-Err.ensures.value c.take_back.ensures in
     let next = asks.number in
     back.undone c.args.works.now c.args.id.now Read asks (λ one. c.requires.fresh (omega (arith, next, one)))
+
+pub ask_read-requires : goal.ask_read-requires
+ask_read-requires c = may_ask c.args.works.now c.job.result c.args.id.now.job c.job.ensures.value c.requires.idle c.requires.numbered
