@@ -2,6 +2,7 @@
 
 from __future__ import annotations
 
+import datetime
 import errno
 import os
 import random
@@ -30,8 +31,9 @@ class Served:
 
     def __init__(self, words: Sequence[str], folder: str, nodes: int, memory: int) -> None:
         self._program = start(list(words), folder, nodes, memory)
-        # what it said on standard error, once it was closed
+        # what it said on standard error, once it was closed, and at which seconds: by hand nobody looks at the clock
         self.complaints: List[str] = []
+        self.times: List[float] = []
 
     @property
     def pid(self) -> int:
@@ -69,8 +71,9 @@ class Supervised:
         assert _line(self._daemon.stdout) == "store-daemon: ready", (self._folder / "log").read_text()
         self._control = Daemon(str(self._folder / "control"))
         self._server = self._control.status()["process"]
-        # what the server said on standard error, once it was closed
+        # what the server said on standard error, once it was closed, and at which seconds
         self.complaints: List[str] = []
+        self.times: List[float] = []
 
     @property
     def pid(self) -> int:
@@ -89,8 +92,9 @@ class Supervised:
         assert self._daemon.wait(PATIENCE) == 0, f"status {self._daemon.returncode}"
         left = [str(path) for path in (self._folder / "spill").glob("[0-9]/*")] + [str(path) for path in self._folder.glob("store.[0-9]")]
         assert not left, f"left: {left[:3]}"
-        lines = (self._folder / "log").read_text().splitlines()
-        self.complaints = [line.partition(_SAYS)[2] for line in lines if _SAYS in line]
+        said = [line.partition(_SAYS) for line in (self._folder / "log").read_text().splitlines() if _SAYS in line]
+        self.complaints = [line for _, _, line in said]
+        self.times = [datetime.datetime.strptime(when, "%Y-%m-%dT%H:%M:%S.%fZ").timestamp() for when, _, _ in said]
         return report
 
     def kill(self) -> None:
