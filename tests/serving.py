@@ -76,10 +76,15 @@ def ended(program: subprocess.Popen[str], rest: str, status: int, said: str = RE
     assert (out, err, program.returncode) == (rest, said, status), f"got {out!r}, {err!r}, {program.returncode}"
 
 
-def close(program: subprocess.Popen[str]) -> Tuple[int, int]:
-    """Each entry has a receipt, and each receipt that was looked for its entry. The number of entries, and of lost messages."""
+def close(program: subprocess.Popen[str], reason: str = "") -> Tuple[int, int]:
+    """Each entry has a receipt, and each receipt that was looked for its entry. The number of entries, and of lost messages. It was only
+    said that device calls failed for this reason; nothing if there is none."""
     out, err = program.communicate("close\n", timeout=PATIENCE)
-    assert (err, program.returncode) == (READY, 0), f"got {out!r}, {err!r}, {program.returncode}"
+    assert err.startswith(READY) and program.returncode == 0, f"got {out!r}, {err!r}, {program.returncode}"
+    for line in err[len(READY) :].splitlines():
+        failed = FAILED_CALL.fullmatch(line)
+        assert failed and failed.group(5) == reason, f"said {line!r}"
+    assert not reason or err != READY, f"no device call failed: {reason}"
     return report_of(out)
 
 
