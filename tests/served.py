@@ -2,6 +2,7 @@
 
 from __future__ import annotations
 
+import datetime
 import errno
 import os
 import random
@@ -9,9 +10,9 @@ import subprocess
 import sys
 import threading
 from pathlib import Path
-from typing import IO, Sequence, Tuple
+from typing import IO, List, Sequence, Tuple
 
-from serving import PATIENCE, ROOT, close, report_of, say, start
+from serving import PATIENCE, READY, ROOT, report_of, say, start
 
 sys.path.insert(0, str(ROOT / "operate"))
 
@@ -21,6 +22,8 @@ DAEMON = ROOT / "operate/store-daemon"
 # seconds for which the disk has room, and is full
 _ROOMY, _FULL = (3.0, 10.0), (1.0, 4.0)
 _PIECE = 1 << 16
+# before what the server complains of, in the daemon's log
+_SAYS = " WARNING the server says: "
 
 
 class Served:
@@ -28,6 +31,9 @@ class Served:
 
     def __init__(self, words: Sequence[str], folder: str, nodes: int, memory: int) -> None:
         self._program = start(list(words), folder, nodes, memory)
+        # what it said on standard error, once it was closed, and at which seconds: by hand nobody looks at the clock
+        self.complaints: List[str] = []
+        self.times: List[float] = []
 
     @property
     def pid(self) -> int:
@@ -39,7 +45,10 @@ class Served:
 
     def close(self) -> Tuple[int, int]:
         """It ends with a right report: how many entries, and how many messages were lost."""
-        return close(self._program)
+        out, err = self._program.communicate("close\n", timeout=PATIENCE)
+        assert err.startswith(READY) and self._program.returncode == 0, f"got {out!r}, {err!r}, {self._program.returncode}"
+        self.complaints = err[len(READY) :].splitlines()
+        return report_of(out)
 
     def kill(self) -> None:
         self._program.kill()
@@ -62,6 +71,9 @@ class Supervised:
         assert _line(self._daemon.stdout) == "store-daemon: ready", (self._folder / "log").read_text()
         self._control = Daemon(str(self._folder / "control"))
         self._server = self._control.status()["process"]
+        # what the server said on standard error, once it was closed, and at which seconds
+        self.complaints: List[str] = []
+        self.times: List[float] = []
 
     @property
     def pid(self) -> int:
@@ -80,6 +92,9 @@ class Supervised:
         assert self._daemon.wait(PATIENCE) == 0, f"status {self._daemon.returncode}"
         left = [str(path) for path in (self._folder / "spill").glob("[0-9]/*")] + [str(path) for path in self._folder.glob("store.[0-9]")]
         assert not left, f"left: {left[:3]}"
+        said = [line.partition(_SAYS) for line in (self._folder / "log").read_text().splitlines() if _SAYS in line]
+        self.complaints = [line for _, _, line in said]
+        self.times = [datetime.datetime.strptime(when, "%Y-%m-%dT%H:%M:%S.%fZ").timestamp() for when, _, _ in said]
         return report
 
     def kill(self) -> None:

@@ -2,6 +2,7 @@
 
 from __future__ import annotations
 
+import re
 import socket
 import struct
 import subprocess
@@ -14,6 +15,10 @@ PATIENCE = 100
 PROGRAM = ROOT / "crates/store_server/out/store_server"
 # on its standard error once all sockets listen
 READY = "store: ready\n"
+# and for a device call that failed: node, job, work, call, reason, and how many more failed without a line
+FAILED_CALL = re.compile(
+    r"store: node (\d+): job (\d+): work (\d+): (write|read|erase) failed: (.+?)(?: \(and (\d+) more since the last line\))?"
+)
 
 
 def key(job: int) -> bytes:
@@ -44,10 +49,12 @@ def ask(stream: socket.socket, sent: bytes, expected: bytes) -> None:
     assert got == expected, f"sent {sent.hex()}: got {got.hex()}, should be {expected.hex()}"
 
 
-def start(words: List[str], folder: str, nodes: int = 2, memory: int = 65536, more: Sequence[str] = ()) -> subprocess.Popen[str]:
+def start(
+    words: List[str], folder: str, nodes: int = 2, memory: int = 65536, more: Sequence[str] = (), errors: int = subprocess.PIPE
+) -> subprocess.Popen[str]:
     words = words + ["serve", "--socket", f"{folder}/store", "--nodes", str(nodes), "--memory", str(memory), "--spill", f"{folder}/spill"]
     words += more
-    return subprocess.Popen(words, stdin=subprocess.PIPE, stdout=subprocess.PIPE, stderr=subprocess.PIPE, text=True)
+    return subprocess.Popen(words, stdin=subprocess.PIPE, stdout=subprocess.PIPE, stderr=errors, text=True)
 
 
 def say(program: subprocess.Popen[str], line: str) -> str:
@@ -69,10 +76,15 @@ def ended(program: subprocess.Popen[str], rest: str, status: int, said: str = RE
     assert (out, err, program.returncode) == (rest, said, status), f"got {out!r}, {err!r}, {program.returncode}"
 
 
-def close(program: subprocess.Popen[str]) -> Tuple[int, int]:
-    """Each entry has a receipt, and each receipt that was looked for its entry. The number of entries, and of lost messages."""
+def close(program: subprocess.Popen[str], reason: str = "") -> Tuple[int, int]:
+    """Each entry has a receipt, and each receipt that was looked for its entry. The number of entries, and of lost messages. It was only
+    said that device calls failed for this reason; nothing if there is none."""
     out, err = program.communicate("close\n", timeout=PATIENCE)
-    assert (err, program.returncode) == (READY, 0), f"got {out!r}, {err!r}, {program.returncode}"
+    assert err.startswith(READY) and program.returncode == 0, f"got {out!r}, {err!r}, {program.returncode}"
+    for line in err[len(READY) :].splitlines():
+        failed = FAILED_CALL.fullmatch(line)
+        assert failed and failed.group(5) == reason, f"said {line!r}"
+    assert not reason or err != READY, f"no device call failed: {reason}"
     return report_of(out)
 
 

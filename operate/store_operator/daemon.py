@@ -7,6 +7,7 @@ import asyncio
 import logging
 import logging.handlers
 import os
+import shlex
 import shutil
 import signal
 import sys
@@ -76,7 +77,8 @@ def arguments() -> argparse.ArgumentParser:
 
 def run(words: argparse.Namespace) -> None:
     if words.new:
-        print(f"store-daemon {make_first(words.new, usual_program())}")
+        # as it was called, since it may not be on the path
+        print(shlex.join([sys.argv[0], str(make_first(words.new, usual_program()))]))
         return
     settings = read_settings(words.settings, usual_program())
     if words.check:

@@ -133,7 +133,7 @@ class SettingsFiles(unittest.TestCase):
     def test_a_folder_to_begin_with(self) -> None:
         with Place() as place:
             folder = place.path / "first"
-            self.assertEqual(self.daemon("--new", str(folder)), (0, f"store-daemon {folder}/store.ini\n", ""))
+            self.assertEqual(self.daemon("--new", str(folder)), (0, f"{DAEMON} {folder}/store.ini\n", ""))
             self.assertEqual(self.daemon("--check", f"{folder}/store.ini"), (0, f"{folder}/store.ini: 1 nodes, 1 admissions\n", ""))
             modes = {path.name: path.stat().st_mode & 0o777 for path in (folder, *folder.iterdir())}
             self.assertEqual(modes, {"first": 0o700, "store.ini": 0o600, "job1.key": 0o600})

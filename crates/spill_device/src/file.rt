@@ -1,6 +1,7 @@
 //! A device over files.
 ghost use Rattle.std.specs.Prelude.{◌≡◌, length, Ok, IfOk};
 ghost use Rattle.std.specs.String.{string_bytes};
+ghost use Rattle.std.specs.IoError.{error_kind};
 ghost use Rattle.spill_device.specs.Faults.{count_after};
 ghost use Rattle.spill_device.specs.Folders.{file_path};
 
@@ -18,6 +19,12 @@ use std::rt::Files;
 /// A spilled object is its owner's alone to read.
 const FILE_MODE: u32 = 0o600;
 
+/// Why a file isn't read that is shorter or longer than what was written.
+const OTHER_LENGTH: &str = "the file has another length";
+
+/// Why a file is neither read nor written if something else is there.
+const NO_FILE: &str = "what is there isn't a regular file";
+
 /// A device that keeps one file for each key, in a folder of its own. A write is whole or `Failed`: the
 /// bytes go to another name first, which then becomes the key's. No contract promises what the files
 /// hold, or that a write or an erase reached them: a file that isn't as long as it should be is
@@ -31,6 +38,8 @@ pub struct FileDevice<R: Files + AllocGlobal + Drop> {
     rt: R,
     folder: String,
     failures: u64,
+    // why the last call that failed did, until it is taken
+    reason: Option<io::Error>,
 }
 
 impl<R: Files + AllocGlobal + Drop> Model for FileDevice<R> {
@@ -56,7 +65,16 @@ impl<R: Files + AllocGlobal + Drop> FileDevice<R> {
             rt,
             folder,
             failures: 0,
+            reason: None,
         })
+    }
+
+    /// Why the last call that was `Failed` failed: as the system says it, or in words if it was no call of the system's. None if it was
+    /// taken before. A call without memory leaves no reason.
+    pub fn take_reason(&mut self) -> Option<io::Error>
+        ensures { self.new ≡ self.old }
+    {
+        self.reason.take()
     }
 
     /// The path of the key's file, by which all three calls go.
@@ -82,11 +100,11 @@ impl<R: Files + AllocGlobal + Drop> FileDevice<R> {
     {
         let path = self.path_for(key)?;
         if is_foreign(&self.rt, path.as_str()) {
-            return Err(io::Error::from(ErrorKind::InvalidData));
+            return Err(foreign(ErrorKind::InvalidData));
         }
         let mut file = fs::open(&self.rt, path.as_str())?;
         if file.metadata()?.len() != u64::from(len) {
-            return Err(io::Error::from(ErrorKind::InvalidData));
+            return Err(io::Error::new(ErrorKind::InvalidData, OTHER_LENGTH));
         }
         let mut bytes = vec![in self.rt.alloc(); 0u8; len as usize]?;
         file.read_exact(bytes.as_mut_slice())?;
@@ -98,7 +116,7 @@ impl<R: Files + AllocGlobal + Drop> FileDevice<R> {
         remove_if_there(&self.rt, path.as_str())
     }
 
-    /// The answer to a call that went so; a failure is counted.
+    /// The answer to a call that went so; a failure is counted, and its reason kept.
     fn answer<T>(&mut self, done: io::Result<T>) -> Result<T, DeviceFault>
         ensures value { IfOk result (λ value. done ≡ Ok value) }
         ensures counted { self.new ≡ record self.old { failures = count_after result self.old.failures } }
@@ -106,8 +124,9 @@ impl<R: Files + AllocGlobal + Drop> FileDevice<R> {
         match done {
             Ok(value) => Ok(value),
             Err(error) if error.kind() == ErrorKind::OutOfMemory => Err(DeviceFault::NoMemory),
-            Err(_) => {
+            Err(error) => {
                 self.failures = self.failures.saturating_add(1);
+                self.reason = Some(error);
                 Err(DeviceFault::Failed)
             }
         }
@@ -126,7 +145,7 @@ fn path_of(alloc: Global, folder: &str, key: DeviceKey) -> Result<String, AllocE
 /// Writes the bytes to a new file `part`, whose name then becomes `path`. A write that was cut off may have left a `part`.
 fn write_beside<R: Files>(rt: &R, part: &str, path: &str, bytes: &[u8]) -> io::Result<()> {
     if is_foreign(rt, path) {
-        return Err(io::Error::from(ErrorKind::AlreadyExists));
+        return Err(foreign(ErrorKind::AlreadyExists));
     }
     remove_if_there(rt, part)?;
     let mut options = OpenOptions::new();
@@ -134,6 +153,13 @@ fn write_beside<R: Files>(rt: &R, part: &str, path: &str, bytes: &[u8]) -> io::R
     let mut file = options.open(rt, part)?;
     file.write_all(bytes)?;
     fs::rename(rt, part, path)
+}
+
+/// The error of a call on a path at which there is something that isn't a regular file.
+fn foreign(kind: ErrorKind) -> io::Error
+    ensures { error_kind result ≡ kind }
+{
+    io::Error::new(kind, NO_FILE)
 }
 
 /// Removes the file of this path, if there is one. A link is removed, and not what it names.

@@ -1,5 +1,6 @@
 pub mod CommandLine
 pub mod Endings
+pub mod FailedCalls
 pub mod Kept
 pub mod Lines
 pub mod Orders

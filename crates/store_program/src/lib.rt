@@ -6,6 +6,7 @@
 mod asked;
 mod attending;
 mod command_line;
+mod failed_calls;
 mod fault;
 mod journal;
 mod lines;
@@ -19,6 +20,7 @@ mod workers;
 pub use asked::{Asked, Look, read_asked};
 pub use attending::{Closing, attend};
 pub use command_line::{ScheduleRun, Serving, Task, read_task, status_of_error};
+pub use failed_calls::{DeviceCall, FailedCall, SaidCalls};
 pub use fault::{Fault, status_of};
 pub use journal::{Keep, RunJournal};
 pub use operator::{Order, read_order};

@@ -11,6 +11,7 @@ mod patient;
 mod serve_fault;
 mod serving;
 mod sockets;
+mod telling;
 
 use journal_replay::{ReplayFault, Verdict, replay_text, status_of as status_of_replay};
 use serve_fault::Told;

@@ -7,8 +7,9 @@ use crate::machine::machine_memory;
 use crate::patient::Patient;
 use crate::serve_fault::{ServeFault, Told};
 use crate::sockets::{SocketFile, bind};
+use crate::telling::{Telling, TellingDevice};
 use session_threads::{Cluster, Listening, Report, SharedNode, Working, listen, work};
-use spill_device::{FileDevice, SpillFolder};
+use spill_device::SpillFolder;
 use std::alloc::{AllocError, Global};
 use std::fs::Files;
 use std::io::{BufRead, BufReader, Read, Write};
@@ -239,6 +240,7 @@ fn open_nodes<
     served.folders.reserve(serving.shape.nodes as usize)?;
     served.workers.reserve(serving.shape.nodes as usize)?;
     served.doors.reserve(serving.shape.nodes as usize)?;
+    let telling = Telling::new(host.alloc())?;
     for number in 0..serving.shape.nodes {
         let Some(node) = cluster.node(number) else {
             return Err(ServeFault::Fault(Fault::Socket))
@@ -247,17 +249,22 @@ fn open_nodes<
         let _ = served
             .folders
             .push(SpillFolder::take(host, folder.as_str())?);
-        let _ = served
-            .workers
-            .push(start_worker(rt, host, node, folder.as_str())?);
+        let _ = served.workers.push(start_worker(
+            rt,
+            host,
+            node,
+            number,
+            folder.as_str(),
+            telling.share()?,
+        )?);
         let door = open_door(rt, host.alloc(), node, serving.socket, number)?;
         let _ = served.doors.push(door);
     }
     Ok(())
 }
 
-/// Starts the node's worker, which spills into the folder. Its device goes into the worker's thread: so it is over the host's own
-/// files, which every thread has.
+/// Starts the worker of the node of this number, which spills into the folder. Its device goes into the worker's thread: so it is over
+/// the host's own files, which every thread has. It tells of calls that failed together with those of the other nodes.
 fn start_worker<
     L: Ledger + Send + Sync + 'static,
     R: Threads + Wait + Clock + Copy + Send + 'static,
@@ -265,10 +272,12 @@ fn start_worker<
     rt: R,
     host: HostRuntime,
     node: &Arc<SharedNode<L>>,
+    number: u32,
     folder: &str,
+    telling: Telling,
 ) -> Result<Working<L>, ServeFault> {
     let node = Arc::try_clone(node)?;
-    let device = FileDevice::new(host, folder)?;
+    let device = TellingDevice::new(rt, host, number, folder, telling)?;
     match work(rt, node, device) {
         Ok(working) => Ok(working),
         Err(error) => Err(ServeFault::Worker { error }),
