@@ -14,6 +14,7 @@ use Rattle.node_journal.specs.declared.entries.Line.TheVariants as line
 use Rattle.node_journal.specs.Replies.{unlisted}
 use Rattle.node_journal.specs.Journals.{Journal, AreDue, Tells, agreement, is_entry, is_this, line_of, lines_of, same_entry}
 use Rattle.node_journal.specs.Receipts.{AnswersAgree, IsDueIn}
+use Rattle.node_journal.proofs.Lists.{replayed_one}
 
 -- ---- where it stands
 
@@ -49,10 +50,6 @@ first_of y (x ∷ xs) = x
 after_one : (brief : Brief) (o : Option Replayed) (rest : List Replayed) → AreDue brief (option_to_list o ++ rest) → AreDue (replayed brief (option_to_list o)) rest
 after_one brief None rest h = h
 after_one brief (Some t) rest h = ap rest_of h
-
-replayed_one : (brief : Brief) (o : Option Replayed) (rest : List Replayed) → replayed brief (option_to_list o ++ rest) ≡ replayed (replayed brief (option_to_list o)) rest
-replayed_one brief None rest = refl
-replayed_one brief (Some t) rest = refl
 
 due_first : (brief : Brief) (own : Entry) (o : Option Judged) (x : Judged) (rest : List Replayed) → o ≡ Some x
     → AreDue brief (option_to_list (option_map (λ (y : Judged). record { input = y; reply = own.reply }) o) ++ rest) → own.reply ≡ unlisted (brief_step brief x).reply
