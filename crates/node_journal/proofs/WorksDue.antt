@@ -1,6 +1,6 @@
--- What a Take gives: the first work of its job's store that nobody has taken; and so each entry of the journal says.
+-- What a Take gives is the first work of its job's store that nobody has taken, and so its entry says.
 use Rattle.std.proofs.Common.{◌≡◌, ℕ, ◌≤◌, zero, suc, Bool, true, false, cond, ◌==◌, ◌&&◌, List, [], ◌∷◌, ◌++◌, map, length, Option, Some, None, refl, sym, ap, subst, ◌∙◌, arith}
-use Rattle.std.specs.Prelude.{if◌then◌else◌, count_by, filter, option_map, option_to_list, slice_get}
+use Rattle.std.specs.Prelude.{if◌then◌else◌, count_by, filter, option_map, option_to_list, slice_get, unwrap_or}
 use Rattle.std.specs.List.{find}
 use Rattle.std.specs.Option.{option_and_then, option_map_or}
 use Rattle.std.proofs.lemmas.Bool.Decides.{nat_tests}
@@ -30,7 +30,7 @@ use Rattle.private_store.specs.Shape.{Copy, Fetch, WorkInFlight}
 use Rattle.private_store.specs.Step.{step}
 use Rattle.private_store.specs.Tables.{at}
 use Rattle.private_store.proofs.KeptLists.{count-yes, count-no, some_counted, find-any}
-use Rattle.private_store.proofs.Tests.{true_false, false_true, none_some}
+use Rattle.private_store.proofs.Tests.{true_false, false_true, none_some, some_value}
 use Rattle.spill_work.specs.declared.queue.Asked.{Asked}
 use Rattle.spill_work.specs.declared.queue.Queued.{Queued}
 use Rattle.spill_work.specs.Line.{front_of, shown}
@@ -114,21 +114,18 @@ step_gives_none node view x = by (step view.order view.shape (judge node view x)
 
 -- ---- the work that a Take gives
 
+itself : (n : ℕ) → (n == n) ≡ true
+itself n = grind (arith, nat_tests)
+
 -- a work at a place is found under its number
 found_at : (w : WorkInFlight) (ws : List WorkInFlight) (n : ℕ) → slice_get ws n ≡ Some w → count_by (λ v. v.number == w.number) ws ≤ 1 → find (λ v. v.number == w.number) ws ≡ Some w
 found_at w [] n here one = none_some w here
-found_at w (v ∷ vs) zero here one = ap (λ (x : WorkInFlight). cond (v.number == x.number) (Some v) (find (λ y. y.number == x.number) vs)) (some_is (sym here)) ∙ ap (λ b. cond b (Some v) (find (λ y. y.number == v.number) vs)) (itself v.number) ∙ here
-  where
-    itself : (n : ℕ) → (n == n) ≡ true
-    itself n = grind (arith, nat_tests)
-
-    some_is : Some w ≡ Some v → w ≡ v
-    some_is e = ap (λ o. option_map_or (λ (x : WorkInFlight). x) o w) e
+found_at w (v ∷ vs) zero here one =
+    ap (λ (x : WorkInFlight). cond (v.number == x.number) (Some v) (find (λ y. y.number == x.number) vs)) (sym (some_value v w here))
+    ∙ ap (λ b. cond b (Some v) (find (λ y. y.number == v.number) vs)) (itself v.number)
+    ∙ here
 found_at w (v ∷ vs) (suc n) here one = by (v.number == w.number) refl (found_at w vs n here)
   where
-    itself : (n : ℕ) → (n == n) ≡ true
-    itself n = grind (arith, nat_tests)
-
     by : (b : Bool) → (v.number == w.number) ≡ b → (count_by (λ x. x.number == w.number) vs ≤ 1 → find (λ x. x.number == w.number) vs ≡ Some w)
         → cond (v.number == w.number) (Some v) (find (λ x. x.number == w.number) vs) ≡ Some w
     by true is later =
@@ -161,7 +158,7 @@ module _ (job : ℕ) (view : View) (h : IsViewKept view) (own : view.shape.job �
     job = record { 0 = sym own i };
     number = w.number;
     kind = if w.writes then kind.Write else kind.Read;
-    key = key_of (sym own i) (if w.writes then w.number else option_map_or (λ (n : ℕ). n) copy.backed 0);
+    key = key_of (sym own i) (if w.writes then w.number else unwrap_or copy.backed 0);
     length = copy.length;
     payload = payload_is w.writes refl i;
   })

@@ -164,7 +164,7 @@ abbrev pub work_due : Brief → ℕ → Option (Work ℕ)
 work_due brief taken =
     option_and_then (λ w. option_map (brief_given brief.shape.job w) (at brief.shape.copies w.id)) (slice_get brief.shape.works taken)
 
--- what a Take is answered that is the job's
+-- what a Take is answered when it is the job's turn
 abbrev pub take_due : Brief → ℕ → Reply ℕ
 take_due brief taken = option_map_or reply.Work (work_due brief taken) reply.NoWork
 
