@@ -1,6 +1,7 @@
 mod JobsKept
 mod TakenLine
 mod TakenWorks
+mod WorksDue
 mod Logging
 mod OwnInputs
 mod Lists

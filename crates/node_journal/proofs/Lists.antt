@@ -1,5 +1,5 @@
 -- Lines of a job with more after them.
-use Rattle.std.proofs.Common.{◌≡◌, List, [], ◌∷◌, ◌++◌, map, append-nil, append_assoc, refl, sym, ap, ◌∙◌}
+use Rattle.std.proofs.Common.{◌≡◌, List, [], ◌∷◌, ◌++◌, map, append-nil, append_assoc, Option, Some, None, refl, sym, ap, ◌∙◌}
 use Rattle.std.specs.Prelude.{option_to_list}
 use Rattle.private_store.specs.declared.inputs.Judged.{Judged}
 use Rattle.private_store.specs.Replay.{Brief, Line as Replayed, replayed, answers_due, brief_after, brief_step}
@@ -20,6 +20,10 @@ lines_of-snoc (x ∷ xs) l =
 pub replayed-snoc : (b : Brief) (lines : List Replayed) (l : Replayed) → replayed b (lines ++ l ∷ []) ≡ brief_after (replayed b lines) l.input
 replayed-snoc b [] l = refl
 replayed-snoc b (x ∷ xs) l = replayed-snoc (brief_after b x.input) xs l
+
+pub replayed_one : (brief : Brief) (o : Option Replayed) (rest : List Replayed) → replayed brief (option_to_list o ++ rest) ≡ replayed (replayed brief (option_to_list o)) rest
+replayed_one brief None rest = refl
+replayed_one brief (Some t) rest = refl
 
 abbrev inputs : List Replayed → List Judged
 inputs lines = map (λ (line : Replayed). line.input) lines

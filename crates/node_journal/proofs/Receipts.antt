@@ -12,8 +12,9 @@ use Rattle.node_journal.specs.declared.entries.Entry.{Entry}
 use Rattle.node_journal.specs.declared.entries.Line.{Line}
 use Rattle.node_journal.specs.declared.entries.Line.TheVariants as line
 use Rattle.node_journal.specs.Replies.{unlisted}
-use Rattle.node_journal.specs.Journals.{Journal, AreDue, Tells, agreement, is_entry, is_this, line_of, lines_of, same_entry}
+use Rattle.node_journal.specs.Journals.{Journal, AreDue, AreWorksDue, IsWorkDue, Tells, agreement, is_entry, is_this, line_of, lines_of, same_entry, taken_after, taken_from}
 use Rattle.node_journal.specs.Receipts.{AnswersAgree, IsDueIn}
+use Rattle.node_journal.proofs.Lists.{replayed_one}
 
 -- ---- where it stands
 
@@ -50,10 +51,6 @@ after_one : (brief : Brief) (o : Option Replayed) (rest : List Replayed) → Are
 after_one brief None rest h = h
 after_one brief (Some t) rest h = ap rest_of h
 
-replayed_one : (brief : Brief) (o : Option Replayed) (rest : List Replayed) → replayed brief (option_to_list o ++ rest) ≡ replayed (replayed brief (option_to_list o)) rest
-replayed_one brief None rest = refl
-replayed_one brief (Some t) rest = refl
-
 due_first : (brief : Brief) (own : Entry) (o : Option Judged) (x : Judged) (rest : List Replayed) → o ≡ Some x
     → AreDue brief (option_to_list (option_map (λ (y : Judged). record { input = y; reply = own.reply }) o) ++ rest) → own.reply ≡ unlisted (brief_step brief x).reply
 due_first brief own o x rest is h =
@@ -66,6 +63,12 @@ due_at brief [] own after x is h = due_first brief own own.input x (lines_of aft
 due_at brief (l ∷ before) own after x is h =
     due_at (replayed brief (option_to_list (line_of l))) before own after x is (after_one brief (line_of l) (lines_of (before ++ line.Entry own ∷ after)) h)
     ∙ ap (λ b. unlisted (brief_step b x).reply) (sym (replayed_one brief (line_of l) (lines_of before)))
+
+given_at : (brief : Brief) (n : ℕ) (before : List Line) (own : Entry) (after : List Line) → AreWorksDue brief n (before ++ line.Entry own ∷ after) → IsWorkDue (replayed brief (lines_of before)) (taken_from n before) (line.Entry own)
+given_at brief n [] own after h = h.0
+given_at brief n (l ∷ before) own after h =
+    subst (λ b. IsWorkDue b (taken_from (taken_after n l) before) (line.Entry own)) (sym (replayed_one brief (line_of l) (lines_of before)))
+    (given_at (replayed brief (option_to_list (line_of l))) (taken_after n l) before own after h.1)
 
 -- ---- a receipt that the journal has
 
@@ -80,6 +83,7 @@ found true entry journal h = by (nat_le entry.number journal.covered) (list_any 
 
 pub receipt_due : (node : Hosted) (journals : ℕ → Journal) (job : ℕ) (here : Bool) (entry : Entry) → ∥ Tells node journals ∥₁ → agreement here entry (journals job) ≡ agree.Yes → ∥ IsDueIn (journals job) entry ∥₁
 receipt_due node journals job here entry told h = ∥∥₁_map told (λ t.
+    let base = (journals job).base in
     let s = stands entry (journals job).list (found here entry (journals job) h) in
     record {
       own = s.own;
@@ -87,7 +91,8 @@ receipt_due node journals job here entry told h = ∥∥₁_map told (λ t.
       after = s.after;
       stands = s.is;
       same = s.same;
-      due = λ x is. due_at (journals job).base.store s.before s.own s.after x is (subst (λ ls. AreDue (journals job).base.store (lines_of ls)) s.is (t.told job).due);
+      due = λ x is. due_at base.store s.before s.own s.after x is (subst (λ ls. AreDue base.store (lines_of ls)) s.is (t.told job).due);
+      given = λ take. ((given_at base.store base.taken s.before s.own s.after (subst (AreWorksDue base.store base.taken) s.is (t.works job))).0 take).1;
     })
 
 -- ---- two journals

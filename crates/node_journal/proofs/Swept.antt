@@ -19,13 +19,14 @@ use Rattle.node_journal.specs.declared.entries.Agreement.TheVariants as agree
 use Rattle.node_journal.specs.declared.entries.Entry.{Entry}
 use Rattle.node_journal.specs.declared.entries.Line.{Line}
 use Rattle.node_journal.specs.declared.entries.Line.TheVariants as line
-use Rattle.node_journal.specs.Journals.{AreNumbered, IsSwept, IsTold, Journal, StillAgrees, Tells, agreement, fresh, folded, folded_if, follows, has_entries, has_hands, is_some_entry, is_this, last_of, lines_of, many_lines, most_lines, rise_above, same_entry, seems_fresh, settled, settled_if, step_of, swept_if, taken_of}
+use Rattle.node_journal.specs.Journals.{AreNumbered, GivesDue, IsSwept, IsTold, Journal, StillAgrees, Tells, agreement, fresh, folded, folded_if, follows, has_entries, has_hands, is_some_entry, is_this, last_of, lines_of, many_lines, most_lines, rise_above, same_entry, seems_fresh, settled, settled_if, step_of, swept_if, taken_of}
 use Rattle.node_journal.specs.Logs.{JobLog, journal_of}
 use Rattle.node_journal.proofs.Bases.{Brief-set}
 use Rattle.node_journal.proofs.Logging.{journal_in}
 use Rattle.node_journal.proofs.Numbering.{fold_numbered}
 use Rattle.node_journal.proofs.Rooms.{fold_few}
 use Rattle.node_journal.proofs.Telling.{told_alike}
+use Rattle.node_journal.proofs.WorksDue.{folded_works}
 
 same_number : (a b : ℕ) → (a == b) ≡ true → a ≡ b
 same_number a b t = grind (arith, nat_tests)
@@ -45,6 +46,10 @@ parts_taken true true j = refl
 parts_taken true false j = refl
 parts_taken false many j = refl
 
+parts_works : (entries many : Bool) (j : Journal) → GivesDue j → GivesDue (by_parts entries many j)
+parts_works true many j h = folded_works many j h
+parts_works false many j h = tt
+
 swept_told : (view : View) (dead : Bool) (j : Journal) → IsTold view j → IsTold view (swept_if dead j)
 swept_told view true j h = parts_told view (has_entries j) (nat_le many_lines (length j.list)) j h
 swept_told view false j h = h
@@ -53,6 +58,10 @@ swept_taken : (dead : Bool) (j : Journal) → taken_of (swept_if dead j) ≡ tak
 swept_taken true j = parts_taken (has_entries j) (nat_le many_lines (length j.list)) j
 swept_taken false j = refl
 
+swept_works : (dead : Bool) (j : Journal) → GivesDue j → GivesDue (swept_if dead j)
+swept_works true j h = parts_works (has_entries j) (nat_le many_lines (length j.list)) j h
+swept_works false j h = h
+
 pub all_swept : (node : Hosted) (before after : ℕ → Journal) (dead : ℕ → Bool) → ((job : ℕ) → after job ≡ swept_if (dead job) (before job)) → ∥ Tells node before ∥₁ → ∥ Tells node after ∥₁
 all_swept node before after dead is h = told_alike node node (λ job. swept_if (dead job) (before job)) after refl is (∥∥₁_map h (λ t. record {
   views = t.views;
@@ -60,6 +69,7 @@ all_swept node before after dead is h = told_alike node node (λ job. swept_if (
   told = λ job. swept_told (t.views job) (dead job) (before job) (t.told job);
   taken = λ job. swept_taken (dead job) (before job) ∙ t.taken job;
   first = t.first;
+  works = λ job. swept_works (dead job) (before job) (t.works job);
 }))
 
 settled_told : (view : View) (some : Bool) (j : Journal) → IsTold view j → IsTold view (settled_if some j)
@@ -70,6 +80,10 @@ settled_taken : (some : Bool) (j : Journal) → taken_of (settled_if some j) ≡
 settled_taken true j = refl
 settled_taken false j = refl
 
+settled_works : (some : Bool) (j : Journal) → GivesDue j → GivesDue (settled_if some j)
+settled_works true j h = tt
+settled_works false j h = h
+
 pub all_settled : (node : Hosted) (before after : ℕ → Journal) (some : ℕ → Bool) → ((job : ℕ) → after job ≡ settled_if (some job) (before job)) → ∥ Tells node before ∥₁ → ∥ Tells node after ∥₁
 all_settled node before after some is h = told_alike node node (λ job. settled_if (some job) (before job)) after refl is (∥∥₁_map h (λ t. record {
   views = t.views;
@@ -77,6 +91,7 @@ all_settled node before after some is h = told_alike node node (λ job. settled_
   told = λ job. settled_told (t.views job) (some job) (before job) (t.told job);
   taken = λ job. settled_taken (some job) (before job) ∙ t.taken job;
   first = t.first;
+  works = λ job. settled_works (some job) (before job) (t.works job);
 }))
 
 pub sweep_numbered : (count : ℕ) (dead : Bool) (j after : Journal) → after ≡ swept_if dead j → AreNumbered count j → AreNumbered count after

@@ -1,6 +1,6 @@
 -- How many works of a job in the line are taken, and what becomes of that.
-use Rattle.std.proofs.Common.{◌≡◌, ℕ, ◌+◌, ◌≤◌, suc, Bool, true, false, not, cond, ◌==◌, ◌&&◌, ◌||◌, List, [], ◌∷◌, ◌++◌, map, filter, length, Some, refl, sym, ap, subst, ◌∙◌, arith}
-use Rattle.std.specs.Prelude.{option_map}
+use Rattle.std.proofs.Common.{◌≡◌, ℕ, ◌+◌, ◌≤◌, suc, Bool, true, false, not, cond, ◌==◌, ◌&&◌, ◌||◌, List, [], ◌∷◌, ◌++◌, map, filter, length, Option, Some, None, refl, sym, ap, subst, ◌∙◌, arith}
+use Rattle.std.specs.Prelude.{option_map, slice_get}
 use Rattle.std.specs.List.{find, list_all, list_any}
 use Rattle.std.proofs.lemmas.Bool.Decides.{nat_tests}
 use Rattle.std.proofs.lemmas.List.{length-append}
@@ -12,9 +12,9 @@ use Rattle.private_store.proofs.KeptLists.{all-filter}
 use Rattle.private_store.proofs.Tests.{both, both_left, both_right, none_some, some_value, true_false}
 use Rattle.spill_work.specs.declared.queue.Asked.{Asked}
 use Rattle.spill_work.specs.declared.queue.Queued.{Queued}
-use Rattle.spill_work.specs.Line.{same_job, is_of, is_at, front_of}
+use Rattle.spill_work.specs.Line.{same_job, shown, is_of, is_at, front_of}
 use Rattle.node_core.specs.Steps.{taken_if, queued}
-use Rattle.node_core.proofs.Taking.{unmarked}
+use Rattle.node_core.proofs.Taking.{part, unmarked}
 use Rattle.node_journal.specs.Journals.{taken_come_first}
 
 abbrev pub count : JobNo → List Queued → ℕ
@@ -276,3 +276,46 @@ module _ (asked : Asked) where
           ap (λ b. more (b && (mark w).taken) (count other (map mark ws))) (mark_of w other ∙ not_its)
           ∙ sym (ap (λ b. more (b && w.taken) (count other (map mark ws))) not_its)
       by false is = ap (λ (x : Queued). more (is_of other x && x.taken) (count other (map mark ws))) (mark_other w is)
+
+-- ---- the first work that nobody has taken
+
+-- of a job whose part of the line begins with so many that are taken
+module _ (job : JobNo) (w : Queued) (ws : List Queued) (o : Option WorkInFlight) where
+  past : w.taken ≡ true → slice_get (part job ws) (count job ws) ≡ o → slice_get (part job (w ∷ ws)) (count job (w ∷ ws)) ≡ o
+  past is h =
+      ap (slice_get (part job (w ∷ ws))) (count-cons job w ws ∙ ap (λ t. more (is_of job w && t) (count job ws)) is) ∙ by (is_of job w)
+    where
+      by : (b : Bool) → slice_get (map (λ work. shown work.asked) (cond b (w ∷ filter (is_of job) ws) (filter (is_of job) ws))) (more (b && true) (count job ws)) ≡ o
+      by true = h
+      by false = h
+
+-- the front is that of its job
+pub front_at : (asked : Asked) (ws : List Queued) → front_of ws ≡ Some asked → taken_come_first ws ≡ true → slice_get (part asked.job ws) (count asked.job ws) ≡ Some (shown asked)
+front_at asked [] front first = none_some asked front
+front_at asked (w ∷ ws) front first = by w.taken refl front first (front_at asked ws)
+  where
+    own : JobNo
+    own = asked.job
+
+    by : (t : Bool) → w.taken ≡ t → option_map (λ (work : Queued). work.asked) (cond (not t) (Some w) (find (λ work. not work.taken) ws)) ≡ Some asked
+        → cond t (taken_come_first ws) (are_untaken ws) ≡ true
+        → (front_of ws ≡ Some asked → taken_come_first ws ≡ true → slice_get (part own ws) (count own ws) ≡ Some (shown asked))
+        → slice_get (part own (w ∷ ws)) (count own (w ∷ ws)) ≡ Some (shown asked)
+    by true is front first later = past own w ws (Some (shown asked)) is (later front first)
+    by false is front first later =
+        let e : w.asked ≡ asked = some_value w.asked asked front in
+        let of : is_of own w ≡ true = both_left (is_of own w) (w.asked.number == asked.number) (front_here asked w e) in
+        ap (slice_get (part own (w ∷ ws))) (count-cons own w ws ∙ ap (λ b. more b (count own ws)) (and_no (is_of own w) w.taken is) ∙ count_untaken own ws first)
+        ∙ ap (λ b. slice_get (map (λ (work : Queued). shown work.asked) (cond b (w ∷ filter (is_of own) ws) (filter (is_of own) ws))) 0) of
+        ∙ ap (λ a. Some (shown a)) e
+
+-- no job has one
+pub none_at : (job : JobNo) (ws : List Queued) → front_of ws ≡ None → slice_get (part job ws) (count job ws) ≡ None
+none_at job [] front = refl
+none_at job (w ∷ ws) front = by w.taken refl front (none_at job ws)
+  where
+    by : (t : Bool) → w.taken ≡ t → option_map (λ (work : Queued). work.asked) (cond (not t) (Some w) (find (λ work. not work.taken) ws)) ≡ None
+        → (front_of ws ≡ None → slice_get (part job ws) (count job ws) ≡ None)
+        → slice_get (part job (w ∷ ws)) (count job (w ∷ ws)) ≡ None
+    by true is front later = past job w ws None is (later front)
+    by false is front later = none_some w.asked (sym front)

@@ -36,12 +36,13 @@ use Rattle.node_journal.specs.declared.entries.EventName.{EventName}
 use Rattle.node_journal.specs.declared.entries.Line.{Line}
 use Rattle.node_journal.specs.declared.entries.Line.TheVariants as line
 use Rattle.node_journal.specs.Replies.{unlisted, kept_reply}
-use Rattle.node_journal.specs.Journals.{Journal, fresh, entry_for, event_name, notes_for, lines_made, line_of, lines_of, AreDue, IsTold, Tells, taken_of, taken_come_first, folded_if, with_lines, is_call}
+use Rattle.node_journal.specs.Journals.{Journal, fresh, entry_for, event_name, notes_for, lines_made, line_of, lines_of, store_of, AreDue, GivesDue, IsTold, IsWorkDue, Tells, gives_work, taken_of, taken_come_first, folded_if, with_lines, is_call}
 use Rattle.node_core.proofs.AllJobs.{own_of, IsFinishAnswer, finish_answer, own_due_is}
 use Rattle.node_core.proofs.Notes.{is_note, AreJobNotes, here_notes}
 use Rattle.node_journal.proofs.OwnInputs.{of_job, here_is, if_own, own_inputs}
 use Rattle.node_journal.proofs.Lists.{lines_of-snoc, replayed-snoc, due-snoc}
 use Rattle.node_journal.proofs.TakenWorks.{KeepsTaken, step_keeps, arrival_keeps, stale_keeps, next_taken, folded_taken, numbered}
+use Rattle.node_journal.proofs.WorksDue.{arrival_due, event_due, folded_works, next_works, step_gives_none}
 
 -- ---- lines
 
@@ -117,6 +118,7 @@ told_alike old new _ after same is h = subst (λ node. ∥ Tells node after ∥�
   told = λ job. subst (IsTold (t.views job)) (sym (is job)) (t.told job);
   taken = λ job. ap taken_of (is job) ∙ t.taken job;
   first = t.first;
+  works = λ job. subst GivesDue (sym (is job)) (t.works job);
 }))
 
 told_folded : (node : Hosted) (journals : ℕ → Journal) (full : ℕ → Bool) → Tells node journals → Tells node (λ job. folded_if (full job) (journals job))
@@ -126,6 +128,7 @@ told_folded node journals full h = record {
   told = λ job. by job (full job);
   taken = λ job. folded_taken (full job) (journals job) ∙ h.taken job;
   first = h.first;
+  works = λ job. folded_works (full job) (journals job) (h.works job);
 }
   where
     by : (job : ℕ) (b : Bool) → IsTold (h.views job) (folded_if b (journals job))
@@ -280,8 +283,17 @@ module _ (old new : Hosted) (e : Event) (given : Given) (number : ℕ) (steps : 
         (one_told h.views h.shown job (before job) (h.told job));
     taken = λ job. next_taken old.works.works new.works.works number own job named was given (before job) (after job) keeps (is job) (h.taken job);
     first = keeps.first h.first;
+    works = λ job. next_works number own job named was given (before job) (after job) (due job) (is job) (h.works job);
   }
     where
+      due : (job : ℕ) → own ≡ job → IsWorkDue (store_of (before job)) (taken_of (before job)) (line.Entry entry)
+      due job its =
+          subst (λ b. IsWorkDue b (taken_of (before job)) (line.Entry entry)) (sym (h.told job).replays)
+          (subst (λ n. IsWorkDue (brief_of (h.views job)) n (line.Entry entry)) (sym (h.taken job))
+          (subst (λ k. IsWorkDue (brief_of (h.views k)) (taken_by old.works (numbered k)) (line.Entry entry)) its
+          (event_due old h.views h.shown (λ k. (h.told k).kept) h.first number given.reply e was (from h.views h.shown).operator (judged_is h.views h.shown None)
+          (λ x is. ap (λ t. gives_work (kept_reply t)) (told_is h.views h.shown x is).reply ∙ step_gives_none old.number (h.views (job_of_event e)) x))))
+
       keeps : KeepsTaken old.works.works new.works.works own (line.Entry entry)
       keeps = step_keeps old h.views h.shown number named e given new (steps.each h.views h.shown) was (judged_is h.views h.shown (input_of e given.reply) refl)
 
@@ -407,6 +419,10 @@ module _ (old new : Hosted) (to : JobNo) (a : Arrival) (given : Given) (number :
       same : given.reply ≡ reply.Refused Stale → KeepsTaken old.works.works old.works.works to.0 came
       same late = stale_keeps old.works.works to.0 number brought was given.reply Stale (word_is h.views h.shown (reply.Refused Stale) late) late
 
+      next_due : (live : Bool) → given.reply ≡ answered (stale_unless live) → (job : ℕ) → GivesDue (after job)
+      next_due live op job =
+          next_works number to.0 job brought was given (before job) (after job) (λ _. arrival_due (store_of (before job)) (taken_of (before job)) number a was given.reply (stale_unless live) op) (is job) (h.works job)
+
       by : (live : Bool) → given.reply ≡ answered (stale_unless live) → Tells new after
       by true ok = record {
         views = λ job. view_from old.number (h.views job) (inputs_to (before_of old h.views) (Arrive to a) given.reply job);
@@ -416,6 +432,7 @@ module _ (old new : Hosted) (to : JobNo) (a : Arrival) (given : Given) (number :
             (taken_told h.views h.shown ok job (before job) (h.told job));
         taken = λ job. next_taken old.works.works new.works.works number to.0 job brought was given (before job) (after job) (keeps ok) (is job) (h.taken job);
         first = (keeps ok).first h.first;
+        works = next_due true ok;
       }
       by false late = subst (λ node. Tells node after) (sym (stale late)) (record {
         views = h.views;
@@ -423,6 +440,7 @@ module _ (old new : Hosted) (to : JobNo) (a : Arrival) (given : Given) (number :
         told = λ job. subst (IsTold (h.views job)) (sym (is job)) (stale_told h.views h.shown late job (before job) (h.told job));
         taken = λ job. next_taken old.works.works old.works.works number to.0 job brought was given (before job) (after job) (same late) (is job) (h.taken job);
         first = h.first;
+        works = next_due false late;
       })
 
   -- also where its list is folded first
@@ -438,6 +456,7 @@ told_at_first node journals empty shows none = ∣ record {
   told = λ job. subst (IsTold (view_of (no_store job))) (sym (none job)) (record { kept = no_store_kept job; replays = refl; due = refl });
   taken = λ job. ap taken_of (none job) ∙ sym (ap (λ (works : WorkLine). taken_by works (numbered job)) empty);
   first = ap (λ (works : WorkLine). taken_come_first works.works) empty;
+  works = λ job. subst GivesDue (sym (none job)) tt;
 } ∣₁
 
 -- ---- a session that enters
@@ -449,6 +468,7 @@ told_entered old new journals same views h = ∥∥₁_map h (λ t. record {
   told = t.told;
   taken = λ job. t.taken job ∙ sym (ap (λ works. taken_by works (numbered job)) same);
   first = ap (λ (works : WorkLine). taken_come_first works.works) same ∙ t.first;
+  works = t.works;
 })
 
 module _ (r : Result ℕ Refusal) (old new : Hosted) (a : Admissions) where

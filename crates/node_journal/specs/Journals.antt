@@ -1,20 +1,25 @@
 -- What a journal tells of its node.
-use Rattle.std.specs.Prelude.{◌≡◌, ◌⊎◌, ℕ, ◌+◌, ◌-◌, ◌==◌, nat_lt, nat_le, Bool, true, false, not, ◌&&◌, if◌then◌else◌, List, [], ◌∷◌, ◌++◌, length, map, filter, count_by, Option, Some, None, is_some, option_map, option_to_list}
+use Rattle.std.specs.Prelude.{◌≡◌, ◌⊎◌, ℕ, ◌+◌, ◌-◌, ◌==◌, nat_lt, nat_le, Bool, true, false, not, ◌&&◌, if◌then◌else◌, List, [], ◌∷◌, ◌++◌, length, map, filter, count_by, slice_get, Option, Some, None, is_some, unwrap_or, option_map, option_to_list}
 use Rattle.std.specs.List.{list_all, list_any}
-use Rattle.std.specs.Option.{option_map_or}
+use Rattle.std.specs.Option.{option_map_or, option_and_then}
 use Rattle.obj_id.specs.declared.ids.JobNo.{JobNo}
 use Rattle.obj_id.specs.declared.messages.Arrival.{Arrival}
 use Rattle.obj_id.specs.declared.messages.Arrival.TheVariants as arrival
 use Rattle.obj_id.specs.declared.messages.PeerMessage.TheVariants as peer
 use Rattle.obj_id.specs.declared.commands.Reply.{Reply}
 use Rattle.obj_id.specs.declared.commands.Reply.TheVariants as reply
+use Rattle.obj_id.specs.declared.works.Work.{Work}
+use Rattle.obj_id.specs.declared.works.WorkKind.TheVariants as kind
 use Rattle.private_store.specs.declared.inputs.Judged.{Judged}
 use Rattle.private_store.specs.declared.inputs.Judged.TheVariants as judged
 use Rattle.private_store.specs.declared.schedules.Event.{Event}
 use Rattle.private_store.specs.declared.schedules.Event.TheVariants as event
 use Rattle.private_store.specs.declared.schedules.NodeEvent.{NodeEvent}
 use Rattle.private_store.specs.declared.schedules.NodeEvent.TheVariants.{Own, Arrive}
+use Rattle.private_store.specs.Tables.{at}
+use Rattle.private_store.specs.Shape.{Copy, WorkInFlight}
 use Rattle.private_store.specs.Contents.{View}
+use Rattle.private_store.specs.Private.{key_of}
 use Rattle.private_store.specs.Hands.{Hand}
 use Rattle.plain_store.specs.Parts.{has_begun}
 use Rattle.job_admission.specs.Admissions.{live_at}
@@ -140,6 +145,47 @@ abbrev pub taken_come_first : List Queued → Bool
 taken_come_first [] = true
 taken_come_first (work ∷ works) = if work.taken then taken_come_first works else list_all (λ other. not other.taken) works
 
+-- ---- which work a Take gives
+
+-- a work of the job with its key and its length, and of a write's bytes their number
+abbrev pub brief_given : ℕ → WorkInFlight → Copy → Work ℕ
+brief_given job w copy =
+    record {
+      job = record { 0 = job };
+      number = w.number;
+      kind = if w.writes then kind.Write else kind.Read;
+      key = key_of job (if w.writes then w.number else unwrap_or copy.backed 0);
+      length = copy.length;
+      payload = if w.writes then Some copy.length else None;
+    }
+
+-- the first of the store's works that isn't taken, if so many are: those that are taken come first
+abbrev pub work_due : Brief → ℕ → Option (Work ℕ)
+work_due brief taken =
+    option_and_then (λ w. option_map (brief_given brief.shape.job w) (at brief.shape.copies w.id)) (slice_get brief.shape.works taken)
+
+-- what a Take is answered when it is the job's turn
+abbrev pub take_due : Brief → ℕ → Reply ℕ
+take_due brief taken = option_map_or reply.Work (work_due brief taken) reply.NoWork
+
+abbrev pub is_take : EventName → Bool
+is_take name.Take = true
+is_take _ = false
+
+-- after this store, with so many of its works taken: a Take's entry is no input, and gives the work that is due; no other gives one
+abbrev pub IsWorkDue : Brief → ℕ → Line → Type 0
+IsWorkDue brief taken (line.Entry entry) =
+    (is_take entry.event ≡ true → (entry.input ≡ None) × (entry.reply ≡ take_due brief taken)) × (is_take entry.event ≡ false → gives_work entry.reply ≡ false)
+IsWorkDue brief taken (line.Note number x) = Unit {0}
+
+-- so is each line, where it stands
+abbrev pub AreWorksDue : Brief → ℕ → List Line → Type 0
+AreWorksDue brief taken [] = Unit {0}
+AreWorksDue brief taken (l ∷ ls) = IsWorkDue brief taken l × AreWorksDue (replayed brief (option_to_list (line_of l))) (taken_after taken l) ls
+
+abbrev pub GivesDue : Journal → Type 0
+GivesDue journal = AreWorksDue journal.base.store journal.base.taken journal.list
+
 -- each line has the answer that the replay gives there
 abbrev pub AreDue : Brief → List Replayed → Type 0
 AreDue brief ls = map (λ (l : Replayed). l.reply) ls ≡ map unlisted (answers_due brief (map (λ (l : Replayed). l.input) ls))
@@ -159,6 +205,8 @@ pub record Tells (node : Hosted) (journals : ℕ → Journal) : Type 0 where
   -- of each job's works, in the order asked, those that were taken are as many as its journal tells, and the first
   pub taken : (job : ℕ) → taken_of (journals job) ≡ taken_by node.works (record { 0 = job })
   pub first : taken_come_first node.works.works ≡ true
+  -- and each Take gave the first of them that wasn't, with its number, kind, key and length
+  pub works : (job : ℕ) → GivesDue (journals job)
 
 -- ---- numbers
 

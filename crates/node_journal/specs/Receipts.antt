@@ -6,10 +6,11 @@ use Rattle.node_journal.specs.declared.entries.Entry.{Entry}
 use Rattle.node_journal.specs.declared.entries.Line.{Line}
 use Rattle.node_journal.specs.declared.entries.Line.TheVariants as line
 use Rattle.node_journal.specs.Replies.{unlisted}
-use Rattle.node_journal.specs.Journals.{Journal, lines_of, same_entry}
+use Rattle.node_journal.specs.Journals.{Journal, is_take, lines_of, same_entry, take_due, taken_from}
 
 -- an entry that compares as equal to this one stands in the journal; and if its event was an input of the job, its answer is that of
--- the job's private store, without contents, after the inputs that the journal tells of up to there
+-- the job's private store, without contents, after the inputs that the journal tells of up to there; if it was a Take, its answer is the
+-- first work of that store which isn't taken, or that there is none
 pub record IsDueIn (journal : Journal) (entry : Entry) : Type 0 where
   pub own : Entry
   pub before : List Line
@@ -17,6 +18,7 @@ pub record IsDueIn (journal : Journal) (entry : Entry) : Type 0 where
   pub stands : journal.list ≡ before ++ line.Entry own ∷ after
   pub same : same_entry entry (line.Entry own) ≡ true
   pub due : (x : Judged) → own.input ≡ Some x → own.reply ≡ unlisted (brief_step (replayed journal.base.store (lines_of before)) x).reply
+  pub given : is_take own.event ≡ true → own.reply ≡ take_due (replayed journal.base.store (lines_of before)) (taken_from journal.base.taken before)
 
 -- what came before the entry, as inputs of its job
 abbrev pub inputs_before : {journal : Journal} {entry : Entry} → IsDueIn journal entry → List Judged

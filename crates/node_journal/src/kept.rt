@@ -49,8 +49,9 @@ const LISTS_SWEPT: usize = 2;
 /// stepped, since nobody else gets the part.
 ///
 /// Whenever it can be seen, the node shows of every job number a view of which the job's journal tells: the replay of its
-/// lines on its base gives that view without its contents, and each entry has the answer that the replay gives there. The
-/// numbers of the lines rise and are above what is covered, and no list is longer than 65,536 lines.
+/// lines on its base gives that view without its contents, and each entry that is an input has the answer that the replay gives
+/// there. A Take's entry gives the first work of its job that isn't taken there. The numbers of the lines rise and are above what is
+/// covered, and no list is longer than 65,536 lines.
 #[derive(Drop)]
 pub struct Kept<L: Ledger> {
     alloc: Global,
