@@ -5,7 +5,7 @@ use crate::calls::admit;
 use assertions::holds;
 use hex::FromHexError;
 use session_engine::{Ended, SessionFault, serve};
-use session_threads::{Cluster, Session, SharedNode};
+use session_threads::{Cluster, NoPause, Session, SharedNode};
 use std::alloc::{AllocError, Global};
 use std::marker::Brand;
 use std::process::Abort;
@@ -77,7 +77,7 @@ fn told_by<L: Ledger, R: Wait + Clock + Abort>(
     requires one { blank.parts ≡ 1 }
 {
     let (_book, seats) = blank.open::<L>();
-    let cluster = Cluster::start(alloc, 1, 1024, seats)?;
+    let cluster = Cluster::start(alloc, 1, 1024, seats, NoPause)?;
     let node = cluster.node(0).expect(rt, "a node");
     admit(rt, node);
     told_at(rt, alloc, node, input)

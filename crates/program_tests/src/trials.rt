@@ -5,7 +5,7 @@ use crate::calls::{call_six, call_with_receipts, leave_often};
 use crate::works::{ask_for_deleted, work_at_a_failing_device};
 use assertions::{holds, same};
 use obj_id::{Refusal, Reply};
-use session_threads::{Cluster, Report};
+use session_threads::{Cluster, NoPause, Report};
 use std::alloc::{AllocError, Global};
 use std::marker::Brand;
 use std::process::Abort;
@@ -86,7 +86,7 @@ fn try_at<L: Ledger, R: Threads + Wait + Clock + Abort>(
     requires count { blank.parts ≡ nodes }
 {
     let (_book, seats) = blank.open::<L>();
-    let cluster = Cluster::start(alloc, nodes, 1024, seats)?;
+    let cluster = Cluster::start(alloc, nodes, 1024, seats, NoPause)?;
     let carried_out = trial.carry_out(rt, alloc, &cluster);
     let report = cluster.close(rt, Vec::new(alloc));
     let as_due = carried_out?;

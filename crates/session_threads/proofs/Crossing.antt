@@ -42,25 +42,27 @@ module _ (L : RattleType) (g : Ghosts L.Denot) where
   kept_send : IsSend (Kept.the_row L g)
   kept_send = declared_send (Kept.the_type L g) (search (sendable, crosses) depth 20, (node_send, (search sendable, (logs_send, (search sendable, (search (share_send, sendable) depth 20, tt))))))
 
-  pub shared_send : IsSend (Shared.the_row L g)
-  shared_send = declared_send (Shared.the_type L g) (search (kept_send, sendable, crosses) depth 20, (ways_send L, (upkeep_send, tt)))
+-- its steps are paused by a value that may cross
+module _ (L : RattleType) (g : Ghosts L.Denot) (P : RattleType) (pause_send : IsSend P) (pause_sync : IsSync P) where
+  pub shared_send : IsSend (Shared.the_row L P g)
+  shared_send = declared_send (Shared.the_type L P g) (search (kept_send L g, sendable, crosses) depth 20, (ways_send L, (upkeep_send P pause_send, tt)))
 
-  pub shared_sync : IsSync (Shared.the_row L g)
-  shared_sync = declared_sync (Shared.the_type L g) (search (kept_send, sendable, crosses) depth 20, (ways_sync L, (upkeep_sync, tt)))
+  pub shared_sync : IsSync (Shared.the_row L P g)
+  shared_sync = declared_sync (Shared.the_type L P g) (search (kept_send L g, sendable, crosses) depth 20, (ways_sync L, (upkeep_sync P pause_sync, tt)))
 
-  node_arc_send : IsSend (Arc.the_row (Shared.the_row L g) Heap.the_row ghosts)
-  node_arc_send = Arc-send (Shared.the_row L g) shared_send shared_sync
+  node_arc_send : IsSend (Arc.the_row (Shared.the_row L P g) Heap.the_row ghosts)
+  node_arc_send = Arc-send (Shared.the_row L P g) shared_send shared_sync
 
   -- what a thread's job captures: the runtime, the allocator, a shared node and a socket
-  pub captures_send : (name : Sym) (R S : RattleType) → IsSend (copied 1 R) → IsSend S → IsSend (TupleAt name (copied 1 R ∷ Heap.the_row ∷ Arc.the_row (Shared.the_row L g) Heap.the_row ghosts ∷ S ∷ []))
+  pub captures_send : (name : Sym) (R S : RattleType) → IsSend (copied 1 R) → IsSend S → IsSend (TupleAt name (copied 1 R ∷ Heap.the_row ∷ Arc.the_row (Shared.the_row L P g) Heap.the_row ghosts ∷ S ∷ []))
   captures_send name R S r s =
-      let node = Arc.the_row (Shared.the_row L g) Heap.the_row ghosts in
+      let node = Arc.the_row (Shared.the_row L P g) Heap.the_row ghosts in
       declared_send (type_at name (copied 1 R ∷ Heap.the_row ∷ node ∷ S ∷ []))
       (as_row_send (row_field (copied 1 R)) r, (as_row_send (row_field Heap.the_row) send, (as_row_send (row_field node) node_arc_send, (as_row_send (row_field S) s, tt))))
 
   -- the same of a worker, which allocates nothing
-  pub worker_send : (name : Sym) (R S : RattleType) → IsSend (copied 1 R) → IsSend S → IsSend (TupleAt name (copied 1 R ∷ Arc.the_row (Shared.the_row L g) Heap.the_row ghosts ∷ S ∷ []))
+  pub worker_send : (name : Sym) (R S : RattleType) → IsSend (copied 1 R) → IsSend S → IsSend (TupleAt name (copied 1 R ∷ Arc.the_row (Shared.the_row L P g) Heap.the_row ghosts ∷ S ∷ []))
   worker_send name R S r s =
-      let node = Arc.the_row (Shared.the_row L g) Heap.the_row ghosts in
+      let node = Arc.the_row (Shared.the_row L P g) Heap.the_row ghosts in
       declared_send (type_at name (copied 1 R ∷ node ∷ S ∷ []))
       (as_row_send (row_field (copied 1 R)) r, (as_row_send (row_field node) node_arc_send, (as_row_send (row_field S) s, tt)))

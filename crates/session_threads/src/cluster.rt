@@ -2,6 +2,7 @@
 ghost use Rattle.std.specs.Prelude.{◌≡◌, ◌↔◌, ◌≤◌, ◌<◌, vec_len, IfOk, IsSome};
 ghost use Rattle.job_admission.specs.Admissions.{largest_memory};
 
+use crate::pausing::{NoPause, Pause};
 use crate::posting::{Inbox, Ways, receive};
 use crate::tally::Tally;
 use crate::waiting::Waiting;
@@ -56,8 +57,8 @@ const RECEIVERS: usize = 4;
 
 /// The nodes of a process, by number, with one directory and a way from each node to each other one.
 #[derive(Drop)]
-pub struct Cluster<L: Ledger> {
-    nodes: Vec<Arc<SharedNode<L>>>,
+pub struct Cluster<L: Ledger, P = NoPause> {
+    nodes: Vec<Arc<SharedNode<L, P>>>,
     waiting: Arc<Waiting>,
     // by node, while nobody receives from them
     inboxes: Vec<Inbox<L>>,
@@ -65,15 +66,16 @@ pub struct Cluster<L: Ledger> {
     alloc: Global,
 }
 
-impl<L: Ledger> Cluster<L> {
+impl<L: Ledger, P: Pause> Cluster<L, P> {
     /// So many nodes, each with so many bytes of memory, on all parts of the name: one for each node. What they send one another
-    /// is received once they are connected.
+    /// is received once they are connected. Clones of `pause` pause their steps: a program passes `NoPause`.
     pub fn start(
         alloc: Global,
         nodes: u32,
         memory: u64,
         seats: Share<L>,
-    ) -> Result<Cluster<L>, AllocError>
+        pause: P,
+    ) -> Result<Cluster<L, P>, AllocError>
         requires memory { memory ≤ largest_memory }
         requires seats { (seats.parts ≡ nodes) × (seats.amount ≡ 0) }
         requires all { L.parts ≡ nodes }
@@ -91,7 +93,8 @@ impl<L: Ledger> Cluster<L> {
             let seat = seats.split_off(1, 0);
             let ways = Ways::open(alloc, number, &directory, &mut inboxes)?;
             let woken = Arc::try_clone(&waiting)?;
-            let node = SharedNode::new(alloc, number, memory, seat, ways, woken);
+            let paused = pause.clone()?;
+            let node = SharedNode::new(alloc, number, memory, seat, ways, woken, paused);
             all.push(Arc::new(alloc, node)?)?;
         }
         Ok(Cluster {
@@ -107,6 +110,7 @@ impl<L: Ledger> Cluster<L> {
     pub fn connect<R: Threads + Wait + Copy + Send + 'static>(&mut self, rt: R) -> io::Result<()>
     where
         L: Send + Sync + 'static,
+        P: Send + Sync + 'static,
     {
         let inboxes = mem::replace(&mut self.inboxes, Vec::new(self.alloc));
         if inboxes.len() < 2 {
@@ -127,6 +131,7 @@ impl<L: Ledger> Cluster<L> {
     ) -> io::Result<()>
     where
         L: Send + Sync + 'static,
+        P: Send + Sync + 'static,
     {
         let inbox = Arc::new(self.alloc, inbox)?;
         let Some(node) = self.nodes.get(number) else {
@@ -168,7 +173,7 @@ impl<L: Ledger> Cluster<L> {
     }
 
     /// The node of this number, if there is one.
-    pub fn node(&self, number: u32) -> Option<&Arc<SharedNode<L>>>
+    pub fn node(&self, number: u32) -> Option<&Arc<SharedNode<L, P>>>
         ensures { IsSome result ↔ (number < vec_len self.now.nodes) }
     {
         self.nodes.get(number as usize)
@@ -181,7 +186,7 @@ impl<L: Ledger> Cluster<L> {
 
     /// Shuts all nodes, and waits for the open sessions, then for the links, and then for these workers: so what a session sent last
     /// still arrives, and what an arrival leaves to be erased still is. At last it says what was counted.
-    pub fn close<R: Threads + Wait>(self, rt: &R, workers: Vec<Working<L>>) -> Report {
+    pub fn close<R: Threads + Wait>(self, rt: &R, workers: Vec<Working<L, P>>) -> Report {
         let mut cluster = self;
         cluster.shut(rt);
         for node in &cluster.nodes {

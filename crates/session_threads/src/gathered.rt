@@ -6,6 +6,7 @@ ghost use Rattle.session_threads.specs.Gathering.{is_no, in_order};
 ghost use Rattle.session_threads.specs.declared.gathered.TheConstants.{MOST_RECEIPTS};
 
 use crate::SharedNode;
+use crate::pausing::Pause;
 use crate::tally::Tallies;
 use node_journal::{Agreement, Kept, Receipt};
 use std::alloc::{AllocError, Global};
@@ -38,10 +39,10 @@ impl<L: Ledger> Gathered<L> {
 
     /// Makes room for the receipt of a step, before the step. If 128 are there, all but the last are looked for under one lock
     /// of the node, and forgotten. The error is out of memory, and then nothing has changed.
-    pub(crate) fn make_room<R: Wait>(
+    pub(crate) fn make_room<R: Wait, P: Pause>(
         &mut self,
         rt: &R,
-        node: &SharedNode<L>,
+        node: &SharedNode<L, P>,
     ) -> Result<(), AllocError>
         ensures last { self.new.last ≡ self.old.last }
         ensures earlier { self.new.earlier.items ≡ (if vec_len self.old.earlier + 1 == MOST_RECEIPTS then [] else self.old.earlier.items) }
@@ -74,7 +75,7 @@ impl<L: Ledger> Gathered<L> {
     }
 
     /// Looks for all that are there, under one lock of the node: what its actor does at its end.
-    pub(crate) fn look_for_all<R: Wait>(&self, rt: &R, node: &SharedNode<L>) {
+    pub(crate) fn look_for_all<R: Wait, P: Pause>(&self, rt: &R, node: &SharedNode<L, P>) {
         let kept = node.kept.lock(rt);
         look_for(rt, &*kept, &node.upkeep.tallies, &self.earlier);
         look_for(rt, &*kept, &node.upkeep.tallies, self.last.as_slice());

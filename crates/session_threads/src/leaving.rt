@@ -4,13 +4,14 @@ ghost use Rattle.session_threads.specs.Witnesses.{IsLast};
 
 use crate::SharedNode;
 use crate::open_sessions::MOST_SESSIONS;
+use crate::pausing::Pause;
 use crate::stepping::step_mark;
 use node_journal::{Mail, Receipt};
 use obj_id::{Command, JobNo};
 use std::sync::Wait;
 use std::sync::ledger::Ledger;
 
-impl<L: Ledger> SharedNode<L> {
+impl<L: Ledger, P: Pause> SharedNode<L, P> {
     /// Leaves a session, with the receipt of the entry. If there is no memory for that, the session is marked.
     pub(crate) fn leave<R: Wait>(&self, rt: &R, job: JobNo, session: u32) -> Option<Receipt<L>>
         ensures { IfSome result (λ r. IsLast job session (record { job = r.job; entry = r.entry })) }

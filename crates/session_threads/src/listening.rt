@@ -1,4 +1,5 @@
 //! Listeners, and the sessions of the streams that they accept.
+use crate::pausing::Pause;
 use crate::{Session, SharedNode};
 use session_engine::serve;
 use std::alloc::{AllocError, Global};
@@ -42,10 +43,14 @@ impl Listening {
 ///
 /// A stream that can't be accepted, that comes while 1,024 sessions of the node are open or fewer than 16 descriptors are left, or for
 /// which there is no memory or no thread, is closed without an answer, and the others are served.
-pub fn listen<L: Ledger + Send + Sync + 'static, R: Threads + Wait + Clock + Copy + Send + 'static>(
+pub fn listen<
+    L: Ledger + Send + Sync + 'static,
+    P: Pause + Send + Sync + 'static,
+    R: Threads + Wait + Clock + Copy + Send + 'static,
+>(
     rt: R,
     alloc: Global,
-    node: Arc<SharedNode<L>>,
+    node: Arc<SharedNode<L, P>>,
     listener: UnixListener,
 ) -> io::Result<Listening> {
     let socket = UnixStream::from(OwnedFd::from(listener.try_clone()?));
@@ -55,12 +60,11 @@ pub fn listen<L: Ledger + Send + Sync + 'static, R: Threads + Wait + Clock + Cop
 }
 
 /// Accepts streams until the node is shut and the listener's socket with it.
-fn accept_all<L: Ledger + Send + Sync + 'static, R: Threads + Wait + Clock + Copy + Send + 'static>(
-    rt: R,
-    alloc: Global,
-    node: &Arc<SharedNode<L>>,
-    listener: &UnixListener,
-) {
+fn accept_all<
+    L: Ledger + Send + Sync + 'static,
+    P: Pause + Send + Sync + 'static,
+    R: Threads + Wait + Clock + Copy + Send + 'static,
+>(rt: R, alloc: Global, node: &Arc<SharedNode<L, P>>, listener: &UnixListener) {
     for stream in listener.incoming() {
         if node.upkeep.waiting.is_shut() {
             return;
@@ -77,8 +81,14 @@ fn accept_all<L: Ledger + Send + Sync + 'static, R: Threads + Wait + Clock + Cop
 /// Serves a stream in a thread of its own.
 fn start_session<
     L: Ledger + Send + Sync + 'static,
+    P: Pause + Send + Sync + 'static,
     R: Threads + Wait + Clock + Copy + Send + 'static,
->(rt: R, alloc: Global, node: &Arc<SharedNode<L>>, stream: UnixStream) -> Result<(), AllocError> {
+>(
+    rt: R,
+    alloc: Global,
+    node: &Arc<SharedNode<L, P>>,
+    stream: UnixStream,
+) -> Result<(), AllocError> {
     let theirs = Arc::try_clone(node)?;
     if !has_spare(alloc, &stream) || !node.upkeep.sessions.begin(&rt) {
         return Ok(());
@@ -107,10 +117,10 @@ fn has_spare(alloc: Global, stream: &UnixStream) -> bool {
 }
 
 /// Serves a session over the stream, to its end.
-fn serve_stream<L: Ledger, R: Wait + Clock>(
+fn serve_stream<L: Ledger, P: Pause, R: Wait + Clock>(
     rt: &R,
     alloc: Global,
-    node: &SharedNode<L>,
+    node: &SharedNode<L, P>,
     stream: UnixStream,
 ) {
     // without memory for its place among the open ones it is closed
@@ -122,10 +132,10 @@ fn serve_stream<L: Ledger, R: Wait + Clock>(
 }
 
 /// The same of a stream that has its place among the open ones.
-fn serve_open<L: Ledger, R: Wait + Clock>(
+fn serve_open<L: Ledger, P: Pause, R: Wait + Clock>(
     rt: &R,
     alloc: Global,
-    node: &SharedNode<L>,
+    node: &SharedNode<L, P>,
     stream: &UnixStream,
 ) {
     let mut session = Session::of_stream(rt, node, stream);

@@ -5,6 +5,7 @@ ghost use Rattle.session_threads.specs.Looking.{AreLive, IsUsage, is_live};
 ghost use Rattle.session_threads.specs.declared.looking.LiveJob.{LiveJob};
 
 use crate::SharedNode;
+use crate::pausing::Pause;
 use node_core::Node;
 use node_journal::Kept;
 use obj_id::{JobNo, Refusal, Usage};
@@ -20,7 +21,7 @@ pub struct LiveJob {
     pub usage: Usage,
 }
 
-impl<L: Ledger> SharedNode<L> {
+impl<L: Ledger, P: Pause> SharedNode<L, P> {
     /// A job's quotas and what is used of them. `NotAdmitted` if the job isn't live. Takes no memory.
     pub fn usage<R: Wait>(&self, rt: &R, job: JobNo) -> Result<Usage, Refusal>
         ensures { IfErr result (λ refusal. refusal ≡ NotAdmitted) }

@@ -1,6 +1,7 @@
 //! The ways out of a node: what a step sends is handed over once the node's lock is left.
 use crate::SharedNode;
 use crate::gathered::Gathered;
+use crate::pausing::Pause;
 use crate::turns::{LANES, Turn, Turns, lane_of};
 use fetch_link::{LinkReceiver, LinkSender, Sent, open};
 use node_journal::{Mail, Posted};
@@ -177,7 +178,7 @@ enum Handed<L: Ledger> {
     Answered(Posted<L>),
 }
 
-impl<L: Ledger> SharedNode<L> {
+impl<L: Ledger, P: Pause> SharedNode<L, P> {
     /// Hands over what a step has sent, in order, and counts what is lost: whether a Pull was among it.
     pub(crate) fn post<R: Wait>(&self, rt: &R, mail: Mail<L>) -> bool {
         let mut is_pulling = false;
@@ -216,18 +217,18 @@ impl<L: Ledger> SharedNode<L> {
 }
 
 /// Hands the messages that come to the node in, in a thread of its own, until no node sends any more.
-pub(crate) fn receive<L: Ledger + Send + Sync + 'static, R: Threads + Wait + Copy + Send + 'static>(
-    rt: R,
-    node: Arc<SharedNode<L>>,
-    inbox: Arc<Inbox<L>>,
-) -> io::Result<JoinHandle<()>> {
+pub(crate) fn receive<
+    L: Ledger + Send + Sync + 'static,
+    P: Pause + Send + Sync + 'static,
+    R: Threads + Wait + Copy + Send + 'static,
+>(rt: R, node: Arc<SharedNode<L, P>>, inbox: Arc<Inbox<L>>) -> io::Result<JoinHandle<()>> {
     let job = move || receive_all(&rt, &*node, &*inbox);
     let thread = thread::spawn(&rt, job)?;
     Ok(thread)
 }
 
 /// Hands the messages in whose turn it is, until no node sends any more.
-fn receive_all<L: Ledger, R: Wait>(rt: &R, node: &SharedNode<L>, inbox: &Inbox<L>) {
+fn receive_all<L: Ledger, P: Pause, R: Wait>(rt: &R, node: &SharedNode<L, P>, inbox: &Inbox<L>) {
     let mut gathered = Gathered::new(node.upkeep.alloc);
     for _ in rt.forever() {
         let Some(turn) = inbox.turns.next(rt) else {

@@ -3,6 +3,7 @@
 ghost use Rattle.std.specs.Prelude.{◌≡◌};
 
 use crate::SharedNode;
+use crate::pausing::Pause;
 use bytes::Bytes;
 use hashed_bytes::Hashed;
 use job_region::Zeros;
@@ -25,7 +26,7 @@ struct Chunk<'a> {
     bytes: &'a Bytes,
 }
 
-impl<L: Ledger> SharedNode<L> {
+impl<L: Ledger, P: Pause> SharedNode<L, P> {
     /// What a Seal wants: the digest of the copy's bytes. The copy has it once its bytes were compared with those that were hashed, a
     /// part at a time, between which others may lock the node.
     pub(crate) fn prepare_seal<R: Wait>(&self, rt: &R, job: JobNo, id: &ObjectId) {

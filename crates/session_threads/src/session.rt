@@ -3,6 +3,7 @@
 use crate::SharedNode;
 use crate::frames::framed;
 use crate::gathered::Gathered;
+use crate::pausing::{NoPause, Pause};
 use bytes::Bytes;
 use node_journal::Entered;
 use obj_id::{Command, JobKey, JobNo, Refusal, Reply};
@@ -15,9 +16,9 @@ use std::time::Clock;
 
 /// A session at a node, with the receipts of its steps that weren't looked for yet.
 #[derive(Drop)]
-pub struct Session<'a, L: Ledger, R: Wait + Clock> {
+pub struct Session<'a, L: Ledger, R: Wait + Clock, P = NoPause> {
     rt: &'a R,
-    node: &'a SharedNode<L>,
+    node: &'a SharedNode<L, P>,
     gathered: Gathered<L>,
     // the session that the node let in last
     entered: Option<Entered<L>>,
@@ -25,9 +26,9 @@ pub struct Session<'a, L: Ledger, R: Wait + Clock> {
     client: Option<&'a UnixStream>,
 }
 
-impl<'a, L: Ledger, R: Wait + Clock> Session<'a, L, R> {
+impl<'a, L: Ledger, R: Wait + Clock, P: Pause> Session<'a, L, R, P> {
     /// A session that has made no step.
-    pub fn new(rt: &'a R, node: &'a SharedNode<L>) -> Session<'a, L, R> {
+    pub fn new(rt: &'a R, node: &'a SharedNode<L, P>) -> Session<'a, L, R, P> {
         Session {
             rt,
             node,
@@ -40,9 +41,9 @@ impl<'a, L: Ledger, R: Wait + Clock> Session<'a, L, R> {
     /// The same of a client's stream: its calls wait no longer than its other end is open.
     pub(crate) fn of_stream(
         rt: &'a R,
-        node: &'a SharedNode<L>,
+        node: &'a SharedNode<L, P>,
         client: &'a UnixStream,
-    ) -> Session<'a, L, R> {
+    ) -> Session<'a, L, R, P> {
         Session {
             rt,
             node,
@@ -60,7 +61,7 @@ impl<'a, L: Ledger, R: Wait + Clock> Session<'a, L, R> {
 
 /// Who enters has the number that the node gave to this job and key. After each answer the last receipt is of this job, session, command and reply, or the reply is `NoMemory`. After the session was
 /// left, the last receipt is of its Leave, or the same as before.
-impl<'a, L: Ledger, R: Wait + Clock> Gate for Session<'a, L, R> {
+impl<'a, L: Ledger, R: Wait + Clock, P: Pause> Gate for Session<'a, L, R, P> {
     ghost use Rattle.std.specs.Prelude.{option_map};
     ghost use Rattle.session_threads.specs.Witnesses.{IsWitnessed, IsLetIn};
 

@@ -14,6 +14,7 @@ ghost use Rattle.session_threads.specs.Witnesses.{IsCalled, IsArrived, IsOf, tri
 
 use crate::client::is_gone;
 use crate::gathered::{Gathered, look_for};
+use crate::pausing::{NoPause, Pause};
 use crate::posting::Ways;
 use crate::preparing::{may_remove, prepare_finish, spent_by};
 use crate::stepping::{
@@ -40,20 +41,21 @@ use std::time::Clock;
 // The lock of the node is taken first, but for a maker's place, and under it at most one of the others, which are let go at once. No
 // device is called under any.
 #[derive(Drop)]
-pub struct SharedNode<L: Ledger> {
+pub struct SharedNode<L: Ledger, P = NoPause> {
     pub(crate) kept: Mutex<Kept<L>>,
     pub(crate) ways: Ways<L>,
-    pub(crate) upkeep: Upkeep,
+    pub(crate) upkeep: Upkeep<P>,
 }
 
-impl<L: Ledger> Keeper<L> for SharedNode<L> {
+impl<L: Ledger, P: Pause> Keeper<L> for SharedNode<L, P> {
     fn kept(&self, _access: Access) -> &Mutex<Kept<L>> {
         &self.kept
     }
 }
 
-impl<L: Ledger> SharedNode<L> {
-    /// A node of this number, with so many bytes of memory and no job, on one part of the name, with these ways out.
+impl<L: Ledger, P: Pause> SharedNode<L, P> {
+    /// A node of this number, with so many bytes of memory and no job, on one part of the name, with these ways out. This pauses
+    /// its steps.
     pub(crate) fn new(
         alloc: Global,
         number: u32,
@@ -61,14 +63,15 @@ impl<L: Ledger> SharedNode<L> {
         seat: Share<L>,
         ways: Ways<L>,
         waiting: Arc<Waiting>,
-    ) -> SharedNode<L>
+        pause: P,
+    ) -> SharedNode<L, P>
         requires memory { memory ≤ largest_memory }
         requires seat { (seat.parts ≡ 1) × (seat.amount ≡ 0) }
     {
         SharedNode {
             kept: Mutex::new(Kept::new(alloc, number, memory, seat)),
             ways,
-            upkeep: Upkeep::new(alloc, waiting),
+            upkeep: Upkeep::new(alloc, waiting, pause),
         }
     }
 

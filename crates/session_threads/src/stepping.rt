@@ -15,6 +15,7 @@ ghost use Rattle.session_threads.specs.Stepping.{seen, IsUntouched, IsOneStep, I
 ghost use Rattle.session_threads.specs.Witnesses.{IsCalled, IsOf, witness_of};
 
 use crate::gathered::look_for;
+use crate::pausing::Pause;
 use crate::upkeep::Upkeep;
 use crate::waiting::stirred_by;
 use bytes::Bytes;
@@ -34,10 +35,10 @@ pub(crate) struct Stepped<L: Ledger> {
 }
 
 /// A session's command. The error is out of memory.
-pub(crate) fn step_call<L: Ledger, R: Wait>(
+pub(crate) fn step_call<L: Ledger, R: Wait, P: Pause>(
     rt: &R,
     kept: &mut Kept<L>,
-    upkeep: &Upkeep,
+    upkeep: &Upkeep<P>,
     job: JobNo,
     session: u32,
     command: Command<Bytes>,
@@ -51,6 +52,7 @@ pub(crate) fn step_call<L: Ledger, R: Wait>(
     ensures memory { IfErr result (λ r. r ≡ NoMemory) }
 {
     let event = Event::Call(job, session, command);
+    upkeep.pause.before_step(kept.number(), &event);
     match kept.step(&event) {
         Ok(made) => Ok(settled(rt, kept, upkeep, made)),
         Err(_) => Err(Refusal::NoMemory),
@@ -58,10 +60,10 @@ pub(crate) fn step_call<L: Ledger, R: Wait>(
 }
 
 /// The same, if the journal doesn't say No of the receipt: otherwise the error is `Stale`.
-pub(crate) fn step_call_after<L: Ledger, R: Wait>(
+pub(crate) fn step_call_after<L: Ledger, R: Wait, P: Pause>(
     rt: &R,
     kept: &mut Kept<L>,
-    upkeep: &Upkeep,
+    upkeep: &Upkeep<P>,
     receipt: &Receipt<L>,
     job: JobNo,
     session: u32,
@@ -77,6 +79,7 @@ pub(crate) fn step_call_after<L: Ledger, R: Wait>(
     ensures refusal { IfErr result (λ r. (r ≡ NoMemory) ⊎ (r ≡ Stale)) }
 {
     let event = Event::Call(job, session, command);
+    upkeep.pause.before_step(kept.number(), &event);
     match kept.step_after(receipt, &event) {
         Ok(made) => Ok(settled(rt, kept, upkeep, made)),
         Err(Refusal::Stale) => Err(Refusal::Stale),
@@ -85,10 +88,10 @@ pub(crate) fn step_call_after<L: Ledger, R: Wait>(
 }
 
 /// An event of the operator's or of a worker. The error is out of memory.
-pub(crate) fn step_event<L: Ledger, R: Wait>(
+pub(crate) fn step_event<L: Ledger, R: Wait, P: Pause>(
     rt: &R,
     kept: &mut Kept<L>,
-    upkeep: &Upkeep,
+    upkeep: &Upkeep<P>,
     event: &Event,
 ) -> Result<Stepped<L>, Refusal>
     ensures stepped { IfOk result (λ s. IsOf event.now s.reply (witness_of s.receipt)) }
@@ -98,6 +101,7 @@ pub(crate) fn step_event<L: Ledger, R: Wait>(
     ensures number { kept.new.number ≡ kept.old.number }
     ensures memory { IfErr result (λ r. r ≡ NoMemory) }
 {
+    upkeep.pause.before_step(kept.number(), event);
     match kept.step(event) {
         Ok(made) => Ok(settled(rt, kept, upkeep, made)),
         Err(_) => Err(Refusal::NoMemory),
@@ -105,10 +109,10 @@ pub(crate) fn step_event<L: Ledger, R: Wait>(
 }
 
 /// An event of the operator's, whose entry is looked for. The error is out of memory.
-pub(crate) fn step_order<L: Ledger, R: Wait>(
+pub(crate) fn step_order<L: Ledger, R: Wait, P: Pause>(
     rt: &R,
     kept: &mut Kept<L>,
-    upkeep: &Upkeep,
+    upkeep: &Upkeep<P>,
     event: &Event,
 ) -> Result<Stepped<L>, Refusal>
     ensures stepped { IfOk result (λ s. IsOf event.now s.reply (witness_of s.receipt)) }
@@ -124,10 +128,10 @@ pub(crate) fn step_order<L: Ledger, R: Wait>(
 }
 
 /// The end of a job. If it isn't refused, the job's journal is folded at once. The error is out of memory.
-pub(crate) fn step_end<L: Ledger, R: Wait>(
+pub(crate) fn step_end<L: Ledger, R: Wait, P: Pause>(
     rt: &R,
     kept: &mut Kept<L>,
-    upkeep: &Upkeep,
+    upkeep: &Upkeep<P>,
     job: JobNo,
 ) -> Result<Stepped<L>, Refusal>
     ensures stepped { IfOk result (λ s. IsOf (event.JobEnd job) s.reply (witness_of s.receipt)) }
@@ -154,10 +158,10 @@ fn fold_ended<L: Ledger>(kept: &mut Kept<L>, job: JobNo, reply: &Reply<Bytes>)
 }
 
 /// A Take, if a work waits that nobody has taken. The error is out of memory.
-pub(crate) fn step_take<L: Ledger, R: Wait>(
+pub(crate) fn step_take<L: Ledger, R: Wait, P: Pause>(
     rt: &R,
     kept: &mut Kept<L>,
-    upkeep: &Upkeep,
+    upkeep: &Upkeep<P>,
 ) -> Option<Result<Stepped<L>, Refusal>>
     ensures stepped { IfSome result (λ r. IfOk r (λ s. IsOf event.Take s.reply (witness_of s.receipt))) }
     ensures memory { IfSome result (λ r. IfErr r (λ refusal. refusal ≡ NoMemory)) }
@@ -175,10 +179,10 @@ pub(crate) fn step_take<L: Ledger, R: Wait>(
 
 /// Leaves the session that was marked first, and looks for the entry of that: what it sends. None if no session is marked, or there
 /// is no memory for it.
-pub(crate) fn step_mark<L: Ledger, R: Wait>(
+pub(crate) fn step_mark<L: Ledger, R: Wait, P: Pause>(
     rt: &R,
     kept: &mut Kept<L>,
-    upkeep: &Upkeep,
+    upkeep: &Upkeep<P>,
 ) -> Option<Mail<L>>
     ensures once { IfSome result (λ mail. IsOneLeave (posts_left mail) (seen kept.old.node kept.old.count kept.old.logs) (seen kept.new.node kept.new.count kept.new.logs)) }
     ensures same { IfNone result (IsUntouched (seen kept.old.node kept.old.count kept.old.logs) (seen kept.new.node kept.new.count kept.new.logs)) }
@@ -198,10 +202,10 @@ pub(crate) fn step_mark<L: Ledger, R: Wait>(
 
 /// A message that was posted to the node arrives. `Stale` if it was posted to another place or isn't made for a node, and
 /// `NoMemory`: then it is lost.
-pub(crate) fn step_arrival<L: Ledger, R: Wait>(
+pub(crate) fn step_arrival<L: Ledger, R: Wait, P: Pause>(
     rt: &R,
     kept: &mut Kept<L>,
-    upkeep: &Upkeep,
+    upkeep: &Upkeep<P>,
     posted: Posted<L>,
 ) -> Result<Stepped<L>, Refusal>
     ensures once { IfOk result (λ s. (a : Arrival) → arrival_of posted.from posted.message ≡ Some a → IsOneArrival posted.job a s.reply (posts_left s.mail) (witness_of s.receipt) (seen kept.old.node kept.old.count kept.old.logs) (seen kept.new.node kept.new.count kept.new.logs)) }
@@ -220,10 +224,10 @@ pub(crate) fn step_arrival<L: Ledger, R: Wait>(
 }
 
 /// What the directory answered arrives, and its entry is looked for: whether it isn't lost.
-pub(crate) fn step_located<L: Ledger, R: Wait>(
+pub(crate) fn step_located<L: Ledger, R: Wait, P: Pause>(
     rt: &R,
     kept: &mut Kept<L>,
-    upkeep: &Upkeep,
+    upkeep: &Upkeep<P>,
     located: Posted<L>,
 ) -> bool
     ensures once { result ≡ true → (a : Arrival) → arrival_of located.from located.message ≡ Some a → HasArrived located.job a (seen kept.old.node kept.old.count kept.old.logs) (seen kept.new.node kept.new.count kept.new.logs) }
@@ -240,7 +244,12 @@ pub(crate) fn step_located<L: Ledger, R: Wait>(
 }
 
 /// Settles a step that was made, and gives the rest of it.
-fn settled<L: Ledger, R: Wait>(rt: &R, kept: &Kept<L>, upkeep: &Upkeep, made: Made<L>) -> Stepped<L>
+fn settled<L: Ledger, R: Wait, P: Pause>(
+    rt: &R,
+    kept: &Kept<L>,
+    upkeep: &Upkeep<P>,
+    made: Made<L>,
+) -> Stepped<L>
     ensures reply { result.reply ≡ made.outcome.reply }
     ensures mail { posts_left result.mail ≡ made.outcome.messages }
     ensures receipt { result.receipt ≡ made.receipt }

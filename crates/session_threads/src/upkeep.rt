@@ -8,6 +8,7 @@ use crate::device_calls::{Finishing, erase_all};
 use crate::makers::Makers;
 use crate::open_sessions::OpenSessions;
 use crate::open_streams::OpenStreams;
+use crate::pausing::Pause;
 use crate::tally::{Tallies, Tally};
 use crate::waiting::{Stir, Waiting};
 use crate::waiting_keys::WaitingKeys;
@@ -22,11 +23,11 @@ use std::alloc::Global;
 use std::slice;
 use std::sync::{Arc, Wait};
 
-/// The counts of a node, its sessions, the keys that wait, and whom its steps wake.
+/// The counts of a node, its sessions, the keys that wait, whom its steps wake, and what pauses them.
 //
 // Each has a lock of its own, under which no other is taken.
 #[derive(Drop)]
-pub(crate) struct Upkeep {
+pub(crate) struct Upkeep<P> {
     // of what its actors gather
     pub alloc: Global,
     pub tallies: Tallies,
@@ -37,11 +38,12 @@ pub(crate) struct Upkeep {
     pub bell: WorkerBell,
     pub makers: Makers,
     pub waiting: Arc<Waiting>,
+    pub pause: P,
 }
 
-impl Upkeep {
+impl<P: Pause> Upkeep<P> {
     /// Of a node that has made no step.
-    pub(crate) fn new(alloc: Global, waiting: Arc<Waiting>) -> Upkeep {
+    pub(crate) fn new(alloc: Global, waiting: Arc<Waiting>, pause: P) -> Upkeep<P> {
         Upkeep {
             alloc,
             tallies: Tallies::new(),
@@ -52,6 +54,7 @@ impl Upkeep {
             bell: WorkerBell::new(),
             makers: Makers::new(),
             waiting,
+            pause,
         }
     }
 

@@ -7,6 +7,7 @@ ghost use Rattle.session_threads.specs.Gathering.{in_order};
 use crate::SharedNode;
 use crate::device_calls::{Finishing, call_device};
 use crate::gathered::Gathered;
+use crate::pausing::{NoPause, Pause};
 use crate::work_place::Place;
 use crate::worker_bell::WorkerBell;
 use obj_id::{Refusal, Reply};
@@ -35,12 +36,12 @@ pub enum WorkDone {
 
 /// A worker of a node in a thread.
 #[derive(Drop)]
-pub struct Working<L: Ledger> {
-    node: Arc<SharedNode<L>>,
+pub struct Working<L: Ledger, P = NoPause> {
+    node: Arc<SharedNode<L, P>>,
     thread: JoinHandle<()>,
 }
 
-impl<L: Ledger> Working<L> {
+impl<L: Ledger, P: Pause> Working<L, P> {
     /// Waits for the worker, which erases the keys that wait. Works that nobody has taken by then are left.
     pub(crate) fn end<R: Threads + Wait>(self, rt: &R) {
         let Working { node, thread } = self;
@@ -52,9 +53,10 @@ impl<L: Ledger> Working<L> {
 /// Lets a worker carry out the works of the node on the device, in a thread of its own, until it is ended.
 pub fn work<
     L: Ledger + Send + Sync + 'static,
+    P: Pause + Send + Sync + 'static,
     R: Threads + Wait + Clock + Copy + Send + 'static,
     D: SpillDevice + Drop + Send + 'static,
->(rt: R, node: Arc<SharedNode<L>>, device: D) -> io::Result<Working<L>> {
+>(rt: R, node: Arc<SharedNode<L, P>>, device: D) -> io::Result<Working<L, P>> {
     let theirs = Arc::try_clone(&node)?;
     let job = move || work_all(&rt, &*theirs, device);
     let thread = thread::spawn(&rt, job)?;
@@ -62,9 +64,9 @@ pub fn work<
 }
 
 /// Carries out the works of the node until the worker is to end, and erases the keys that are left.
-fn work_all<L: Ledger, R: Wait + Clock, D: SpillDevice + Drop>(
+fn work_all<L: Ledger, P: Pause, R: Wait + Clock, D: SpillDevice + Drop>(
     rt: &R,
-    node: &SharedNode<L>,
+    node: &SharedNode<L, P>,
     device: D,
 ) {
     let mut device = device;
@@ -90,7 +92,7 @@ fn go_on<R: Wait + Clock>(rt: &R, bell: &WorkerBell, done: WorkDone) {
     }
 }
 
-impl<L: Ledger> SharedNode<L> {
+impl<L: Ledger, P: Pause> SharedNode<L, P> {
     /// One round of a worker: sessions that are marked are left, and keys that wait are erased; then a work is taken, the device
     /// called for it, and its answer handed in. An answer that found no memory when it was handed in is the work of the next round,
     /// without a second call.

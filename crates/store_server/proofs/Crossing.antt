@@ -12,22 +12,30 @@ use Rattle.std.specs.contracts.impls.GlobalAllocator.TheImpl.{ghosts}
 use Rattle.std.specs.contracts.sync.Arc as Arc
 use Rattle.std.specs.declared.sync.ledger.Ledger.{Ghosts}
 use Rattle.std.proofs.Crossing.{crosses, send, Arc-send, Arc-sync, Vec-send, Vec-sync}
+use Rattle.session_threads.specs.contracts.pausing.NoPause as NoPause
 use Rattle.session_threads.specs.contracts.shared.SharedNode as Shared
 use Rattle.session_threads.proofs.Crossing.{shared_send, shared_sync}
+use Rattle.session_threads.proofs.pausing.NoPause.TheSendSync.{the_send as pause_send, the_sync as pause_sync}
 use Rattle.store_server.specs.contracts.control.Control as Control
 
 module _ (L : RattleType) (g : Ghosts L.Denot) where
+  node_send : IsSend (Shared.the_row L NoPause.the_row g)
+  node_send = shared_send L g NoPause.the_row pause_send pause_sync
+
+  node_sync : IsSync (Shared.the_row L NoPause.the_row g)
+  node_sync = shared_sync L g NoPause.the_row pause_send pause_sync
+
   control_send : IsSend (Control.the_row L g)
   control_send =
-      let one = Arc.the_row (Shared.the_row L g) Heap.the_row ghosts in
+      let one = Arc.the_row (Shared.the_row L NoPause.the_row g) Heap.the_row ghosts in
       declared_send (Control.the_type L g)
-      (Vec-send one (Arc-send (Shared.the_row L g) (shared_send L g) (shared_sync L g)), (search sendable, (search (sendable, crosses) depth 20, (search (sendable, crosses) depth 20, tt))))
+      (Vec-send one (Arc-send (Shared.the_row L NoPause.the_row g) node_send node_sync), (search sendable, (search (sendable, crosses) depth 20, (search (sendable, crosses) depth 20, tt))))
 
   control_sync : IsSync (Control.the_row L g)
   control_sync =
-      let one = Arc.the_row (Shared.the_row L g) Heap.the_row ghosts in
+      let one = Arc.the_row (Shared.the_row L NoPause.the_row g) Heap.the_row ghosts in
       declared_sync (Control.the_type L g)
-      (Vec-sync one (Arc-sync (Shared.the_row L g) (shared_send L g) (shared_sync L g)), (search sendable, (search (sendable, crosses) depth 20, (search (sendable, crosses) depth 20, tt))))
+      (Vec-sync one (Arc-sync (Shared.the_row L NoPause.the_row g) node_send node_sync), (search sendable, (search (sendable, crosses) depth 20, (search (sendable, crosses) depth 20, tt))))
 
   pub control_arc_send : IsSend (Arc.the_row (Control.the_row L g) Heap.the_row ghosts)
   control_arc_send = Arc-send (Control.the_row L g) control_send control_sync

@@ -8,7 +8,7 @@ use crate::patient::Patient;
 use crate::serve_fault::{ServeFault, Told};
 use crate::sockets::{SocketFile, bind};
 use crate::telling::{Telling, TellingDevice};
-use session_threads::{Cluster, Listening, Report, SharedNode, Working, listen, work};
+use session_threads::{Cluster, Listening, NoPause, Report, SharedNode, Working, listen, work};
 use spill_device::SpillFolder;
 use std::alloc::{AllocError, Global};
 use std::fs::Files;
@@ -111,7 +111,7 @@ fn serve_named<
     let alloc = host.alloc();
     let nodes = serving.shape.nodes;
     let (_book, seats) = blank.open::<L>();
-    let Ok(mut cluster) = Cluster::start(alloc, nodes, serving.shape.memory, seats) else {
+    let Ok(mut cluster) = Cluster::start(alloc, nodes, serving.shape.memory, seats, NoPause) else {
         return Err(tell(host, ServeFault::Fault(Fault::NoMemory)))
     };
     let mut served = Served {

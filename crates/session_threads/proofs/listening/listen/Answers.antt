@@ -7,4 +7,4 @@ use Rattle.session_threads.proofs.Crossing.{captures_send}
 use Rattle.session_threads.proofs.listening.listen.Goals as goal
 
 pub spawn-requires-send-F : goal.spawn-requires-send-F
-spawn-requires-send-F g c κs within = param_send 1 _ (arg_send _ no _ (captures_send (param 0 g.row.L) g.L.Ledger _ g.row.R UnixListener.the_row c.type_bounds.send-R listener_send))
+spawn-requires-send-F g c κs within = param_send 1 _ (arg_send _ no _ (captures_send (param 0 g.row.L) g.L.Ledger _ c.type_bounds.send-P c.type_bounds.sync-P _ g.row.R UnixListener.the_row c.type_bounds.send-R listener_send))

@@ -14,4 +14,4 @@ pub spawn-requires-send-F : goal.spawn-requires-send-F
 spawn-requires-send-F g c κs within =
     let L = param 0 g.row.L in
     let inbox = Arc.the_row (Inbox.the_row L) Heap.the_row ghosts in
-    param_send 1 _ (arg_send _ no _ (worker_send L g.L.Ledger _ g.row.R inbox c.type_bounds.send-R (Arc-send (Inbox.the_row L) (inbox_send L) (inbox_sync L))))
+    param_send 1 _ (arg_send _ no _ (worker_send L g.L.Ledger _ c.type_bounds.send-P c.type_bounds.sync-P _ g.row.R inbox c.type_bounds.send-R (Arc-send (Inbox.the_row L) (inbox_send L) (inbox_sync L))))

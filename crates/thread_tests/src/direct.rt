@@ -1,0 +1,108 @@
+//! The whole case of a direct caller, with the numbers of its report.
+use crate::objects::{admit, is_hello, object, seal_hello, told};
+use crate::trials::{Trial, try_out};
+use assertions::{holds, same};
+use bytes::Bytes;
+use node_journal::Receipt;
+use obj_id::{Command, JobNo, Quota, Reply};
+use session_threads::{Cluster, NoPause, Pause, Report, SharedNode};
+use std::alloc::{AllocError, Global};
+use std::io;
+use std::process::Abort;
+use std::sync::Wait;
+use std::sync::ledger::Ledger;
+use std::test::Fail;
+use std::thread::Threads;
+use std::time::Clock;
+
+const JOB: JobNo = JobNo(1);
+
+const QUOTA: Quota = Quota {
+    window: 64,
+    device: 0,
+};
+
+/// What lies in the window, and nothing on the device.
+const NARROW: Quota = Quota {
+    window: 32,
+    device: 0,
+};
+
+/// A job's admission and six commands of an object's life, and then perhaps the rest of the job's.
+struct Direct {
+    is_whole: bool,
+}
+
+/// An object is created, written, sealed, held, read and released. The last receipt.
+fn six_commands<L: Ledger, P: Pause, R: Wait + Abort>(
+    rt: &R,
+    alloc: Global,
+    node: &SharedNode<L, P>,
+) -> Result<Receipt<L>, AllocError> {
+    let id = object(rt, JOB, 1);
+    seal_hello(rt, alloc, node, id)?;
+    holds!(rt; matches!(told(rt, node, JOB, Command::Get(id)), Reply::Got(20)));
+    holds!(rt; is_hello(&told(rt, node, JOB, Command::Read(id, 0, 20))));
+    let (reply, receipt) = node.call(rt, JOB, 1, Command::Release(id));
+    holds!(rt; matches!(reply, Reply::Ok));
+    Ok(receipt.expect(rt, "a receipt"))
+}
+
+/// A Usage that is called after the receipt, a change of the quotas and the job's end: none is refused.
+fn live_on<L: Ledger, P: Pause, R: Wait + Abort>(
+    rt: &R,
+    node: &SharedNode<L, P>,
+    earlier: &Receipt<L>,
+) {
+    let (reply, receipt) = node.call_after(rt, earlier, JOB, 1, Command::Usage);
+    holds!(rt; uses_all_of(&reply));
+    let later = receipt.expect(rt, "a receipt");
+    same!(rt; (later.node(), later.job(), later.number() > earlier.number()), (0, JOB, true));
+    holds!(rt; matches!(node.requota(rt, JOB, NARROW).0, Reply::Ok));
+    holds!(rt; matches!(node.end_job(rt, JOB).0, Reply::Ok));
+}
+
+/// Whether the reply says that the object's 32 bytes of the window are used.
+fn uses_all_of(reply: &Reply<Bytes>) -> bool {
+    matches!(reply, Reply::Usage(usage) if (usage.window, usage.window_used) == (64, 32))
+}
+
+impl Trial<NoPause> for Direct {
+    fn carry_out<
+        L: Ledger + Send + Sync + 'static,
+        R: Threads + Wait + Clock + Abort + Copy + Send + 'static,
+    >(&self, rt: R, alloc: Global, cluster: &mut Cluster<L, NoPause>) -> io::Result<()> {
+        let node = cluster.node(0).expect(&rt, "a node");
+        admit(&rt, node, JOB, QUOTA);
+        let last = six_commands(&rt, alloc, node)?;
+        if self.is_whole {
+            live_on(&rt, node, &last);
+        }
+        Ok(())
+    }
+}
+
+/// A report of so many entries and receipts, of which nothing went wrong.
+fn good_report(entries: u64, receipts: u64) -> Report {
+    Report {
+        entries,
+        receipts,
+        disagreeing: 0,
+        lost: 0,
+        erase_failures: 0,
+    }
+}
+
+#[test]
+fn an_admission_and_six_commands_are_reported(rt: HostRuntime) -> Result<(), Fail> {
+    let report = try_out(rt, rt.alloc(), 1, NoPause, &Direct { is_whole: false })?;
+    same!(rt; report, good_report(7, 1));
+    Ok(())
+}
+
+#[test]
+fn a_job_is_used_narrowed_and_ended(rt: HostRuntime) -> Result<(), Fail> {
+    let report = try_out(rt, rt.alloc(), 1, NoPause, &Direct { is_whole: true })?;
+    same!(rt; report, good_report(10, 3));
+    Ok(())
+}

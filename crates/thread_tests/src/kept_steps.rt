@@ -1,0 +1,96 @@
+//! While a step of one node is kept under its lock, another node steps.
+use crate::gates::Gate;
+use crate::objects::admit;
+use crate::trials::{Trial, try_out};
+use assertions::same;
+use obj_id::{Command, JobNo, Quota, Reply};
+use private_store::Event;
+use session_threads::{Cluster, Pause, SharedNode};
+use std::alloc::Global;
+use std::process::Abort;
+use std::sync::ledger::Ledger;
+use std::sync::{Arc, Wait};
+use std::test::Fail;
+use std::thread::{JoinHandle, Threads};
+use std::time::Clock;
+use std::{io, thread};
+
+const JOB: JobNo = JobNo(1);
+
+const QUOTA: Quota = Quota {
+    window: 32,
+    device: 0,
+};
+
+/// The commands at node 0 pass a gate.
+#[derive(Clone, Drop)]
+struct KeptCommands {
+    gate: Arc<Gate>,
+}
+
+impl Pause for KeptCommands {
+    fn before_step(&self, node: u32, event: &Event) {
+        if node == 0 && matches!(event, Event::Call(..)) {
+            self.gate.pass();
+        }
+    }
+}
+
+/// A command at a node is kept until one at another node is answered.
+#[derive(Drop)]
+struct KeptStep {
+    gate: Arc<Gate>,
+}
+
+/// The node that the receipt of a Usage names, if it is answered.
+fn usage_at<L: Ledger, P: Pause, R: Wait>(
+    rt: &R,
+    node: &SharedNode<L, P>,
+    job: JobNo,
+) -> Option<u32> {
+    let (reply, receipt) = node.call(rt, job, 1, Command::Usage);
+    if !matches!(reply, Reply::Usage(_)) {
+        return None;
+    }
+    Some(receipt?.node())
+}
+
+/// The same, in a thread of its own.
+fn start_usage<
+    L: Ledger + Send + Sync + 'static,
+    P: Pause + Send + Sync + 'static,
+    R: Threads + Wait + Copy + Send + 'static,
+>(rt: R, node: Arc<SharedNode<L, P>>, job: JobNo) -> io::Result<JoinHandle<Option<u32>>> {
+    let call = move || usage_at(&rt, &*node, job);
+    Ok(thread::spawn(&rt, call)?)
+}
+
+impl Trial<KeptCommands> for KeptStep {
+    fn carry_out<
+        L: Ledger + Send + Sync + 'static,
+        R: Threads + Wait + Clock + Abort + Copy + Send + 'static,
+    >(&self, rt: R, _alloc: Global, cluster: &mut Cluster<L, KeptCommands>) -> io::Result<()> {
+        let kept = cluster.node(0).expect(&rt, "a node");
+        let other = cluster.node(1).expect(&rt, "a node");
+        admit(&rt, kept, JOB, QUOTA);
+        admit(&rt, other, JOB, QUOTA);
+        let calling = start_usage(rt, Arc::try_clone(kept)?, JOB)?;
+        let is_reached = self.gate.await_arrival();
+        let beside = usage_at(&rt, other, JOB);
+        let is_kept = self.gate.open();
+        let at_last = calling.join(&rt);
+        same!(rt; (is_reached, is_kept, beside, at_last), (true, true, Some(1), Some(0)));
+        Ok(())
+    }
+}
+
+#[test]
+fn a_node_steps_while_a_step_of_another_one_is_kept(rt: HostRuntime) -> Result<(), Fail> {
+    let gate = Arc::new(rt.alloc(), Gate::new())?;
+    let pause = KeptCommands {
+        gate: Arc::try_clone(&gate)?,
+    };
+    let report = try_out(rt, rt.alloc(), 2, pause, &KeptStep { gate })?;
+    same!(rt; (report.entries, report.disagreeing, report.lost), (4, 0, 0));
+    Ok(())
+}

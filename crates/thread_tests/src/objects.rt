@@ -1,0 +1,58 @@
+//! Jobs and their objects at a node, called as a direct caller does.
+use assertions::holds;
+use bytes::Bytes;
+use obj_id::{Command, JobKey, JobNo, Kind, ObjectId, Quota, Reply, TaskNo};
+use session_threads::{Pause, SharedNode};
+use std::alloc::{AllocError, Global};
+use std::process::Abort;
+use std::sync::Wait;
+use std::sync::ledger::Ledger;
+
+pub(crate) const KEY: JobKey = JobKey([0; 32]);
+
+/// The job's object of this index.
+pub(crate) fn object(rt: &impl Abort, job: JobNo, index: u32) -> ObjectId {
+    ObjectId::new(TaskNo([0; 20]), job, index).expect(rt, "an id")
+}
+
+/// Admits the job: it isn't refused.
+pub(crate) fn admit<L: Ledger, P: Pause, R: Wait + Abort>(
+    rt: &R,
+    node: &SharedNode<L, P>,
+    job: JobNo,
+    quota: Quota,
+) {
+    let (reply, _) = node.admit(rt, job, quota, KEY);
+    holds!(rt; matches!(reply, Reply::Ok));
+}
+
+/// The answer to a command of the job's first session.
+pub(crate) fn told<L: Ledger, P: Pause, R: Wait>(
+    rt: &R,
+    node: &SharedNode<L, P>,
+    job: JobNo,
+    command: Command<Bytes>,
+) -> Reply<Bytes> {
+    node.call(rt, job, 1, command).0
+}
+
+/// Creates an object of 20 bytes, writes the first five of them, and seals it: none of it is refused.
+pub(crate) fn seal_hello<L: Ledger, P: Pause, R: Wait + Abort>(
+    rt: &R,
+    alloc: Global,
+    node: &SharedNode<L, P>,
+    id: ObjectId,
+) -> Result<(), AllocError> {
+    let hello = Bytes::from_vec(Vec::from_slice(alloc, b"Hello")?)?;
+    let job = id.job();
+    holds!(rt; matches!(told(rt, node, job, Command::Create(id, Kind::Primary, 20)), Reply::Placed(_, 32)));
+    holds!(rt; matches!(told(rt, node, job, Command::Write(id, 0, hello)), Reply::Ok));
+    holds!(rt; matches!(told(rt, node, job, Command::Seal(id)), Reply::Ok));
+    Ok(())
+}
+
+/// Whether the reply is the bytes of that object.
+pub(crate) fn is_hello(reply: &Reply<Bytes>) -> bool {
+    let hello = b"Hello\0\0\0\0\0\0\0\0\0\0\0\0\0\0\0";
+    matches!(reply, Reply::Bytes(bytes) if bytes.as_slice() == hello.as_slice())
+}
