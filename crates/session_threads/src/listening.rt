@@ -45,8 +45,8 @@ impl Listening {
 /// which there is no memory or no thread, is closed without an answer, and the others are served.
 pub fn listen<
     L: Ledger + Send + Sync + 'static,
-    P: Pause + Send + Sync + 'static,
     R: Threads + Wait + Clock + Copy + Send + 'static,
+    P: Pause + Send + Sync + 'static,
 >(
     rt: R,
     alloc: Global,
@@ -62,8 +62,8 @@ pub fn listen<
 /// Accepts streams until the node is shut and the listener's socket with it.
 fn accept_all<
     L: Ledger + Send + Sync + 'static,
-    P: Pause + Send + Sync + 'static,
     R: Threads + Wait + Clock + Copy + Send + 'static,
+    P: Pause + Send + Sync + 'static,
 >(rt: R, alloc: Global, node: &Arc<SharedNode<L, P>>, listener: &UnixListener) {
     for stream in listener.incoming() {
         if node.upkeep.waiting.is_shut() {
@@ -81,8 +81,8 @@ fn accept_all<
 /// Serves a stream in a thread of its own.
 fn start_session<
     L: Ledger + Send + Sync + 'static,
-    P: Pause + Send + Sync + 'static,
     R: Threads + Wait + Clock + Copy + Send + 'static,
+    P: Pause + Send + Sync + 'static,
 >(
     rt: R,
     alloc: Global,

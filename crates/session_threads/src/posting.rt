@@ -219,8 +219,8 @@ impl<L: Ledger, P: Pause> SharedNode<L, P> {
 /// Hands the messages that come to the node in, in a thread of its own, until no node sends any more.
 pub(crate) fn receive<
     L: Ledger + Send + Sync + 'static,
-    P: Pause + Send + Sync + 'static,
     R: Threads + Wait + Copy + Send + 'static,
+    P: Pause + Send + Sync + 'static,
 >(rt: R, node: Arc<SharedNode<L, P>>, inbox: Arc<Inbox<L>>) -> io::Result<JoinHandle<()>> {
     let job = move || receive_all(&rt, &*node, &*inbox);
     let thread = thread::spawn(&rt, job)?;

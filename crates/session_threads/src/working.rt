@@ -53,8 +53,8 @@ impl<L: Ledger, P: Pause> Working<L, P> {
 /// Lets a worker carry out the works of the node on the device, in a thread of its own, until it is ended.
 pub fn work<
     L: Ledger + Send + Sync + 'static,
-    P: Pause + Send + Sync + 'static,
     R: Threads + Wait + Clock + Copy + Send + 'static,
+    P: Pause + Send + Sync + 'static,
     D: SpillDevice + Drop + Send + 'static,
 >(rt: R, node: Arc<SharedNode<L, P>>, device: D) -> io::Result<Working<L, P>> {
     let theirs = Arc::try_clone(&node)?;

@@ -53,8 +53,8 @@ fn round<L: Ledger, P: Pause, R: Wait, D: SpillDevice>(
 /// The same, in a thread of its own.
 fn start_round<
     L: Ledger + Send + Sync + 'static,
-    P: Pause + Send + Sync + 'static,
     R: Threads + Wait + Copy + Send + 'static,
+    P: Pause + Send + Sync + 'static,
     D: SpillDevice + Drop + Send + 'static,
 >(rt: R, node: Arc<SharedNode<L, P>>, device: D) -> io::Result<JoinHandle<(WorkDone, D)>> {
     let job = move || round(&rt, &*node, device);
@@ -76,8 +76,8 @@ fn is_answered_beside<L: Ledger, P: Pause, R: Wait + Abort>(
 /// meanwhile.
 fn round_with<
     L: Ledger + Send + Sync + 'static,
-    P: Pause + Send + Sync + 'static,
     R: Threads + Wait + Abort + Copy + Send + 'static,
+    P: Pause + Send + Sync + 'static,
 >(
     rt: R,
     node: &Arc<SharedNode<L, P>>,
@@ -146,8 +146,8 @@ fn is_pending(reply: &Reply<Bytes>) -> bool {
 /// Writes the first object, and reads it back: the device.
 fn write_and_read<
     L: Ledger + Send + Sync + 'static,
-    P: Pause + Send + Sync + 'static,
     R: Threads + Wait + Abort + Copy + Send + 'static,
+    P: Pause + Send + Sync + 'static,
 >(rt: R, node: &Arc<SharedNode<L, P>>, device: Device, is_failing: bool) -> io::Result<Device> {
     ask_for_write(&rt, node);
     let (written, device) = round_with(rt, node, device, DeviceCall::Write)?;

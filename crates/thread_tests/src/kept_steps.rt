@@ -58,8 +58,8 @@ fn usage_at<L: Ledger, P: Pause, R: Wait>(
 /// The same, in a thread of its own.
 fn start_usage<
     L: Ledger + Send + Sync + 'static,
-    P: Pause + Send + Sync + 'static,
     R: Threads + Wait + Copy + Send + 'static,
+    P: Pause + Send + Sync + 'static,
 >(rt: R, node: Arc<SharedNode<L, P>>, job: JobNo) -> io::Result<JoinHandle<Option<u32>>> {
     let call = move || usage_at(&rt, &*node, job);
     Ok(thread::spawn(&rt, call)?)
