@@ -34,7 +34,7 @@ struct Fetch;
 struct FullLink;
 
 /// Asks for the object at the node until it is there, and reads it.
-fn fetch<L: Ledger, P: Pause, R: Wait + Clock + Abort>(rt: &R, node: &SharedNode<L, P>) {
+fn get_and_read<L: Ledger, P: Pause, R: Wait + Clock + Abort>(rt: &R, node: &SharedNode<L, P>) {
     let id = object(rt, JOB, 1);
     let (reply, receipt) = node.call_wait(rt, JOB, 1, Awaited::Get(id));
     holds!(rt; matches!(reply, Reply::Got(20)));
@@ -53,7 +53,7 @@ impl Trial<NoPause> for Fetch {
         admit(&rt, sealing, JOB, QUOTA);
         admit(&rt, fetching, JOB, QUOTA);
         seal_hello(&rt, alloc, sealing, object(&rt, JOB, 1))?;
-        fetch(&rt, fetching);
+        get_and_read(&rt, fetching);
         Ok(())
     }
 }
