@@ -6,7 +6,7 @@ use assertions::{holds, same};
 use node_core::{Node, Outcome};
 use obj_id::{JobKey, JobNo, ObjectId, Quota, Refusal, Reply, TaskNo, Usage};
 use private_store::Event;
-use std::alloc::Global;
+use std::alloc::{AllocError, Global};
 use std::process::Abort;
 use std::test::Fail;
 
@@ -19,7 +19,11 @@ const ZEROS: JobKey = JobKey([0; 32]);
 const LONG: usize = 65_552;
 
 /// What the event gives, which is taken once more if memory ran out: then nothing has changed.
-pub(crate) fn taken(rt: &impl Abort, node: &mut Node, event: &Event) -> Result<Outcome, Refusal> {
+pub(crate) fn taken(
+    rt: &impl Abort,
+    node: &mut Node,
+    event: &Event,
+) -> Result<Outcome, AllocError> {
     let before = usages(node);
     match node.apply(event) {
         Ok(outcome) => Ok(outcome),
@@ -31,7 +35,7 @@ pub(crate) fn taken(rt: &impl Abort, node: &mut Node, event: &Event) -> Result<O
 }
 
 /// Gives the node an event that it doesn't refuse.
-pub(crate) fn accepted(rt: &impl Abort, node: &mut Node, event: &Event) -> Result<(), Refusal> {
+pub(crate) fn accepted(rt: &impl Abort, node: &mut Node, event: &Event) -> Result<(), AllocError> {
     let outcome = taken(rt, node, event)?;
     holds!(rt; !matches!(outcome.reply, Reply::Refused(_)));
     Ok(())

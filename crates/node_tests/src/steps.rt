@@ -83,7 +83,7 @@ fn check_row(rt: &impl Abort, alloc: Global, world: &mut World, row: &str) -> Re
     Ok(())
 }
 
-fn new_world(alloc: Global) -> Result<World, Refusal>
+fn new_world(alloc: Global) -> Result<World, AllocError>
     ensures { IfOk result (λ world. length world.nodes ≡ 2) }
 {
     match World::new(alloc, TWO_NODES) {

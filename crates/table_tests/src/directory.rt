@@ -2,6 +2,7 @@
 use assertions::{holds, same};
 use obj_id::{Digest, DirectoryMessage, JobNo, Location, ObjectId, Refusal, TaskNo};
 use owner_directory::{Directory, DirectoryReply};
+use std::alloc::AllocError;
 use std::process::Abort;
 use std::test::Fail;
 
@@ -51,7 +52,11 @@ fn is_told(
 }
 
 /// Asks, once more if memory ran out.
-fn located(directory: &mut Directory, job: JobNo, id: ObjectId) -> Result<DirectoryReply, Refusal> {
+fn located(
+    directory: &mut Directory,
+    job: JobNo,
+    id: ObjectId,
+) -> Result<DirectoryReply, AllocError> {
     match directory.apply(job, DirectoryMessage::Locate(id, 3, 77)) {
         Ok(reply) => Ok(reply),
         Err(_) => directory.apply(job, DirectoryMessage::Locate(id, 3, 77)),

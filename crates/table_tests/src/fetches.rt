@@ -68,7 +68,7 @@ fn served(alloc: Global, bytes: &[u8], indexes: &[u32]) -> Result<Vec<PeerMessag
     let bytes = shared(alloc, bytes)?;
     match chunks_asked(alloc, &bytes, an_id()?, NUMBER, indexes) {
         Ok(chunks) => Ok(chunks),
-        Err(_) => chunks_asked(alloc, &bytes, an_id()?, NUMBER, indexes),
+        Err(_) => Ok(chunks_asked(alloc, &bytes, an_id()?, NUMBER, indexes)?),
     }
 }
 

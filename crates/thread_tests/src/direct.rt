@@ -5,15 +5,12 @@ use assertions::{holds, same};
 use bytes::Bytes;
 use node_journal::Receipt;
 use obj_id::{Command, JobNo, Quota, Reply};
-use session_threads::{Cluster, NoPause, Pause, Report, SharedNode};
+use session_threads::{Cluster, Report, SharedNode};
 use std::alloc::{AllocError, Global};
-use std::io;
 use std::process::Abort;
 use std::sync::Wait;
 use std::sync::ledger::Ledger;
 use std::test::Fail;
-use std::thread::Threads;
-use std::time::Clock;
 
 const JOB: JobNo = JobNo(1);
 
@@ -28,16 +25,11 @@ const NARROW: Quota = Quota {
     device: 0,
 };
 
-/// A job's admission and six commands of an object's life, and then perhaps the rest of the job's.
-struct Direct {
-    is_whole: bool,
-}
-
 /// An object is created, written, sealed, held, read and released. The last receipt.
-fn six_commands<L: Ledger, P: Pause, R: Wait + Abort>(
+fn six_commands<L: Ledger, R: Wait + Abort>(
     rt: &R,
     alloc: Global,
-    node: &SharedNode<L, P>,
+    node: &SharedNode<L>,
 ) -> Result<Receipt<L>, AllocError> {
     let id = object(rt, JOB, 1);
     seal_hello(rt, alloc, node, id)?;
@@ -49,11 +41,7 @@ fn six_commands<L: Ledger, P: Pause, R: Wait + Abort>(
 }
 
 /// A Usage that is called after the receipt, a change of the quotas and the job's end: none is refused.
-fn live_on<L: Ledger, P: Pause, R: Wait + Abort>(
-    rt: &R,
-    node: &SharedNode<L, P>,
-    earlier: &Receipt<L>,
-) {
+fn live_on<L: Ledger, R: Wait + Abort>(rt: &R, node: &SharedNode<L>, earlier: &Receipt<L>) {
     let (reply, receipt) = node.call_after(rt, earlier, JOB, 1, Command::Usage);
     holds!(rt; uses_all_of(&reply));
     let later = receipt.expect(rt, "a receipt");
@@ -67,19 +55,20 @@ fn uses_all_of(reply: &Reply<Bytes>) -> bool {
     matches!(reply, Reply::Usage(usage) if (usage.window, usage.window_used) == (64, 32))
 }
 
-impl Trial<NoPause> for Direct {
-    fn carry_out<
-        L: Ledger + Send + Sync + 'static,
-        R: Threads + Wait + Clock + Abort + Copy + Send + 'static,
-    >(&self, rt: R, alloc: Global, cluster: &mut Cluster<L, NoPause>) -> io::Result<()> {
-        let node = cluster.node(0).expect(&rt, "a node");
-        admit(&rt, node, JOB, QUOTA);
-        let last = six_commands(&rt, alloc, node)?;
-        if self.is_whole {
-            live_on(&rt, node, &last);
-        }
-        Ok(())
+/// A job's admission and six commands of an object's life, and then perhaps the rest of the job's.
+pub(crate) fn call_directly<L: Ledger, R: Wait + Abort>(
+    rt: &R,
+    alloc: Global,
+    cluster: &Cluster<L>,
+    is_whole: bool,
+) -> Result<(), AllocError> {
+    let node = cluster.node(0).expect(rt, "a node");
+    admit(rt, node, JOB, QUOTA);
+    let last = six_commands(rt, alloc, node)?;
+    if is_whole {
+        live_on(rt, node, &last);
     }
+    Ok(())
 }
 
 /// A report of so many entries and receipts, of which nothing went wrong.
@@ -95,14 +84,14 @@ fn good_report(entries: u64, receipts: u64) -> Report {
 
 #[test]
 fn an_admission_and_six_commands_are_reported(rt: HostRuntime) -> Result<(), Fail> {
-    let report = try_out(rt, rt.alloc(), 1, NoPause, &Direct { is_whole: false })?;
+    let report = try_out(rt, rt.alloc(), &Trial::Direct { is_whole: false })?;
     same!(rt; report, good_report(7, 1));
     Ok(())
 }
 
 #[test]
 fn a_job_is_used_narrowed_and_ended(rt: HostRuntime) -> Result<(), Fail> {
-    let report = try_out(rt, rt.alloc(), 1, NoPause, &Direct { is_whole: true })?;
+    let report = try_out(rt, rt.alloc(), &Trial::Direct { is_whole: true })?;
     same!(rt; report, good_report(10, 3));
     Ok(())
 }

@@ -31,14 +31,6 @@ const ONE: Quota = Quota {
 
 type Device = KeptDevice<FaultyDevice<MemoryDevice>>;
 
-/// One kind of call is kept at a gate, and perhaps one call of the device beneath fails.
-#[derive(Drop)]
-struct KeptCall {
-    kept: DeviceCall,
-    // the number of the call that fails, from 1; at 0 none does
-    failing: u64,
-}
-
 /// What a round came to, and its device.
 fn round<L: Ledger, P: Pause, R: Wait, D: SpillDevice>(
     rt: &R,
@@ -163,24 +155,23 @@ fn write_and_read<
     Ok(device)
 }
 
-impl Trial<NoPause> for KeptCall {
-    fn carry_out<
-        L: Ledger + Send + Sync + 'static,
-        R: Threads + Wait + Clock + Abort + Copy + Send + 'static,
-    >(&self, rt: R, alloc: Global, cluster: &mut Cluster<L, NoPause>) -> io::Result<()> {
-        let node = cluster.node(0).expect(&rt, "a node");
-        let device = KeptDevice {
-            inner: FaultyDevice::new(MemoryDevice::new(alloc), self.failing),
-            kept: self.kept,
-            gate: Arc::new(alloc, Gate::new())?,
-        };
-        begin(&rt, alloc, node)?;
-        let device = write_and_read(rt, node, device, self.failing > 0)?;
-        ask_for_erase(&rt, node);
-        let (erased, device) = round_with(rt, node, device, DeviceCall::Erase)?;
-        same!(rt; (erased, device.failures()), (WorkDone::Nothing, u64::from(self.failing > 0)));
-        Ok(())
-    }
+/// One kind of call is kept at a gate, and the call of this number, from 1, of the device beneath fails; none does at 0.
+pub(crate) fn keep_a_call<
+    L: Ledger + Send + Sync + 'static,
+    R: Threads + Wait + Abort + Copy + Send + 'static,
+>(rt: R, alloc: Global, cluster: &Cluster<L>, kept: DeviceCall, failing: u64) -> io::Result<()> {
+    let node = cluster.node(0).expect(&rt, "a node");
+    let device = KeptDevice {
+        inner: FaultyDevice::new(MemoryDevice::new(alloc), failing),
+        kept,
+        gate: Arc::new(alloc, Gate::new())?,
+    };
+    begin(&rt, alloc, node)?;
+    let device = write_and_read(rt, node, device, failing > 0)?;
+    ask_for_erase(&rt, node);
+    let (erased, device) = round_with(rt, node, device, DeviceCall::Erase)?;
+    same!(rt; (erased, device.failures()), (WorkDone::Nothing, u64::from(failing > 0)));
+    Ok(())
 }
 
 /// One kind of call is kept, and then the same at a device whose second call fails.
@@ -190,7 +181,7 @@ fn keep<R: Threads + Wait + Clock + Abort + Copy + Send + 'static>(
     kept: DeviceCall,
 ) -> io::Result<()> {
     for failing in [0u64, 2] {
-        let report = try_out(rt, alloc, 1, NoPause, &KeptCall { kept, failing })?;
+        let report = try_out(rt, alloc, &Trial::KeptCall { kept, failing })?;
         same!(rt; (report.disagreeing, report.lost, report.erase_failures), (0, 0, 0));
     }
     Ok(())
