@@ -9,6 +9,7 @@ import random
 import subprocess
 import sys
 import threading
+import time
 from pathlib import Path
 from typing import IO, List, Sequence, Tuple
 
@@ -130,6 +131,11 @@ class Disk:
             filler.unlink()
 
     def remove(self) -> None:
+        """Whoever looked into it last may be at it for a moment yet."""
+        for _ in range(50):
+            if subprocess.run(["umount", str(self._folder)], capture_output=True).returncode == 0:
+                return
+            time.sleep(0.2)
         subprocess.run(["umount", str(self._folder)], check=True)
 
 
