@@ -5,15 +5,12 @@ use assertions::{holds, same};
 use bytes::Bytes;
 use node_journal::Receipt;
 use obj_id::{Command, JobNo, Quota, Reply};
-use session_threads::{Cluster, NoPause, Pause, Report, SharedNode};
+use session_threads::{Report, SharedNode};
 use std::alloc::{AllocError, Global};
-use std::io;
 use std::process::Abort;
 use std::sync::Wait;
 use std::sync::ledger::Ledger;
 use std::test::Fail;
-use std::thread::Threads;
-use std::time::Clock;
 
 const JOB: JobNo = JobNo(1);
 
@@ -28,18 +25,14 @@ const NARROW: Quota = Quota {
     device: 0,
 };
 
-/// A job's admission and six commands of an object's life, and then perhaps the rest of the job's.
-struct Direct {
-    is_whole: bool,
-}
-
-/// An object is created, written, sealed, held, read and released. The last receipt.
-fn six_commands<L: Ledger, P: Pause, R: Wait + Abort>(
+/// The job is admitted, and an object is created, written, sealed, held, read and released. The last receipt.
+pub(crate) fn six_commands<L: Ledger, R: Wait + Abort>(
     rt: &R,
     alloc: Global,
-    node: &SharedNode<L, P>,
+    node: &SharedNode<L>,
 ) -> Result<Receipt<L>, AllocError> {
     let id = object(rt, JOB, 1);
+    admit(rt, node, JOB, QUOTA);
     seal_hello(rt, alloc, node, id)?;
     holds!(rt; matches!(told(rt, node, JOB, Command::Get(id)), Reply::Got(20)));
     holds!(rt; is_hello(&told(rt, node, JOB, Command::Read(id, 0, 20))));
@@ -49,9 +42,9 @@ fn six_commands<L: Ledger, P: Pause, R: Wait + Abort>(
 }
 
 /// A Usage that is called after the receipt, a change of the quotas and the job's end: none is refused.
-fn live_on<L: Ledger, P: Pause, R: Wait + Abort>(
+pub(crate) fn live_on<L: Ledger, R: Wait + Abort>(
     rt: &R,
-    node: &SharedNode<L, P>,
+    node: &SharedNode<L>,
     earlier: &Receipt<L>,
 ) {
     let (reply, receipt) = node.call_after(rt, earlier, JOB, 1, Command::Usage);
@@ -67,21 +60,6 @@ fn uses_all_of(reply: &Reply<Bytes>) -> bool {
     matches!(reply, Reply::Usage(usage) if (usage.window, usage.window_used) == (64, 32))
 }
 
-impl Trial<NoPause> for Direct {
-    fn carry_out<
-        L: Ledger + Send + Sync + 'static,
-        R: Threads + Wait + Clock + Abort + Copy + Send + 'static,
-    >(&self, rt: R, alloc: Global, cluster: &mut Cluster<L, NoPause>) -> io::Result<()> {
-        let node = cluster.node(0).expect(&rt, "a node");
-        admit(&rt, node, JOB, QUOTA);
-        let last = six_commands(&rt, alloc, node)?;
-        if self.is_whole {
-            live_on(&rt, node, &last);
-        }
-        Ok(())
-    }
-}
-
 /// A report of so many entries and receipts, of which nothing went wrong.
 fn good_report(entries: u64, receipts: u64) -> Report {
     Report {
@@ -95,14 +73,14 @@ fn good_report(entries: u64, receipts: u64) -> Report {
 
 #[test]
 fn an_admission_and_six_commands_are_reported(rt: HostRuntime) -> Result<(), Fail> {
-    let report = try_out(rt, rt.alloc(), 1, NoPause, &Direct { is_whole: false })?;
+    let report = try_out(rt, rt.alloc(), &Trial::SixCommands)?;
     same!(rt; report, good_report(7, 1));
     Ok(())
 }
 
 #[test]
 fn a_job_is_used_narrowed_and_ended(rt: HostRuntime) -> Result<(), Fail> {
-    let report = try_out(rt, rt.alloc(), 1, NoPause, &Direct { is_whole: true })?;
+    let report = try_out(rt, rt.alloc(), &Trial::WholeJob)?;
     same!(rt; report, good_report(10, 3));
     Ok(())
 }

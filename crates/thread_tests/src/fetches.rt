@@ -4,14 +4,12 @@ use crate::trials::{Trial, try_out};
 use assertions::{holds, same};
 use obj_id::{Command, JobNo, Quota, Refusal, Reply};
 use private_store::Awaited;
-use session_threads::{Cluster, NoPause, Pause, SharedNode};
-use std::alloc::Global;
-use std::io;
+use session_threads::SharedNode;
+use std::alloc::{AllocError, Global};
 use std::process::Abort;
 use std::sync::Wait;
 use std::sync::ledger::Ledger;
 use std::test::Fail;
-use std::thread::Threads;
 use std::time::Clock;
 
 const JOB: JobNo = JobNo(1);
@@ -27,14 +25,8 @@ const MOST_IN_LINK: u64 = 1_024;
 /// How many more are sent.
 const TOO_MANY: u64 = 3;
 
-/// An object is fetched at a node that is connected with the one where it was sealed.
-struct Fetch;
-
-/// It is asked for at a node from which nobody receives.
-struct FullLink;
-
 /// Asks for the object at the node until it is there, and reads it.
-fn fetch<L: Ledger, P: Pause, R: Wait + Clock + Abort>(rt: &R, node: &SharedNode<L, P>) {
+fn get_and_read<L: Ledger, R: Wait + Clock + Abort>(rt: &R, node: &SharedNode<L>) {
     let id = object(rt, JOB, 1);
     let (reply, receipt) = node.call_wait(rt, JOB, 1, Awaited::Get(id));
     holds!(rt; matches!(reply, Reply::Got(20)));
@@ -42,58 +34,61 @@ fn fetch<L: Ledger, P: Pause, R: Wait + Clock + Abort>(rt: &R, node: &SharedNode
     holds!(rt; is_hello(&told(rt, node, JOB, Command::Read(id, 0, 20))));
 }
 
-impl Trial<NoPause> for Fetch {
-    fn carry_out<
-        L: Ledger + Send + Sync + 'static,
-        R: Threads + Wait + Clock + Abort + Copy + Send + 'static,
-    >(&self, rt: R, alloc: Global, cluster: &mut Cluster<L, NoPause>) -> io::Result<()> {
-        cluster.connect(rt)?;
-        let sealing = cluster.node(0).expect(&rt, "a node");
-        let fetching = cluster.node(1).expect(&rt, "a node");
-        admit(&rt, sealing, JOB, QUOTA);
-        admit(&rt, fetching, JOB, QUOTA);
-        seal_hello(&rt, alloc, sealing, object(&rt, JOB, 1))?;
-        fetch(&rt, fetching);
-        Ok(())
-    }
+/// The job is admitted at both nodes, and seals an object at the first.
+fn begin<L: Ledger, R: Wait + Abort>(
+    rt: &R,
+    alloc: Global,
+    sealing: &SharedNode<L>,
+    fetching: &SharedNode<L>,
+) -> Result<(), AllocError> {
+    admit(rt, sealing, JOB, QUOTA);
+    admit(rt, fetching, JOB, QUOTA);
+    seal_hello(rt, alloc, sealing, object(rt, JOB, 1))
+}
+
+/// An object is fetched at a node that is connected with the one where it was sealed.
+pub(crate) fn fetch<L: Ledger, R: Wait + Clock + Abort>(
+    rt: &R,
+    alloc: Global,
+    sealing: &SharedNode<L>,
+    fetching: &SharedNode<L>,
+) -> Result<(), AllocError> {
+    begin(rt, alloc, sealing, fetching)?;
+    get_and_read(rt, fetching);
+    Ok(())
 }
 
 /// Asks for the object again and again: each time but the first it asks the other node for the chunks, too.
-fn ask_often<L: Ledger, P: Pause, R: Wait + Abort>(rt: &R, node: &SharedNode<L, P>) {
+fn ask_often<L: Ledger, R: Wait + Abort>(rt: &R, node: &SharedNode<L>) {
     let id = object(rt, JOB, 1);
-    let mut pending = 0u64;
     for _ in 0..1 + MOST_IN_LINK + TOO_MANY {
         let reply = told(rt, node, JOB, Command::Get(id));
-        pending += u64::from(matches!(reply, Reply::Refused(Refusal::Pending)));
+        holds!(rt; matches!(reply, Reply::Refused(Refusal::Pending)));
     }
-    same!(rt; pending, 1 + MOST_IN_LINK + TOO_MANY);
 }
 
-impl Trial<NoPause> for FullLink {
-    fn carry_out<
-        L: Ledger + Send + Sync + 'static,
-        R: Threads + Wait + Clock + Abort + Copy + Send + 'static,
-    >(&self, rt: R, alloc: Global, cluster: &mut Cluster<L, NoPause>) -> io::Result<()> {
-        let sealing = cluster.node(0).expect(&rt, "a node");
-        let fetching = cluster.node(1).expect(&rt, "a node");
-        admit(&rt, sealing, JOB, QUOTA);
-        admit(&rt, fetching, JOB, QUOTA);
-        seal_hello(&rt, alloc, sealing, object(&rt, JOB, 1))?;
-        ask_often(&rt, fetching);
-        Ok(())
-    }
+/// It is asked for at a node from which nobody receives.
+pub(crate) fn ask_beside<L: Ledger, R: Wait + Abort>(
+    rt: &R,
+    alloc: Global,
+    sealing: &SharedNode<L>,
+    fetching: &SharedNode<L>,
+) -> Result<(), AllocError> {
+    begin(rt, alloc, sealing, fetching)?;
+    ask_often(rt, fetching);
+    Ok(())
 }
 
 #[test]
 fn an_object_is_fetched_by_a_call_that_waits(rt: HostRuntime) -> Result<(), Fail> {
-    let report = try_out(rt, rt.alloc(), 2, NoPause, &Fetch)?;
+    let report = try_out(rt, rt.alloc(), &Trial::Fetch)?;
     same!(rt; (report.disagreeing, report.lost, report.erase_failures), (0, 0, 0));
     Ok(())
 }
 
 #[test]
 fn a_message_that_finds_its_link_full_is_counted(rt: HostRuntime) -> Result<(), Fail> {
-    let report = try_out(rt, rt.alloc(), 2, NoPause, &FullLink)?;
+    let report = try_out(rt, rt.alloc(), &Trial::FullLink)?;
     same!(rt; (report.disagreeing, report.lost), (0, TOO_MANY));
     Ok(())
 }

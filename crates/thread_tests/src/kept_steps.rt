@@ -1,18 +1,19 @@
 //! While a step of one node is kept under its lock, another node steps.
+ghost use Rattle.std.specs.Prelude.{◌≡◌};
+
 use crate::gates::Gate;
 use crate::objects::admit;
-use crate::trials::{Trial, try_out};
 use assertions::same;
 use obj_id::{Command, JobNo, Quota, Reply};
 use private_store::Event;
-use session_threads::{Cluster, Pause, SharedNode};
+use session_threads::{Cluster, Pause, Report, SharedNode};
 use std::alloc::Global;
+use std::marker::Brand;
 use std::process::Abort;
-use std::sync::ledger::Ledger;
+use std::sync::ledger::{Blank, Ledger};
 use std::sync::{Arc, Wait};
 use std::test::Fail;
 use std::thread::{JoinHandle, Threads};
-use std::time::Clock;
 use std::{io, thread};
 
 const JOB: JobNo = JobNo(1);
@@ -34,12 +35,6 @@ impl Pause for KeptCommands {
             self.gate.pass();
         }
     }
-}
-
-/// A command at a node is kept until one at another node is answered.
-#[derive(Drop)]
-struct KeptStep {
-    gate: Arc<Gate>,
 }
 
 /// The node that the receipt of a Usage names, if it is answered.
@@ -65,32 +60,58 @@ fn start_usage<
     Ok(thread::spawn(&rt, call)?)
 }
 
-impl Trial<KeptCommands> for KeptStep {
-    fn carry_out<
-        L: Ledger + Send + Sync + 'static,
-        R: Threads + Wait + Clock + Abort + Copy + Send + 'static,
-    >(&self, rt: R, _alloc: Global, cluster: &mut Cluster<L, KeptCommands>) -> io::Result<()> {
-        let kept = cluster.node(0).expect(&rt, "a node");
-        let other = cluster.node(1).expect(&rt, "a node");
-        admit(&rt, kept, JOB, QUOTA);
-        admit(&rt, other, JOB, QUOTA);
-        let calling = start_usage(rt, Arc::try_clone(kept)?, JOB)?;
-        let is_reached = self.gate.await_arrival();
-        let beside = usage_at(&rt, other, JOB);
-        let is_kept = self.gate.open();
-        let at_last = calling.join(&rt);
-        same!(rt; (is_reached, is_kept, beside, at_last), (true, true, Some(1), Some(0)));
-        Ok(())
-    }
+/// A command at a node is kept until one at another node is answered.
+fn step_beside<
+    L: Ledger + Send + Sync + 'static,
+    R: Threads + Wait + Abort + Copy + Send + 'static,
+>(rt: R, cluster: &Cluster<L, KeptCommands>, gate: &Gate) -> io::Result<()> {
+    let kept = cluster.node(0).expect(&rt, "a node");
+    let other = cluster.node(1).expect(&rt, "a node");
+    admit(&rt, kept, JOB, QUOTA);
+    admit(&rt, other, JOB, QUOTA);
+    let calling = start_usage(rt, Arc::try_clone(kept)?, JOB)?;
+    let is_reached = gate.await_arrival();
+    let beside = usage_at(&rt, other, JOB);
+    let is_kept = gate.open();
+    let at_last = calling.join(&rt);
+    same!(rt; (is_reached, is_kept, beside, at_last), (true, true, Some(1), Some(0)));
+    Ok(())
+}
+
+/// The same, at two nodes of their own under the name: what the report says then.
+fn try_at<L: Ledger + Send + Sync + 'static, R: Threads + Wait + Abort + Copy + Send + 'static>(
+    rt: R,
+    alloc: Global,
+    blank: Blank,
+) -> io::Result<Report>
+    requires name { blank.name ≡ L.name }
+    requires parts { blank.parts ≡ L.parts }
+    requires count { blank.parts ≡ 2 }
+{
+    let gate = Arc::new(alloc, Gate::new())?;
+    let pause = KeptCommands {
+        gate: Arc::try_clone(&gate)?,
+    };
+    let (_book, seats) = blank.open::<L>();
+    let cluster = Cluster::start(alloc, 2, 1024, seats, pause)?;
+    let stepped = step_beside(rt, &cluster, &gate);
+    let report = cluster.close(&rt, Vec::new(alloc));
+    stepped?;
+    Ok(report)
+}
+
+/// The same, under a new name.
+fn try_out<R: Threads + Wait + Abort + Copy + Send + 'static>(
+    rt: R,
+    alloc: Global,
+) -> io::Result<Report> {
+    let blank = Blank::new(2);
+    try_at::<Brand, R>(rt, alloc, blank)
 }
 
 #[test]
 fn a_node_steps_while_a_step_of_another_one_is_kept(rt: HostRuntime) -> Result<(), Fail> {
-    let gate = Arc::new(rt.alloc(), Gate::new())?;
-    let pause = KeptCommands {
-        gate: Arc::try_clone(&gate)?,
-    };
-    let report = try_out(rt, rt.alloc(), 2, pause, &KeptStep { gate })?;
+    let report = try_out(rt, rt.alloc())?;
     same!(rt; (report.entries, report.disagreeing, report.lost), (4, 0, 0));
     Ok(())
 }

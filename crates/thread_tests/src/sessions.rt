@@ -4,14 +4,12 @@ use crate::trials::{Trial, try_out};
 use assertions::{holds, same};
 use obj_id::{Command, JobNo, Quota, Refusal, Reply};
 use session_engine::Gate;
-use session_threads::{Cluster, NoPause, Session};
-use std::alloc::Global;
-use std::io;
+use session_threads::{Session, SharedNode};
+use std::alloc::{AllocError, Global};
 use std::process::Abort;
 use std::sync::Wait;
 use std::sync::ledger::Ledger;
 use std::test::Fail;
-use std::thread::Threads;
 use std::time::Clock;
 
 const JOB: JobNo = JobNo(1);
@@ -20,9 +18,6 @@ const QUOTA: Quota = Quota {
     window: 32,
     device: 0,
 };
-
-/// One session holds an object, and the other one ends.
-struct TwoSessions;
 
 /// The holder reads on after the other session's end, and no more after its own.
 fn hold_beside<G: Gate, H: Gate>(rt: &impl Abort, holding: &mut G, ending: &mut H) {
@@ -38,24 +33,23 @@ fn hold_beside<G: Gate, H: Gate>(rt: &impl Abort, holding: &mut G, ending: &mut 
     same!(rt; (holder, other), (1, 2));
 }
 
-impl Trial<NoPause> for TwoSessions {
-    fn carry_out<
-        L: Ledger + Send + Sync + 'static,
-        R: Threads + Wait + Clock + Abort + Copy + Send + 'static,
-    >(&self, rt: R, alloc: Global, cluster: &mut Cluster<L, NoPause>) -> io::Result<()> {
-        let node = cluster.node(0).expect(&rt, "a node");
-        admit(&rt, node, JOB, QUOTA);
-        seal_hello(&rt, alloc, node, object(&rt, JOB, 1))?;
-        let mut holding = Session::new(&rt, &**node);
-        let mut ending = Session::new(&rt, &**node);
-        hold_beside(&rt, &mut holding, &mut ending);
-        Ok(())
-    }
+/// One session holds an object, and the other one ends.
+pub(crate) fn two_sessions<L: Ledger, R: Wait + Clock + Abort>(
+    rt: &R,
+    alloc: Global,
+    node: &SharedNode<L>,
+) -> Result<(), AllocError> {
+    admit(rt, node, JOB, QUOTA);
+    seal_hello(rt, alloc, node, object(rt, JOB, 1))?;
+    let mut holding = Session::new(rt, node);
+    let mut ending = Session::new(rt, node);
+    hold_beside(rt, &mut holding, &mut ending);
+    Ok(())
 }
 
 #[test]
 fn a_hold_stands_when_another_session_ends(rt: HostRuntime) -> Result<(), Fail> {
-    let report = try_out(rt, rt.alloc(), 1, NoPause, &TwoSessions)?;
+    let report = try_out(rt, rt.alloc(), &Trial::TwoSessions)?;
     // the admission, three of a direct caller, and of the sessions three and two Leaves
     same!(rt; (report.entries, report.receipts, report.disagreeing), (9, 1, 0));
     Ok(())

@@ -1,7 +1,12 @@
 //! Trials at a new cluster, which is closed at the end of each.
 ghost use Rattle.std.specs.Prelude.{◌≡◌};
 
-use session_threads::{Cluster, Pause, Report};
+use crate::direct::{live_on, six_commands};
+use crate::fetches::{ask_beside, fetch};
+use crate::kept_calls::call_beside;
+use crate::kept_devices::DeviceCall;
+use crate::sessions::two_sessions;
+use session_threads::{Cluster, NoPause, Report};
 use std::alloc::Global;
 use std::io;
 use std::marker::Brand;
@@ -11,37 +16,79 @@ use std::sync::ledger::{Blank, Ledger};
 use std::thread::Threads;
 use std::time::Clock;
 
-/// What is tried at a cluster whose steps this type pauses.
-pub(crate) trait Trial<P: Pause> {
-    fn carry_out<
-        L: Ledger + Send + Sync + 'static,
-        R: Threads + Wait + Clock + Abort + Copy + Send + 'static,
-    >(&self, rt: R, alloc: Global, cluster: &mut Cluster<L, P>) -> io::Result<()>;
+/// What is tried at a cluster whose steps nothing pauses.
+#[derive(Drop)]
+pub(crate) enum Trial {
+    /// A job's admission and six commands of an object's life.
+    SixCommands,
+    /// The same, and the rest of the job's life.
+    WholeJob,
+    /// An object is fetched at a node that is connected with the one where it was sealed.
+    Fetch,
+    /// It is asked for at a node from which nobody receives.
+    FullLink,
+    /// One session holds an object, and another one ends.
+    TwoSessions,
+    /// Calls of this kind are kept, of a device that fails at the call of this number, from 1; at 0 it fails at none.
+    KeptCall(DeviceCall, u64),
 }
 
-/// Carries the trial out at so many nodes: what the report says then.
+impl Trial {
+    /// How many nodes it needs.
+    fn nodes(&self) -> u32 {
+        match self {
+            Trial::Fetch | Trial::FullLink => 2,
+            _ => 1,
+        }
+    }
+}
+
+/// Carries the trial out at the cluster.
+fn carry_out<
+    L: Ledger + Send + Sync + 'static,
+    R: Threads + Wait + Clock + Abort + Copy + Send + 'static,
+>(rt: R, alloc: Global, trial: &Trial, cluster: &mut Cluster<L>) -> io::Result<()> {
+    if matches!(trial, Trial::Fetch) {
+        cluster.connect(rt)?;
+    }
+    let node = cluster.node(0).expect(&rt, "a node");
+    match trial {
+        Trial::SixCommands => {
+            six_commands(&rt, alloc, node)?;
+        }
+        Trial::WholeJob => live_on(&rt, node, &six_commands(&rt, alloc, node)?),
+        Trial::Fetch => fetch(&rt, alloc, node, cluster.node(1).expect(&rt, "a node"))?,
+        Trial::FullLink => ask_beside(&rt, alloc, node, cluster.node(1).expect(&rt, "a node"))?,
+        Trial::TwoSessions => two_sessions(&rt, alloc, node)?,
+        Trial::KeptCall(kept, failing) => call_beside(rt, alloc, node, *kept, *failing)?,
+    }
+    Ok(())
+}
+
+/// The same, at a cluster of its own under the name: what the report says then.
 fn try_at<
     L: Ledger + Send + Sync + 'static,
-    P: Pause,
     R: Threads + Wait + Clock + Abort + Copy + Send + 'static,
-    T: Trial<P>,
->(rt: R, alloc: Global, nodes: u32, pause: P, trial: &T, blank: Blank) -> io::Result<Report>
+>(rt: R, alloc: Global, trial: &Trial, nodes: u32, blank: Blank) -> io::Result<Report>
     requires name { blank.name ≡ L.name }
     requires parts { blank.parts ≡ L.parts }
     requires count { blank.parts ≡ nodes }
 {
     let (_book, seats) = blank.open::<L>();
-    let mut cluster = Cluster::start(alloc, nodes, 1024, seats, pause)?;
-    trial.carry_out(rt, alloc, &mut cluster)?;
-    Ok(cluster.close(&rt, Vec::new(alloc)))
+    let mut cluster = Cluster::start(alloc, nodes, 1024, seats, NoPause)?;
+    let carried_out = carry_out(rt, alloc, trial, &mut cluster);
+    let report = cluster.close(&rt, Vec::new(alloc));
+    carried_out?;
+    Ok(report)
 }
 
 /// The same, under a new name.
-pub(crate) fn try_out<
-    P: Pause,
-    R: Threads + Wait + Clock + Abort + Copy + Send + 'static,
-    T: Trial<P>,
->(rt: R, alloc: Global, nodes: u32, pause: P, trial: &T) -> io::Result<Report> {
+pub(crate) fn try_out<R: Threads + Wait + Clock + Abort + Copy + Send + 'static>(
+    rt: R,
+    alloc: Global,
+    trial: &Trial,
+) -> io::Result<Report> {
+    let nodes = trial.nodes();
     let blank = Blank::new(u64::from(nodes));
-    try_at::<Brand, P, R, T>(rt, alloc, nodes, pause, trial, blank)
+    try_at::<Brand, R>(rt, alloc, trial, nodes, blank)
 }
