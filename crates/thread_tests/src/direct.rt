@@ -5,7 +5,7 @@ use assertions::{holds, same};
 use bytes::Bytes;
 use node_journal::Receipt;
 use obj_id::{Command, JobNo, Quota, Reply};
-use session_threads::{Cluster, Report, SharedNode};
+use session_threads::{Report, SharedNode};
 use std::alloc::{AllocError, Global};
 use std::process::Abort;
 use std::sync::Wait;
@@ -25,13 +25,14 @@ const NARROW: Quota = Quota {
     device: 0,
 };
 
-/// An object is created, written, sealed, held, read and released. The last receipt.
-fn six_commands<L: Ledger, R: Wait + Abort>(
+/// The job is admitted, and an object is created, written, sealed, held, read and released. The last receipt.
+pub(crate) fn six_commands<L: Ledger, R: Wait + Abort>(
     rt: &R,
     alloc: Global,
     node: &SharedNode<L>,
 ) -> Result<Receipt<L>, AllocError> {
     let id = object(rt, JOB, 1);
+    admit(rt, node, JOB, QUOTA);
     seal_hello(rt, alloc, node, id)?;
     holds!(rt; matches!(told(rt, node, JOB, Command::Get(id)), Reply::Got(20)));
     holds!(rt; is_hello(&told(rt, node, JOB, Command::Read(id, 0, 20))));
@@ -41,7 +42,11 @@ fn six_commands<L: Ledger, R: Wait + Abort>(
 }
 
 /// A Usage that is called after the receipt, a change of the quotas and the job's end: none is refused.
-fn live_on<L: Ledger, R: Wait + Abort>(rt: &R, node: &SharedNode<L>, earlier: &Receipt<L>) {
+pub(crate) fn live_on<L: Ledger, R: Wait + Abort>(
+    rt: &R,
+    node: &SharedNode<L>,
+    earlier: &Receipt<L>,
+) {
     let (reply, receipt) = node.call_after(rt, earlier, JOB, 1, Command::Usage);
     holds!(rt; uses_all_of(&reply));
     let later = receipt.expect(rt, "a receipt");
@@ -53,22 +58,6 @@ fn live_on<L: Ledger, R: Wait + Abort>(rt: &R, node: &SharedNode<L>, earlier: &R
 /// Whether the reply says that the object's 32 bytes of the window are used.
 fn uses_all_of(reply: &Reply<Bytes>) -> bool {
     matches!(reply, Reply::Usage(usage) if (usage.window, usage.window_used) == (64, 32))
-}
-
-/// A job's admission and six commands of an object's life, and then perhaps the rest of the job's.
-pub(crate) fn call_directly<L: Ledger, R: Wait + Abort>(
-    rt: &R,
-    alloc: Global,
-    cluster: &Cluster<L>,
-    is_whole: bool,
-) -> Result<(), AllocError> {
-    let node = cluster.node(0).expect(rt, "a node");
-    admit(rt, node, JOB, QUOTA);
-    let last = six_commands(rt, alloc, node)?;
-    if is_whole {
-        live_on(rt, node, &last);
-    }
-    Ok(())
 }
 
 /// A report of so many entries and receipts, of which nothing went wrong.
@@ -84,14 +73,14 @@ fn good_report(entries: u64, receipts: u64) -> Report {
 
 #[test]
 fn an_admission_and_six_commands_are_reported(rt: HostRuntime) -> Result<(), Fail> {
-    let report = try_out(rt, rt.alloc(), &Trial::Direct { is_whole: false })?;
+    let report = try_out(rt, rt.alloc(), &Trial::SixCommands)?;
     same!(rt; report, good_report(7, 1));
     Ok(())
 }
 
 #[test]
 fn a_job_is_used_narrowed_and_ended(rt: HostRuntime) -> Result<(), Fail> {
-    let report = try_out(rt, rt.alloc(), &Trial::Direct { is_whole: true })?;
+    let report = try_out(rt, rt.alloc(), &Trial::WholeJob)?;
     same!(rt; report, good_report(10, 3));
     Ok(())
 }

@@ -4,14 +4,12 @@ use crate::trials::{Trial, try_out};
 use assertions::{holds, same};
 use obj_id::{Command, JobNo, Quota, Refusal, Reply};
 use private_store::Awaited;
-use session_threads::{Cluster, SharedNode};
+use session_threads::SharedNode;
 use std::alloc::{AllocError, Global};
-use std::io;
 use std::process::Abort;
 use std::sync::Wait;
 use std::sync::ledger::Ledger;
 use std::test::Fail;
-use std::thread::Threads;
 use std::time::Clock;
 
 const JOB: JobNo = JobNo(1);
@@ -36,49 +34,48 @@ fn get_and_read<L: Ledger, R: Wait + Clock + Abort>(rt: &R, node: &SharedNode<L>
     holds!(rt; is_hello(&told(rt, node, JOB, Command::Read(id, 0, 20))));
 }
 
-/// An object is fetched at a node that is connected with the one where it was sealed.
-pub(crate) fn fetch_at_another<
-    L: Ledger + Send + Sync + 'static,
-    R: Threads + Wait + Clock + Abort + Copy + Send + 'static,
->(rt: R, alloc: Global, cluster: &mut Cluster<L>) -> io::Result<()> {
-    cluster.connect(rt)?;
-    let fetching = cluster.node(1).expect(&rt, "a node");
-    seal_at_first(&rt, alloc, cluster)?;
-    get_and_read(&rt, fetching);
-    Ok(())
-}
-
 /// The job is admitted at both nodes, and seals an object at the first.
-fn seal_at_first<L: Ledger, R: Wait + Abort>(
+fn begin<L: Ledger, R: Wait + Abort>(
     rt: &R,
     alloc: Global,
-    cluster: &Cluster<L>,
+    sealing: &SharedNode<L>,
+    fetching: &SharedNode<L>,
 ) -> Result<(), AllocError> {
-    let sealing = cluster.node(0).expect(rt, "a node");
     admit(rt, sealing, JOB, QUOTA);
-    admit(rt, cluster.node(1).expect(rt, "a node"), JOB, QUOTA);
+    admit(rt, fetching, JOB, QUOTA);
     seal_hello(rt, alloc, sealing, object(rt, JOB, 1))
+}
+
+/// An object is fetched at a node that is connected with the one where it was sealed.
+pub(crate) fn fetch<L: Ledger, R: Wait + Clock + Abort>(
+    rt: &R,
+    alloc: Global,
+    sealing: &SharedNode<L>,
+    fetching: &SharedNode<L>,
+) -> Result<(), AllocError> {
+    begin(rt, alloc, sealing, fetching)?;
+    get_and_read(rt, fetching);
+    Ok(())
 }
 
 /// Asks for the object again and again: each time but the first it asks the other node for the chunks, too.
 fn ask_often<L: Ledger, R: Wait + Abort>(rt: &R, node: &SharedNode<L>) {
     let id = object(rt, JOB, 1);
-    let mut pending = 0u64;
     for _ in 0..1 + MOST_IN_LINK + TOO_MANY {
         let reply = told(rt, node, JOB, Command::Get(id));
-        pending += u64::from(matches!(reply, Reply::Refused(Refusal::Pending)));
+        holds!(rt; matches!(reply, Reply::Refused(Refusal::Pending)));
     }
-    same!(rt; pending, 1 + MOST_IN_LINK + TOO_MANY);
 }
 
-/// An object is asked for at a node from which nobody receives.
-pub(crate) fn ask_by_a_full_link<L: Ledger, R: Wait + Abort>(
+/// It is asked for at a node from which nobody receives.
+pub(crate) fn ask_beside<L: Ledger, R: Wait + Abort>(
     rt: &R,
     alloc: Global,
-    cluster: &Cluster<L>,
+    sealing: &SharedNode<L>,
+    fetching: &SharedNode<L>,
 ) -> Result<(), AllocError> {
-    seal_at_first(rt, alloc, cluster)?;
-    ask_often(rt, cluster.node(1).expect(rt, "a node"));
+    begin(rt, alloc, sealing, fetching)?;
+    ask_often(rt, fetching);
     Ok(())
 }
 

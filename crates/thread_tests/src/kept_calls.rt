@@ -6,7 +6,7 @@ use crate::trials::{Trial, try_out};
 use assertions::{holds, same};
 use bytes::Bytes;
 use obj_id::{Command, JobNo, Kind, Quota, Refusal, Reply};
-use session_threads::{Cluster, NoPause, Pause, SharedNode, WorkDone};
+use session_threads::{SharedNode, WorkDone};
 use spill_device::{FaultyDevice, MemoryDevice, SpillDevice};
 use std::alloc::{AllocError, Global};
 use std::process::Abort;
@@ -32,9 +32,9 @@ const ONE: Quota = Quota {
 type Device = KeptDevice<FaultyDevice<MemoryDevice>>;
 
 /// What a round came to, and its device.
-fn round<L: Ledger, P: Pause, R: Wait, D: SpillDevice>(
+fn round<L: Ledger, R: Wait, D: SpillDevice>(
     rt: &R,
-    node: &SharedNode<L, P>,
+    node: &SharedNode<L>,
     device: D,
 ) -> (WorkDone, D) {
     let mut device = device;
@@ -46,17 +46,16 @@ fn round<L: Ledger, P: Pause, R: Wait, D: SpillDevice>(
 fn start_round<
     L: Ledger + Send + Sync + 'static,
     R: Threads + Wait + Copy + Send + 'static,
-    P: Pause + Send + Sync + 'static,
     D: SpillDevice + Drop + Send + 'static,
->(rt: R, node: Arc<SharedNode<L, P>>, device: D) -> io::Result<JoinHandle<(WorkDone, D)>> {
+>(rt: R, node: Arc<SharedNode<L>>, device: D) -> io::Result<JoinHandle<(WorkDone, D)>> {
     let job = move || round(&rt, &*node, device);
     Ok(thread::spawn(&rt, job)?)
 }
 
 /// Whether the other job's Get is answered while somebody is kept at the gate, which is opened then.
-fn is_answered_beside<L: Ledger, P: Pause, R: Wait + Abort>(
+fn is_answered_beside<L: Ledger, R: Wait + Abort>(
     rt: &R,
-    node: &SharedNode<L, P>,
+    node: &SharedNode<L>,
     gate: &Gate,
 ) -> bool {
     let is_reached = gate.await_arrival();
@@ -66,13 +65,9 @@ fn is_answered_beside<L: Ledger, P: Pause, R: Wait + Abort>(
 
 /// A round in which this call of the device is made: what it came to, and the device. If the call is kept, the other job is answered
 /// meanwhile.
-fn round_with<
-    L: Ledger + Send + Sync + 'static,
-    R: Threads + Wait + Abort + Copy + Send + 'static,
-    P: Pause + Send + Sync + 'static,
->(
+fn round_with<L: Ledger + Send + Sync + 'static, R: Threads + Wait + Abort + Copy + Send + 'static>(
     rt: R,
-    node: &Arc<SharedNode<L, P>>,
+    node: &Arc<SharedNode<L>>,
     device: Device,
     call: DeviceCall,
 ) -> io::Result<(WorkDone, Device)> {
@@ -86,10 +81,10 @@ fn round_with<
 }
 
 /// Both jobs are admitted, and the other one seals an object of 20 bytes.
-fn begin<L: Ledger, P: Pause, R: Wait + Abort>(
+fn begin<L: Ledger, R: Wait + Abort>(
     rt: &R,
     alloc: Global,
-    node: &SharedNode<L, P>,
+    node: &SharedNode<L>,
 ) -> Result<(), AllocError> {
     admit(rt, node, SPILLED, ONE);
     admit(rt, node, OTHER, ONE);
@@ -97,7 +92,7 @@ fn begin<L: Ledger, P: Pause, R: Wait + Abort>(
 }
 
 /// The job's first object is in the way of its second.
-fn ask_for_write<L: Ledger, P: Pause, R: Wait + Abort>(rt: &R, node: &SharedNode<L, P>) {
+fn ask_for_write<L: Ledger, R: Wait + Abort>(rt: &R, node: &SharedNode<L>) {
     let (first, second) = (object(rt, SPILLED, 1), object(rt, SPILLED, 2));
     let create = Command::Create(first, Kind::Primary, 32);
     holds!(rt; matches!(told(rt, node, SPILLED, create), Reply::Placed(..)));
@@ -107,7 +102,7 @@ fn ask_for_write<L: Ledger, P: Pause, R: Wait + Abort>(rt: &R, node: &SharedNode
 }
 
 /// The first object was written: the second takes its room, and gives it back, and the first is asked for.
-fn ask_for_read<L: Ledger, P: Pause, R: Wait + Abort>(rt: &R, node: &SharedNode<L, P>) {
+fn ask_for_read<L: Ledger, R: Wait + Abort>(rt: &R, node: &SharedNode<L>) {
     let (first, second) = (object(rt, SPILLED, 1), object(rt, SPILLED, 2));
     let create = Command::Create(second, Kind::Primary, 16);
     holds!(rt; matches!(told(rt, node, SPILLED, create), Reply::Placed(..)));
@@ -116,7 +111,7 @@ fn ask_for_read<L: Ledger, P: Pause, R: Wait + Abort>(rt: &R, node: &SharedNode<
 }
 
 /// The read that failed is told once, and asked for again.
-fn ask_for_read_again<L: Ledger, P: Pause, R: Wait + Abort>(rt: &R, node: &SharedNode<L, P>) {
+fn ask_for_read_again<L: Ledger, R: Wait + Abort>(rt: &R, node: &SharedNode<L>) {
     let first = object(rt, SPILLED, 1);
     let reply = told(rt, node, SPILLED, Command::Get(first));
     holds!(rt; matches!(reply, Reply::Refused(Refusal::DeviceFailed)));
@@ -124,7 +119,7 @@ fn ask_for_read_again<L: Ledger, P: Pause, R: Wait + Abort>(rt: &R, node: &Share
 }
 
 /// The first object is back, and goes, and what lies on the device with it.
-fn ask_for_erase<L: Ledger, P: Pause, R: Wait + Abort>(rt: &R, node: &SharedNode<L, P>) {
+fn ask_for_erase<L: Ledger, R: Wait + Abort>(rt: &R, node: &SharedNode<L>) {
     let first = object(rt, SPILLED, 1);
     holds!(rt; matches!(told(rt, node, SPILLED, Command::Get(first)), Reply::Got(32)));
     holds!(rt; matches!(told(rt, node, SPILLED, Command::Release(first)), Reply::Ok));
@@ -139,8 +134,7 @@ fn is_pending(reply: &Reply<Bytes>) -> bool {
 fn write_and_read<
     L: Ledger + Send + Sync + 'static,
     R: Threads + Wait + Abort + Copy + Send + 'static,
-    P: Pause + Send + Sync + 'static,
->(rt: R, node: &Arc<SharedNode<L, P>>, device: Device, is_failing: bool) -> io::Result<Device> {
+>(rt: R, node: &Arc<SharedNode<L>>, device: Device, is_failing: bool) -> io::Result<Device> {
     ask_for_write(&rt, node);
     let (written, device) = round_with(rt, node, device, DeviceCall::Write)?;
     ask_for_read(&rt, node);
@@ -155,18 +149,23 @@ fn write_and_read<
     Ok(device)
 }
 
-/// One kind of call is kept at a gate, and the call of this number, from 1, of the device beneath fails; none does at 0.
-pub(crate) fn keep_a_call<
+/// One kind of call is kept at a gate, and perhaps the call of this number fails at the device beneath.
+pub(crate) fn call_beside<
     L: Ledger + Send + Sync + 'static,
     R: Threads + Wait + Abort + Copy + Send + 'static,
->(rt: R, alloc: Global, cluster: &Cluster<L>, kept: DeviceCall, failing: u64) -> io::Result<()> {
-    let node = cluster.node(0).expect(&rt, "a node");
+>(
+    rt: R,
+    alloc: Global,
+    node: &Arc<SharedNode<L>>,
+    kept: DeviceCall,
+    failing: u64,
+) -> io::Result<()> {
+    begin(&rt, alloc, node)?;
     let device = KeptDevice {
         inner: FaultyDevice::new(MemoryDevice::new(alloc), failing),
         kept,
         gate: Arc::new(alloc, Gate::new())?,
     };
-    begin(&rt, alloc, node)?;
     let device = write_and_read(rt, node, device, failing > 0)?;
     ask_for_erase(&rt, node);
     let (erased, device) = round_with(rt, node, device, DeviceCall::Erase)?;
@@ -181,7 +180,7 @@ fn keep<R: Threads + Wait + Clock + Abort + Copy + Send + 'static>(
     kept: DeviceCall,
 ) -> io::Result<()> {
     for failing in [0u64, 2] {
-        let report = try_out(rt, alloc, &Trial::KeptCall { kept, failing })?;
+        let report = try_out(rt, alloc, &Trial::KeptCall(kept, failing))?;
         same!(rt; (report.disagreeing, report.lost, report.erase_failures), (0, 0, 0));
     }
     Ok(())

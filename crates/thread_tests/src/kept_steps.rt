@@ -60,8 +60,8 @@ fn start_usage<
     Ok(thread::spawn(&rt, call)?)
 }
 
-/// A command at a node is kept at the gate until one at another node is answered.
-fn keep_a_step<
+/// A command at a node is kept until one at another node is answered.
+fn step_beside<
     L: Ledger + Send + Sync + 'static,
     R: Threads + Wait + Abort + Copy + Send + 'static,
 >(rt: R, cluster: &Cluster<L, KeptCommands>, gate: &Gate) -> io::Result<()> {
@@ -78,24 +78,26 @@ fn keep_a_step<
     Ok(())
 }
 
-/// The same at a cluster whose commands at node 0 pass the gate: what its report says.
+/// The same, at two nodes of their own under the name: what the report says then.
 fn try_at<L: Ledger + Send + Sync + 'static, R: Threads + Wait + Abort + Copy + Send + 'static>(
     rt: R,
     alloc: Global,
-    gate: &Arc<Gate>,
     blank: Blank,
 ) -> io::Result<Report>
     requires name { blank.name ≡ L.name }
     requires parts { blank.parts ≡ L.parts }
     requires count { blank.parts ≡ 2 }
 {
+    let gate = Arc::new(alloc, Gate::new())?;
     let pause = KeptCommands {
-        gate: Arc::try_clone(gate)?,
+        gate: Arc::try_clone(&gate)?,
     };
     let (_book, seats) = blank.open::<L>();
     let cluster = Cluster::start(alloc, 2, 1024, seats, pause)?;
-    keep_a_step(rt, &cluster, gate)?;
-    Ok(cluster.close(&rt, Vec::new(alloc)))
+    let stepped = step_beside(rt, &cluster, &gate);
+    let report = cluster.close(&rt, Vec::new(alloc));
+    stepped?;
+    Ok(report)
 }
 
 /// The same, under a new name.
@@ -103,9 +105,8 @@ fn try_out<R: Threads + Wait + Abort + Copy + Send + 'static>(
     rt: R,
     alloc: Global,
 ) -> io::Result<Report> {
-    let gate = Arc::new(alloc, Gate::new())?;
     let blank = Blank::new(2);
-    try_at::<Brand, R>(rt, alloc, &gate, blank)
+    try_at::<Brand, R>(rt, alloc, blank)
 }
 
 #[test]

@@ -27,9 +27,9 @@ pub(crate) fn admit<L: Ledger, P: Pause, R: Wait + Abort>(
 }
 
 /// The answer to a command of the job's first session.
-pub(crate) fn told<L: Ledger, P: Pause, R: Wait>(
+pub(crate) fn told<L: Ledger, R: Wait>(
     rt: &R,
-    node: &SharedNode<L, P>,
+    node: &SharedNode<L>,
     job: JobNo,
     command: Command<Bytes>,
 ) -> Reply<Bytes> {
@@ -37,10 +37,10 @@ pub(crate) fn told<L: Ledger, P: Pause, R: Wait>(
 }
 
 /// Creates an object of 20 bytes, writes the first five of them, and seals it: none of it is refused.
-pub(crate) fn seal_hello<L: Ledger, P: Pause, R: Wait + Abort>(
+pub(crate) fn seal_hello<L: Ledger, R: Wait + Abort>(
     rt: &R,
     alloc: Global,
-    node: &SharedNode<L, P>,
+    node: &SharedNode<L>,
     id: ObjectId,
 ) -> Result<(), AllocError> {
     let hello = Bytes::from_vec(Vec::from_slice(alloc, b"Hello")?)?;

@@ -4,7 +4,7 @@ use crate::trials::{Trial, try_out};
 use assertions::{holds, same};
 use obj_id::{Command, JobNo, Quota, Refusal, Reply};
 use session_engine::Gate;
-use session_threads::{Cluster, Session};
+use session_threads::{Session, SharedNode};
 use std::alloc::{AllocError, Global};
 use std::process::Abort;
 use std::sync::Wait;
@@ -34,16 +34,15 @@ fn hold_beside<G: Gate, H: Gate>(rt: &impl Abort, holding: &mut G, ending: &mut 
 }
 
 /// One session holds an object, and the other one ends.
-pub(crate) fn hold_beside_an_end<L: Ledger, R: Wait + Clock + Abort>(
+pub(crate) fn two_sessions<L: Ledger, R: Wait + Clock + Abort>(
     rt: &R,
     alloc: Global,
-    cluster: &Cluster<L>,
+    node: &SharedNode<L>,
 ) -> Result<(), AllocError> {
-    let node = cluster.node(0).expect(rt, "a node");
     admit(rt, node, JOB, QUOTA);
     seal_hello(rt, alloc, node, object(rt, JOB, 1))?;
-    let mut holding = Session::new(rt, &**node);
-    let mut ending = Session::new(rt, &**node);
+    let mut holding = Session::new(rt, node);
+    let mut ending = Session::new(rt, node);
     hold_beside(rt, &mut holding, &mut ending);
     Ok(())
 }

@@ -1,11 +1,11 @@
 //! Trials at a new cluster, which is closed at the end of each.
 ghost use Rattle.std.specs.Prelude.{◌≡◌};
 
-use crate::direct::call_directly;
-use crate::fetches::{ask_by_a_full_link, fetch_at_another};
-use crate::kept_calls::keep_a_call;
+use crate::direct::{live_on, six_commands};
+use crate::fetches::{ask_beside, fetch};
+use crate::kept_calls::call_beside;
 use crate::kept_devices::DeviceCall;
-use crate::sessions::hold_beside_an_end;
+use crate::sessions::two_sessions;
 use session_threads::{Cluster, NoPause, Report};
 use std::alloc::Global;
 use std::io;
@@ -16,19 +16,21 @@ use std::sync::ledger::{Blank, Ledger};
 use std::thread::Threads;
 use std::time::Clock;
 
-/// What is tried.
+/// What is tried at a cluster whose steps nothing pauses.
 #[derive(Drop)]
 pub(crate) enum Trial {
-    /// A direct caller's six commands, and then perhaps the rest of its job's life.
-    Direct { is_whole: bool },
-    /// An object is fetched by a call that waits.
+    /// A job's admission and six commands of an object's life.
+    SixCommands,
+    /// The same, and the rest of the job's life.
+    WholeJob,
+    /// An object is fetched at a node that is connected with the one where it was sealed.
     Fetch,
-    /// A node is sent more messages than a link holds.
+    /// It is asked for at a node from which nobody receives.
     FullLink,
-    /// One kind of call of a device is kept, of which perhaps one call fails.
-    KeptCall { kept: DeviceCall, failing: u64 },
     /// One session holds an object, and another one ends.
     TwoSessions,
+    /// Calls of this kind are kept, of a device that fails at the call of this number, from 1; at 0 it fails at none.
+    KeptCall(DeviceCall, u64),
 }
 
 impl Trial {
@@ -36,38 +38,48 @@ impl Trial {
     fn nodes(&self) -> u32 {
         match self {
             Trial::Fetch | Trial::FullLink => 2,
-            Trial::Direct { .. } | Trial::KeptCall { .. } | Trial::TwoSessions => 1,
+            _ => 1,
         }
-    }
-
-    fn carry_out<
-        L: Ledger + Send + Sync + 'static,
-        R: Threads + Wait + Clock + Abort + Copy + Send + 'static,
-    >(&self, rt: R, alloc: Global, cluster: &mut Cluster<L>) -> io::Result<()> {
-        match self {
-            Trial::Direct { is_whole } => call_directly(&rt, alloc, cluster, *is_whole)?,
-            Trial::Fetch => fetch_at_another(rt, alloc, cluster)?,
-            Trial::FullLink => ask_by_a_full_link(&rt, alloc, cluster)?,
-            Trial::KeptCall { kept, failing } => keep_a_call(rt, alloc, cluster, *kept, *failing)?,
-            Trial::TwoSessions => hold_beside_an_end(&rt, alloc, cluster)?,
-        }
-        Ok(())
     }
 }
 
-/// Carries the trial out at so many nodes: what the report says then.
+/// Carries the trial out at the cluster.
+fn carry_out<
+    L: Ledger + Send + Sync + 'static,
+    R: Threads + Wait + Clock + Abort + Copy + Send + 'static,
+>(rt: R, alloc: Global, trial: &Trial, cluster: &mut Cluster<L>) -> io::Result<()> {
+    if matches!(trial, Trial::Fetch) {
+        cluster.connect(rt)?;
+    }
+    let node = cluster.node(0).expect(&rt, "a node");
+    match trial {
+        Trial::SixCommands => {
+            six_commands(&rt, alloc, node)?;
+        }
+        Trial::WholeJob => live_on(&rt, node, &six_commands(&rt, alloc, node)?),
+        Trial::Fetch => fetch(&rt, alloc, node, cluster.node(1).expect(&rt, "a node"))?,
+        Trial::FullLink => ask_beside(&rt, alloc, node, cluster.node(1).expect(&rt, "a node"))?,
+        Trial::TwoSessions => two_sessions(&rt, alloc, node)?,
+        Trial::KeptCall(kept, failing) => call_beside(rt, alloc, node, *kept, *failing)?,
+    }
+    Ok(())
+}
+
+/// The same, at a cluster of its own under the name: what the report says then.
 fn try_at<
     L: Ledger + Send + Sync + 'static,
     R: Threads + Wait + Clock + Abort + Copy + Send + 'static,
->(rt: R, alloc: Global, nodes: u32, trial: &Trial, blank: Blank) -> io::Result<Report>
+>(rt: R, alloc: Global, trial: &Trial, nodes: u32, blank: Blank) -> io::Result<Report>
     requires name { blank.name ≡ L.name }
     requires parts { blank.parts ≡ L.parts }
     requires count { blank.parts ≡ nodes }
 {
     let (_book, seats) = blank.open::<L>();
     let mut cluster = Cluster::start(alloc, nodes, 1024, seats, NoPause)?;
-    trial.carry_out(rt, alloc, &mut cluster)?;
-    Ok(cluster.close(&rt, Vec::new(alloc)))
+    let carried_out = carry_out(rt, alloc, trial, &mut cluster);
+    let report = cluster.close(&rt, Vec::new(alloc));
+    carried_out?;
+    Ok(report)
 }
 
 /// The same, under a new name.
@@ -78,5 +90,5 @@ pub(crate) fn try_out<R: Threads + Wait + Clock + Abort + Copy + Send + 'static>
 ) -> io::Result<Report> {
     let nodes = trial.nodes();
     let blank = Blank::new(u64::from(nodes));
-    try_at::<Brand, R>(rt, alloc, nodes, trial, blank)
+    try_at::<Brand, R>(rt, alloc, trial, nodes, blank)
 }
