@@ -7,6 +7,7 @@ pub mod Spread
 pub mod Gaps
 pub mod Shortest
 pub mod Needed
+pub mod Once
 pub mod Spills
 pub mod Counted
 pub mod Described

@@ -1,6 +1,8 @@
 //! The order of use of a job that has copies.
-ghost use Rattle.std.specs.Prelude.{◌≡◌, ◌≢◌, ◌<◌, Bool, [], ◌∷◌, true, false, IfOk, OnOk, OnErr, IsOk, length};
+ghost use Rattle.std.specs.Prelude.{◌≡◌, ◌≢◌, ℕ, ◌+◌, ◌<◌, ◌≤◌, Bool, [], ◌∷◌, true, false, not, map, IfOk, OnOk, OnErr, IsOk, length};
 ghost use Rattle.obj_id.specs.declared.ids.ObjectId.{ObjectId};
+ghost use Rattle.private_store.specs.Kept.{IsOrderOfUse};
+ghost use Rattle.private_store.specs.Limits.{most_works};
 ghost use Rattle.private_store.specs.Tables.{is_among};
 ghost use Rattle.lru_evictor.specs.declared.facts.Standing.{Standing};
 ghost use Rattle.private_store.specs.Shape.{Shape};
@@ -85,6 +87,21 @@ impl JobOrder {
         } else {
             self.add(alloc, id)
         }
+    }
+
+    /// Makes the id the most recently used, if it isn't there; its copy lies nowhere, and no walk chooses it. Gives whether it wasn't.
+    pub(crate) fn enter_new(&mut self, alloc: Global, id: ObjectId) -> Result<bool, AllocError>
+        ensures entered { IfOk result (λ entered. entered ≡ not (is_among (ids_of self.old) id)) }
+        ensures ids { IfOk result (λ entered. entered ≡ true → ids_of self.new ≡ last_used id (ids_of self.old)) }
+        ensures standings { IfOk result (λ entered. entered ≡ true → (test : ObjectId → Standing → Bool) → OthersPass id test self.old → test id nowhere ≡ true → AllPass test self.new) }
+        ensures same { IfOk result (λ entered. entered ≡ false → self.new ≡ self.old) }
+        ensures err { OnErr result (self.new ≡ self.old) }
+    {
+        if self.has(&id) {
+            return Ok(false);
+        }
+        self.add(alloc, id)?;
+        Ok(true)
     }
 
     /// Adds an id that isn't there, as the most recently used. The error is out of memory, or that there are 2^62 - 1 ids.
@@ -202,8 +219,11 @@ impl JobOrder {
 
     /// Where the copies lie and how they were used.
     pub(crate) fn index(&self) -> &Index
-        ensures { HasIndex result.now self.now }
+        ensures index { HasIndex result.now self.now }
+        ensures once { IsOrderOfUse (map (λ u. u.id) result.now.0) }
     {
+        // that no id is there twice is what the proof needs
+        let _count = self.cache.len();
         &self.index
     }
 
@@ -218,6 +238,7 @@ impl JobOrder {
         ensures plan { (store : Shape) → 0 < len → is_room_without window.now (C.facts copies.now) len [] ≡ false → IsOfCopies self.old (C.facts copies.now) → IsDescribed store window.now device (C.facts copies.now)
             → result ≡ kind_of (room_plan (ids_of self.old) store len) }
         ensures needed { result ≢ found.Fits }
+        ensures left { (k : ℕ) → result ≡ found.Spill k → k + device.works ≤ most_works }
         ensures same { self.new ≡ self.old }
     {
         plan_over(&mut self.index, len, device, window, copies)

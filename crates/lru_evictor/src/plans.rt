@@ -1,10 +1,13 @@
 //! The plan for room.
-ghost use Rattle.std.specs.Prelude.{◌≡◌, ◌≢◌, ◌+◌, ◌<◌, ◌≤◌, ℕ, List, [], take, length, true, false, nat_lt, IfOk, IfSome};
+ghost use Rattle.std.specs.Prelude.{◌≡◌, ◌≢◌, ◌+◌, ◌<◌, ◌≤◌, ℕ, List, [], take, map, length, true, false, nat_lt, IfOk, IfSome};
+ghost use Rattle.std.specs.List.{list_all};
 ghost use Rattle.std.specs.Option.{option_map};
-ghost use Rattle.use_tree.specs.declared.choices.Choice.TheVariants.{Spillable};
+ghost use Rattle.use_tree.specs.declared.choices.Choice.TheVariants.{Evictable, Spillable};
 ghost use Rattle.augmented_tree.specs.Lists.{AllOf};
 ghost use Rattle.obj_id.specs.declared.ids.ObjectId.{ObjectId};
 ghost use Rattle.private_store.specs.Extents.{rounded as rounded_lem};
+ghost use Rattle.private_store.specs.Kept.{IsOrderOfUse};
+ghost use Rattle.private_store.specs.Limits.{most_works};
 ghost use Rattle.private_store.specs.Shape.{Shape};
 ghost use Rattle.private_store.specs.Room.{plan as room_plan};
 ghost use Rattle.job_region.specs.Region.{Region, extents_of};
@@ -12,7 +15,7 @@ ghost use Rattle.job_region.specs.Layout.{LaidFrom};
 ghost use Rattle.extent_tree.specs.Residents.{staying, span_of, has_gap as has_gap_lem};
 ghost use Rattle.lru_evictor.specs.declared.facts.Standing.{Standing};
 ghost use Rattle.lru_evictor.specs.declared.facts.Plan.TheVariants as found;
-ghost use Rattle.lru_evictor.specs.Facts.{Looked, bytes_at, device_bytes, fits_without as is_room_without};
+ghost use Rattle.lru_evictor.specs.Facts.{Looked, bytes_at, device_bytes, passes_at, fits_without as is_room_without};
 ghost use Rattle.lru_evictor.specs.Indexed.{HasIndex, chosen_ids};
 ghost use Rattle.lru_evictor.specs.Orders.{ids_of};
 ghost use Rattle.lru_evictor.specs.Plans.{IsDescribed, IsOfCopies, kind_of, listed, spills_here};
@@ -48,6 +51,7 @@ impl UseOrder {
         ensures plan { (store : Shape) → IsOfCopies self.old (C.facts copies.now) → IsDescribed store window.now device (C.facts copies.now)
             → result ≡ kind_of (room_plan (ids_of self.old) store len) }
         ensures room { result ≡ found.Fits → is_room_without window.now (C.facts copies.now) len [] ≡ true }
+        ensures left { (k : ℕ) → result ≡ found.Spill k → k + device.works ≤ most_works }
         ensures same { self.new ≡ self.old }
     {
         if window.search(len).0.is_some() {
@@ -74,6 +78,8 @@ impl UseOrder {
         ensures plan { IfOk result (λ ids. (store : Shape) (device : DeviceRoom) → IsOfCopies self.now (C.facts copies.now) → IsDescribed store window.now device (C.facts copies.now)
             → kind_of (room_plan (ids_of self.now) store len) ≡ found.Evict → ids ≡ listed (room_plan (ids_of self.now) store len)) }
         ensures room { IfOk result (λ ids. 0 < length ids → is_room_without window.now (C.facts copies.now) len ids ≡ true) }
+        ensures evictable { IfOk result (λ ids. list_all (passes_at (C.facts copies.now) Evictable) ids ≡ true) }
+        ensures once { IfOk result (λ ids. IsOrderOfUse ids) }
     {
         let Some(order) = &self.cache else {
             return Ok(Items::new(alloc));
@@ -84,8 +90,9 @@ impl UseOrder {
     /// The first so many copies that may be spilled, the least recently used first. The error is out of memory. Takes a descent of
     /// a tree for each.
     pub fn spillable(&self, alloc: Global, count: usize) -> Result<Items<ObjectId>, AllocError>
-        ensures { IfOk result (λ ids. (store : Shape) (window : Region) (device : DeviceRoom) (facts : Looked) (n : ℕ) → IsOfCopies self.now facts → IsDescribed store window device facts
+        ensures listed { IfOk result (λ ids. (store : Shape) (window : Region) (device : DeviceRoom) (facts : Looked) (n : ℕ) → IsOfCopies self.now facts → IsDescribed store window device facts
             → kind_of (room_plan (ids_of self.now) store n) ≡ found.Spill count → ids ≡ listed (room_plan (ids_of self.now) store n)) }
+        ensures few { IfOk result (λ ids. length ids ≤ count) }
     {
         let Some(order) = &self.cache else {
             return Ok(Items::new(alloc));
@@ -106,6 +113,7 @@ pub(crate) fn plan_over<C: CopyLookup>(
     ensures plan { (store : Shape) (order : List (ObjectId × Standing)) → 0 < len → is_room_without window.now (C.facts copies.now) len [] ≡ false → HasIndex index.old order → IsOfCopies order (C.facts copies.now) → IsDescribed store window.now device (C.facts copies.now)
         → result ≡ kind_of (room_plan (ids_of order) store len) }
     ensures needed { result ≢ found.Fits }
+    ensures left { (k : ℕ) → result ≡ found.Spill k → k + device.works ≤ most_works }
     ensures same { index.new ≡ index.old }
 {
     if leaves_room(index, Choice::Evictable, window, len) {
@@ -134,6 +142,7 @@ fn spilling<C: CopyLookup>(
     requires within { IfSome count (λ k. k ≤ length (chosen_ids Spillable 4611686018427387904 index.now.0)) }
     ensures plan { result ≡ kind_of (spills_here device (C.facts copies.now) (option_map (λ k. take k (chosen_ids Spillable 4611686018427387904 index.now.0)) count)) }
     ensures needed { result ≢ found.Fits }
+    ensures left { (k : ℕ) → result ≡ found.Spill k → k + device.works ≤ most_works }
 {
     let Some(count) = count else {
         return Plan::Full;
@@ -208,6 +217,8 @@ fn victims<C: CopyLookup>(
     ensures plan { IfOk result (λ ids. (store : Shape) (order : List (ObjectId × Standing)) (device : DeviceRoom) → HasIndex index.now order → IsOfCopies order (C.facts copies.now) → IsDescribed store window.now device (C.facts copies.now)
         → kind_of (room_plan (ids_of order) store len) ≡ found.Evict → ids ≡ listed (room_plan (ids_of order) store len)) }
     ensures room { IfOk result (λ ids. 0 < length ids → is_room_without window.now (C.facts copies.now) len ids ≡ true) }
+    ensures evictable { IfOk result (λ ids. list_all (passes_at (C.facts copies.now) Evictable) ids ≡ true) }
+    ensures once { IsOrderOfUse (map (λ u. u.id) index.now.0) → IfOk result (λ ids. IsOrderOfUse ids) }
 {
     let candidates = index.candidates(Choice::Evictable);
     match shortest(alloc, candidates, window, copies, len)? {
@@ -220,6 +231,7 @@ fn victims<C: CopyLookup>(
 fn spillable(index: &Index, alloc: Global, count: usize) -> Result<Items<ObjectId>, AllocError>
     ensures all { AllOf (λ u. u.turn < 4611686018427387904) index.now.0 }
     ensures first { IfOk result (λ ids. ids ≡ take count (chosen_ids Spillable 4611686018427387904 index.now.0)) }
+    ensures few { IfOk result (λ ids. length ids ≤ count) }
 {
     let mut ids = Vec::new(alloc);
     for id in index.candidates(Choice::Spillable) {

@@ -1,5 +1,5 @@
 //! The order of use of one job's copies.
-ghost use Rattle.std.specs.Prelude.{◌≡◌, Bool, [], true, OnOk, OnErr, IsOk, length, reverse};
+ghost use Rattle.std.specs.Prelude.{◌≡◌, Bool, [], true, false, not, IfOk, OnOk, OnErr, IsOk, length, reverse};
 ghost use Rattle.std.specs.Map.{keys_of};
 ghost use Rattle.obj_id.specs.declared.refusals.Refusal.{Refusal};
 ghost use Rattle.obj_id.specs.declared.ids.ObjectId.{ObjectId};
@@ -14,7 +14,7 @@ use crate::job_order::JobOrder;
 use extent_tree::{Resident, Room};
 use lru::Iter;
 use obj_id::{ObjectId, Refusal};
-use std::alloc::Global;
+use std::alloc::{AllocError, Global};
 use std::marker::Model;
 
 /// The order of use of one job's copies. A contract sees their ids, most recently used first, each with its copy's standing:
@@ -70,6 +70,23 @@ impl UseOrder {
         let order = JobOrder::first(self.alloc, id)?;
         self.cache = Some(order);
         Ok(())
+    }
+
+    /// Makes the id the most recently used, if it isn't there; its copy lies nowhere, and no walk chooses it. Gives whether it wasn't
+    /// there: what is there stays as it is. The error is out of memory, and then nothing has changed.
+    pub fn enter_new(&mut self, id: ObjectId) -> Result<bool, AllocError>
+        ensures entered { IfOk result (λ entered. entered ≡ not (is_among (ids_of self.old) id)) }
+        ensures ids { IfOk result (λ entered. entered ≡ true → ids_of self.new ≡ last_used id (ids_of self.old)) }
+        ensures standings { IfOk result (λ entered. entered ≡ true → (test : ObjectId → Standing → Bool) → OthersPass id test self.old → test id nowhere ≡ true → AllPass test self.new) }
+        ensures same { IfOk result (λ entered. entered ≡ false → self.new ≡ self.old) }
+        ensures err { OnErr result (self.new ≡ self.old) }
+    {
+        if let Some(order) = &mut self.cache {
+            return order.enter_new(self.alloc, id);
+        }
+        let order = JobOrder::first(self.alloc, id)?;
+        self.cache = Some(order);
+        Ok(true)
     }
 
     /// Makes the id the most recently used, if it is there. Its copy stands so now, but doesn't come to lie anywhere by that:

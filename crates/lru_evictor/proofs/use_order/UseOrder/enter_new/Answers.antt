@@ -1,0 +1,12 @@
+use Rattle.std.proofs.Common.{[], sym, ap, subst, ◌∙◌}
+use Rattle.std.specs.Option.{unwrap_or}
+use Rattle.lru_evictor.specs.Orders.{OthersPass}
+use Rattle.lru_evictor.proofs.Rooms.{ok_then}
+use Rattle.lru_evictor.proofs.use_order.UseOrder.enter_new.Goals as goal
+
+pub returns-in-Some-clause-standings : goal.returns-in-Some-clause-standings
+returns-in-Some-clause-standings c = ok_then (λ entered told new test but here.
+    told new test (subst (OthersPass c.args.id test) (sym c.self.view_is ∙ ap (λ o. unwrap_or o []) c.in-Some.is) but) here) c.enter_new.result c.enter_new.ensures.standings
+
+pub returns-clause-standings : goal.returns-clause-standings
+returns-clause-standings c new test but here = c.in_ok-order.ensures.standings test here
