@@ -12,13 +12,16 @@ ghost use Rattle.node_journal.specs.Journals.{notes_for, begins, fresh, folded_i
 ghost use Rattle.node_journal.specs.Logs.{journal_of, list_of, spare_of, AreBases, has_base, was_kept as was_kept_lem};
 
 use crate::entries::Line;
-use crate::folding::Base;
+use crate::folding::{Base, MOST_LINES};
 use indexmap::IndexMap;
 use node_core::Note;
 use obj_id::{Items, JobNo};
 use plain_store::PlainStore;
 use std::alloc::{AllocError, Global};
 use std::marker::Model;
+
+// the lines that a list has room for from half of what it may have on: all of those, and what is made room for before it is folded
+const FULL_LIST: usize = MOST_LINES + 1_024;
 
 /// The journal of one job.
 #[derive(Drop)]
@@ -54,13 +57,19 @@ impl Log {
         }
     }
 
-    /// Makes room for so many lines more.
+    /// Makes room for so many lines more. A list that is half full has room for all lines at once, and for those of a step before it is
+    /// folded: it would be moved to a place of twice its size for that step alone.
     fn reserve(&mut self, more: usize) -> Result<(), AllocError>
         ensures journal { self.new.journal ≡ self.old.journal }
         ensures spare { self.old.spare ≤ self.new.spare }
         ensures room { OnOk result (more ≤ self.new.spare) }
     {
-        self.lines.reserve(more)
+        let count = self.lines.len();
+        if count < MOST_LINES / 2 {
+            return self.lines.reserve(more);
+        }
+        self.lines
+            .reserve_exact(more.max(FULL_LIST.saturating_sub(count)))
     }
 
     /// Adds a line, for which there is room.
