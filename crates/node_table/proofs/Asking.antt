@@ -1,15 +1,17 @@
 -- A row takes a step where writes are asked for to make room.
-use Rattle.std.proofs.Common.{◌≡◌, ℕ, ◌+◌, ◌-◌, ◌≤◌, ◌<◌, Bool, true, false, not, ◌&&◌, ◌||◌, cond, List, [], ◌∷◌, ◌++◌, map, fold, length, take, Option, Some, None, is_none, option_map, unwrap_or, refl, sym, ap, subst, ◌∙◌, T, arith}
+use Rattle.std.proofs.Common.{◌≡◌, ℕ, ◌+◌, ◌≤◌, Bool, true, false, not, ◌&&◌, ◌||◌, cond, List, [], ◌∷◌, ◌++◌, map, fold, length, take, Option, Some, None, is_none, option_map, unwrap_or, refl, sym, ap, subst, ◌∙◌, T, arith}
 use Rattle.std.specs.Prelude.{find, nat_le, is_ok}
 use Rattle.std.proofs.lemmas.Bool.Decides.{nat_tests}
 use Rattle.std.specs.Option.{option_map_or}
 use Rattle.std.specs.FinMap.Entries.{is_sorted, same_entries, is_sorted-put}
+use Rattle.obj_id.specs.declared.ids.JobNo.{JobNo}
 use Rattle.obj_id.specs.declared.ids.ObjectId.{ObjectId}
 use Rattle.obj_id.specs.declared.works.WorkKind.TheVariants.{Write, Read}
 use Rattle.obj_id.specs.declared.commands.Reply.TheVariants as reply
 use Rattle.obj_id.specs.declared.refusals.Refusal.TheVariants.{Pending}
 use Rattle.obj_id.specs.Ids.{id_cmp, same_id}
 use Rattle.obj_id.proofs.SameIds.{id_cmp-IsTotalOrder, id_cmp-IsAntisymmetric, same_id-equal}
+use Rattle.private_store.specs.Limits.{most_works, has_numbers}
 use Rattle.private_store.specs.Tables.{ById, at, with_entry, is_among}
 use Rattle.private_store.specs.Hands.{Hand}
 use Rattle.private_store.specs.Shape.{Copy, Shape, Change, WorkInFlight}
@@ -27,7 +29,7 @@ use Rattle.private_store.proofs.Tests.{T_true, both, both_left, both_right, some
 use Rattle.job_region.specs.Region.{bytes_at as placed_bytes}
 use Rattle.lru_evictor.specs.Orders.{AreThere}
 use Rattle.lru_evictor.proofs.Reorders.{reordered-unused}
-use Rattle.spill_work.specs.Line.{WorkLine, works_of, numbered_works, room_for, AsksAll}
+use Rattle.spill_work.specs.Line.{WorkLine, numbered_works, in_flight, used_by, room_for, AsksAll}
 use Rattle.node_table.specs.Entries.{changed, each_changed}
 use Rattle.node_table.specs.Kept.{Kept, can_spill, spilling, spilling_if}
 use Rattle.node_table.specs.Row.{Row, Beside, beside_of, copies_of, shape_of}
@@ -170,16 +172,12 @@ work_asked last (id ∷ ids) q = by (same_id q id) (work_asked (last + 1) ids q)
     by true rest = refl
     by false rest = rest
 
--- a plan asks for no more works than there may be
-pub may_ask : (row : Row) (line : WorkLine) (hands : List Hand) (bytes : ObjectId → List ℕ) (n : ℕ) (ids : List ObjectId)
-    → AsksWrites (make_room row.order (shape_of row (beside_of line hands bytes row.job)) n) (shape_of row (beside_of line hands bytes row.job)) ids → room_for line (record { 0 = row.job }) (length ids) ≡ true
-may_ask row line hands bytes n ids asks =
-    let some = asks.some in
-    let few = asks.few in
-    both _ _ (fits (length (works_of line (record { 0 = row.job }))) (length ids) some few) asks.numbers
-  where
-    fits : (flying asked : ℕ) → 0 < asked → asked ≤ 8 - flying → nat_le (flying + asked) 8 ≡ true
-    fits flying asked some few = let le : flying + asked ≤ 8 = omega (arith, some, few) in grind (arith, nat_tests, le)
+-- where so many works may be asked for fewer may be
+pub may_ask_fewer : (line : WorkLine) (job : JobNo) (n few : ℕ) → few ≤ n → room_for line job n ≡ true → room_for line job few ≡ true
+may_ask_fewer line job n few le may =
+    let within : nat_le (in_flight line job + n) most_works ≡ true = both_left (nat_le (in_flight line job + n) most_works) _ may in
+    let numbers : has_numbers (used_by line job) n ≡ true = both_right (nat_le (in_flight line job + n) most_works) _ may in
+    both (nat_le (in_flight line job + few) most_works) _ (grind (arith, nat_tests, le, within)) (grind (arith, nat_tests, le, numbers))
 
 -- ---- the step
 

@@ -1,17 +1,14 @@
 -- How many copies a plan can take: each is another one.
-use Rattle.std.proofs.Common.{◌≡◌, suc, ◌+◌, ◌≤◌, Bool, true, false, not, cond, List, [], ◌∷◌, length, Option, Some, None, is_some, refl, sym, ap, ◌∙◌, arith}
+use Rattle.std.proofs.Common.{◌≡◌, suc, ◌+◌, ◌≤◌, Bool, true, false, not, cond, List, [], ◌∷◌, length, Some, None, is_some, refl, sym, ap, ◌∙◌, arith}
 use Rattle.std.specs.List.{list_all, count_by}
-use Rattle.std.specs.Option.{option_map_or}
 use Rattle.obj_id.specs.declared.ids.ObjectId.{ObjectId}
 use Rattle.obj_id.specs.Ids.{same_id}
 use Rattle.obj_id.proofs.SameIds.{same_id-itself}
 use Rattle.private_store.specs.Tables.{ById, at, without_entry}
 use Rattle.private_store.specs.Kept.{IsOrderOfUse}
-use Rattle.private_store.specs.Shape.{Copy, Shape}
 use Rattle.private_store.proofs.Rows.{at-drop}
 use Rattle.private_store.proofs.KeptLists.{length-filter-le, count-cons, count-yes}
 use Rattle.private_store.proofs.Tests.{both, both_left, both_right, true_false}
-use Rattle.node_table.specs.RoomPlans.{all_pass}
 
 module _ {X : Type 0} where
   -- an entry less
@@ -57,12 +54,3 @@ module _ {X : Type 0} where
 
       tail : IsOrderOfUse ids
       tail q = let e = count-cons (same_id q) id ids in let le = once q in omega (arith, e, le)
-
--- copies that pass a test are there
-pub passing_there : (store : Shape) (test : ObjectId → Copy → Bool) (ids : List ObjectId) → all_pass store test ids ≡ true → list_all (λ q. is_some (at store.copies q)) ids ≡ true
-passing_there store test [] h = refl
-passing_there store test (q ∷ ids) h = both _ _ (here (at store.copies q) (both_left (option_map_or (test q) (at store.copies q) false) _ h)) (passing_there store test ids (both_right (option_map_or (test q) (at store.copies q) false) _ h))
-  where
-    here : (o : Option Copy) → option_map_or (test q) o false ≡ true → is_some o ≡ true
-    here None t = true_false t
-    here (Some copy) t = refl

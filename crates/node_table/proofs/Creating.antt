@@ -108,8 +108,12 @@ module _ (node : ℕ) (row : Row) (beside : Beside) (contents : Contents) (sessi
     absent = absent_of row id n passed
 
     -- what has no copy isn't in the order of use
-    pub not_listed : is_among row.order id ≡ true → ⊥
-    not_listed among = true_false (sym (ap is_some (at-copies_none row.copies id absent)) ∙ each_among (λ q. is_some (at (copies_of row.copies) q)) row.order h.there id among)
+    pub unlisted : is_among row.order id ≡ false
+    unlisted = by (is_among row.order id) refl
+      where
+        by : (b : Bool) → is_among row.order id ≡ b → b ≡ false
+        by false among = refl
+        by true among = true_false (sym (ap is_some (at-copies_none row.copies id absent)) ∙ each_among (λ q. is_some (at (copies_of row.copies) q)) row.order h.there id among)
 
     module _ (victims : List ObjectId) (makes : MakesPlace (make_room row.order s n) s n victims) (stays : is_among victims id ≡ false) where
       module _ (placed : ArePlaced row.window.placed (place_of row.copies)) (offset : ℕ) (least : first (extents_of (placed_without row victims)) row.window.quota n ≡ Some offset) (free : lookup (nat_eq offset) (placed_without row victims) ≡ None) where

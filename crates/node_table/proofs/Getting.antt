@@ -44,6 +44,11 @@ pub each_ok : {T E : Type 0} {P Q : T → Type 0} (r : Result T E) → ((t : T) 
 each_ok (Ok t) f h = f t h
 each_ok (Err e) f h = tt
 
+-- the same, of two things
+pub ok_both : {T E : Type 0} {P Q R : T → Type 0} (r : Result T E) → ((t : T) → P t → Q t → R t) → IfOk r P → IfOk r Q → IfOk r R
+ok_both (Ok t) f p q = f t p q
+ok_both (Err e) f p q = tt
+
 -- what is so of each error
 pub always_err : {T E : Type 0} {P : Type 0} (r : Result T E) → P → OnErr r P
 always_err (Ok t) p = tt

@@ -55,3 +55,4 @@ pub mod Notes
 pub mod Peeking
 pub mod Granting
 pub mod FollowsCopies
+pub mod Placeless

@@ -171,6 +171,27 @@ asks-kind used failed (kind.Spill count) n e = by failed (has_numbers used count
     by false true e = ap (λ p. kind.Spill (count_of p)) e
     by false false e = absurd cc
 
+-- and they are no more than there are numbers for
+pub asks-numbers : (used : ℕ) (failed : Bool) (k : Kind) (n : ℕ) → by_kind used failed k ≡ Ask n → has_numbers used n ≡ true
+asks-numbers used failed kind.Fits n e = absurd cc
+asks-numbers used failed kind.Evict n e = absurd cc
+asks-numbers used failed kind.Wait n e = absurd cc
+asks-numbers used failed kind.Full n e = absurd cc
+asks-numbers used failed kind.Busy n e = absurd cc
+asks-numbers used failed (kind.Spill count) n e = by failed (has_numbers used count) refl e
+  where
+    count_of : RoomPlan → ℕ
+    count_of (Ask c) = c
+    count_of Fits = count
+    count_of Evict = count
+    count_of TellFailedSpill = count
+    count_of (Refuse r) = count
+
+    by : (f fine : Bool) → has_numbers used count ≡ fine → cond f TellFailedSpill (cond fine (Ask count) (Refuse TooMany)) ≡ Ask n → has_numbers used n ≡ true
+    by true fine is e = absurd cc
+    by false true is e = ap (λ p. has_numbers used (count_of p)) (sym e) ∙ is
+    by false false is e = absurd cc
+
 -- what room does is what is planned for it
 pub planned : (row : Row) (beside : Beside) (contents : Contents) → IsShown row beside contents → (n : ℕ)
     → IsPlanned (make_room row.order (shape_of row beside) n) (shape_of row beside) n (planned_by row.order (shape_of row beside) n) (listed (plan row.order (shape_of row beside) n))

@@ -1,5 +1,5 @@
 -- A copy whose bytes are asked for at their source, in a place that is made for it.
-use Rattle.std.proofs.Common.{◌≡◌, ℕ, nat_le, Bool, true, false, not, ◌&&◌, cond, ◌==◌, nat_eq, List, [], ◌∷◌, ◌++◌, filter, map, length, ◌+◌, ◌<◌, ◌≤◌, nat_lt, Option, Some, None, is_some, is_none, option_map, unwrap_or, Ok, refl, sym, ap, ◌∙◌, arith}
+use Rattle.std.proofs.Common.{◌≡◌, ℕ, nat_le, true, false, not, ◌&&◌, cond, ◌==◌, nat_eq, List, [], ◌∷◌, ◌++◌, filter, map, length, ◌+◌, ◌<◌, ◌≤◌, nat_lt, Option, Some, None, is_none, option_map, unwrap_or, Ok, refl, sym, ap, ◌∙◌, arith}
 use Rattle.std.specs.Map.{lookup}
 use Rattle.obj_id.specs.declared.commands.CopyState.{CopyState}
 use Rattle.obj_id.specs.declared.commands.CopyState.TheVariants.{Fetching}
@@ -38,7 +38,7 @@ use Rattle.private_store.specs.Extents.{rounded, first, is_size}
 use Rattle.private_store.specs.Limits.{longest_object}
 use Rattle.obj_id.specs.declared.works.Extent.{Extent}
 use Rattle.private_store.proofs.Tests.{both, both_left, both_right, true_false, none_some}
-use Rattle.node_table.specs.Evicting.{used_last, has_secondary, all_evicted, removals, placed_without, fits_without, replaced}
+use Rattle.node_table.specs.Evicting.{used_last, has_secondary, all_evicted, removals, placed_without, replaced}
 use Rattle.node_table.specs.Kept.{Kept, is_unasked, is_sealed_at, waits_for_place, with_chunks, pulled, placed_for}
 use Rattle.node_table.specs.declared.copy.Awaited.{Awaited}
 use Rattle.node_table.specs.declared.copy.Awaited.TheVariants.{Chunks, Device}
@@ -109,25 +109,6 @@ pub unsealed_visible : (copies : ById Kept) (id : ObjectId) (state : CopyState) 
 unsealed_visible copies id state other visible =
     let v = some_at copies id state visible in
     ap (λ o. option_map_or (λ (k : Kept). is_sealed k.copy.state) o false) v.found ∙ ap is_sealed v.is ∙ other
-
--- what fits is no victim
-pub stays_of : (row : Row) (id : ObjectId) (n : ℕ) (victims : List ObjectId) → fits_without row id n victims ≡ true → is_among victims id ≡ false
-stays_of row id n victims fits = by (is_among victims id) refl (both_left (not (is_among victims id)) _ fits)
-  where
-    by : (b : Bool) → is_among victims id ≡ b → not (is_among victims id) ≡ true → is_among victims id ≡ false
-    by false t e = t
-    by true t e = true_false (sym (ap not t) ∙ e)
-
--- there are no more victims than copies
-pub few_of : (row : Row) (id : ObjectId) (n : ℕ) (victims : List ObjectId) → fits_without row id n victims ≡ true → length victims ≤ length row.copies
-few_of row id n victims fits =
-    let few : nat_le (length victims) (length row.copies) ≡ true = both_left (nat_le (length victims) (length row.copies)) _ (both_right (not (is_among victims id)) _ fits) in
-    grind (arith, nat_tests, few)
-
--- and has a place
-pub place_there : (row : Row) (id : ObjectId) (n : ℕ) (victims : List ObjectId) → fits_without row id n victims ≡ true → is_some (first (extents_of (placed_without row victims)) row.window.quota n) ≡ true
-place_there row id n victims fits =
-    both_right (is_size row.window.quota n) _ (both_right (nat_le (length victims) (length row.copies)) _ (both_right (not (is_among victims id)) _ fits))
 
 -- ---- a fetch whose source is known
 

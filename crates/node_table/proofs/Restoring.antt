@@ -166,11 +166,10 @@ few_works line j job own few =
     let here : in_flight line (record { 0 = job }) < most_works = subst (λ j. in_flight line j < most_works) own few in
     grind (arith, nat_tests, here)
 
-pub may_ask : (line : WorkLine) (j own : JobNo) → j ≡ own → in_flight line own < most_works → has_numbers (used_by line own) 1 ≡ true → ask_check line j ≡ None
-may_ask line j own is few numbers =
-    let free : nat_le most_works (in_flight line own) ≡ false = grind (arith, nat_tests, few) in
-    subst (λ j. ask_check line j ≡ None) (sym is)
-    (ap (λ b. cond b (Some Busy) (cond (has_numbers (used_by line own) 1) None (Some TooMany))) free ∙ ap (λ b. cond b None (Some TooMany)) numbers)
+pub may_ask : (line : WorkLine) (job : JobNo) → in_flight line job < most_works → has_numbers (used_by line job) 1 ≡ true → ask_check line job ≡ None
+may_ask line job few numbers =
+    let free : nat_le most_works (in_flight line job) ≡ false = grind (arith, nat_tests, few) in
+    ap (λ b. cond b (Some Busy) (cond (has_numbers (used_by line job) 1) None (Some TooMany))) free ∙ ap (λ b. cond b None (Some TooMany)) numbers
 
 pub all_works : (line : WorkLine) (j : JobNo) (job : ℕ) → j ≡ record { 0 = job } → most_works ≤ in_flight line j → (most_works - in_flight line (record { 0 = job }) == 0) ≡ true
 all_works line j job own many =
@@ -196,6 +195,10 @@ has_asked old new j number id asks = record {
   works = asks.works ∙ ap (λ m. old.works ++ record { asked = record { job = j; number = m; id = id; kind = Read }; taken = false } ∷ []) asks.number;
   own_works = asks.own_works ∙ ap (λ m. works_of old j ++ record { number = m; id = id; writes = false } ∷ []) asks.number;
 }
+
+-- nothing was asked for
+pub asked_nothing : (line : WorkLine) (job : JobNo) → HasAsked line job line
+asked_nothing line job = record { kind = Read; ids = []; works = sym (append-nil line.works); own_works = sym (append-nil (works_of line job)) }
 
 -- what is away has bytes, and no more than the longest
 pub sized_away : (row : Row) (beside : Beside) (contents : Contents) (h : IsShown row beside contents) (id : ObjectId) (k : Kept) → at row.copies id ≡ Some k → k.copy.state ≡ Away → (0 < k.copy.length) × (k.copy.length ≤ longest_object)

@@ -29,35 +29,35 @@ use Rattle.private_store.specs.Shape.{Copy, Shape, Change, Sending, WorkInFlight
 use Rattle.private_store.specs.Copies.{extent_of, is_sealed, was_sealed, is_evictable, is_idle, device_used}
 use Rattle.private_store.specs.Room.{Room, make_room, offset_without, no_room, evict_room, evicted}
 use Rattle.private_store.specs.Change.{refused, sending, erasing, in_room}
-use Rattle.private_store.specs.Kept.{has_hand}
+use Rattle.private_store.specs.Kept.{IsOrderOfUse, has_hand}
 use Rattle.private_store.specs.Contents.{Contents, View, judge, keeps_digest, no_digest, whole_reply, brought, is_sized}
 use Rattle.private_store.specs.Private.{Post, key_of, posts_of, to_directory, view_after}
 use Rattle.private_store.specs.Step.{step, reordered, is_used}
 use Rattle.private_store.proofs.Filling.{filled}
-use Rattle.private_store.proofs.KeptLists.{any-filter}
+use Rattle.private_store.proofs.KeptLists.{any-filter, all_weaker}
 use Rattle.private_store.proofs.RefusingLemmas.{keys_none, all_found}
 use Rattle.private_store.proofs.Rows.{at-put}
 use Rattle.private_store.proofs.Tests.{T_true, both, both_left, both_right, or_left, or_right, some_value, none_some, true_false}
 use Rattle.job_region.specs.Region.{bytes_at as placed_bytes, extents_of}
 use Rattle.job_region.proofs.Places.{lookup-put_in}
+use Rattle.lru_evictor.specs.declared.facts.CopyFacts.{CopyFacts}
 use Rattle.lru_evictor.specs.Orders.{AreThere}
 use Rattle.lru_evictor.specs.declared.facts.DeviceRoom.{DeviceRoom}
 use Rattle.lru_evictor.proofs.Described.{offset-described}
 use Rattle.lru_evictor.proofs.Reorders.{reordered-unused}
 use Rattle.node_table.specs.Entries.{changed}
-use Rattle.node_table.specs.Evicting.{has_secondary, evicted_one, all_evicted, removals, placed_without, fits_without, replaced}
+use Rattle.node_table.specs.Evicting.{has_secondary, evicted_one, all_evicted, removals, placed_without, has_place, MayGo, replaced}
 use Rattle.node_table.specs.Kept.{Kept, unplaced, is_sealed_at}
 use Rattle.node_table.specs.MadeRooms.{BringsNothing, TellsRoom}
-use Rattle.node_table.specs.RoomPlans.{MakesPlace}
+use Rattle.node_table.specs.RoomPlans.{MakesPlace, facts_of, is_idle as is_idle_here}
 use Rattle.node_table.specs.Row.{Row, Beside, copies_of, shape_of, place_of, ArePlaced}
 use Rattle.node_table.specs.Shown.{seen, work_on, IsShown, Given, only, TakesStep}
 use Rattle.node_table.proofs.ByChecks.{sending-is}
 use Rattle.node_table.proofs.Changes.{changed-found, changed-absent}
 use Rattle.node_table.proofs.CopyTables.{sorted-copies, at-copies, at-copies_found, copies-with}
-use Rattle.node_table.proofs.Counting.{length-once, passing_there}
+use Rattle.node_table.proofs.Counting.{length-once}
 use Rattle.node_table.proofs.Described.{described, facts_at}
 use Rattle.node_table.proofs.Evicting.{CanGo, evicted_of, at-evicted, store_evicted, evictions_told, none_erased}
-use Rattle.node_table.proofs.Fetching.{length-map}
 use Rattle.node_table.proofs.Replacing.{Stands, stands, at_now, id_now, found_still}
 use Rattle.node_table.proofs.Stepping.{Moves, moved, stays, same_bytes, received_stays}
 
@@ -160,6 +160,37 @@ first_within es window n p e =
     let inside : nat_le (p + rounded n) window ≡ true = both_left (nat_le (p + rounded n) window) _ (first-free es window n p e) in
     grind (arith, nat_tests, inside)
 
+-- what may be evicted is sealed, and each copy is named once
+module _ (copies : ById Kept) where
+  is_sealed_there : (q : ObjectId) → option_map_or (λ (f : CopyFacts). f.evictable) (option_map facts_of (at copies q)) false ≡ true → is_sealed_at copies q ≡ true
+  is_sealed_there q = by (at copies q)
+    where
+      by : (o : Option Kept) → option_map_or (λ (f : CopyFacts). f.evictable) (option_map facts_of o) false ≡ true → option_map_or (λ (k : Kept). is_sealed k.copy.state) o false ≡ true
+      by None t = t
+      by (Some k) t = both_left (is_sealed k.copy.state) (is_idle_here k) (both_left (is_sealed k.copy.state && is_idle_here k) _ t)
+
+  is_there : (q : ObjectId) → option_map_or (λ (f : CopyFacts). f.evictable) (option_map facts_of (at copies q)) false ≡ true → is_some (at copies q) ≡ true
+  is_there q = by (at copies q)
+    where
+      by : (o : Option Kept) → option_map_or (λ (f : CopyFacts). f.evictable) (option_map facts_of o) false ≡ true → is_some o ≡ true
+      by None t = true_false t
+      by (Some k) t = refl
+
+  pub may_go : (victims : List ObjectId) → list_all (λ q. option_map_or (λ (f : CopyFacts). f.evictable) (option_map facts_of (at copies q)) false) victims ≡ true → IsOrderOfUse victims → MayGo copies victims
+  may_go victims evictable once =
+      record {
+        sealed = all_weaker (λ q. option_map_or (λ (f : CopyFacts). f.evictable) (option_map facts_of (at copies q)) false) (is_sealed_at copies) victims is_sealed_there evictable;
+        few = length-once victims copies once (all_weaker (λ q. option_map_or (λ (f : CopyFacts). f.evictable) (option_map facts_of (at copies q)) false) (λ q. is_some (at copies q)) victims is_there evictable);
+      }
+
+-- what isn't sealed isn't among them
+pub stays_of : (copies : ById Kept) (victims : List ObjectId) (id : ObjectId) → MayGo copies victims → is_sealed_at copies id ≡ false → is_among victims id ≡ false
+stays_of copies victims id go unsealed = by (is_among victims id) refl
+  where
+    by : (b : Bool) → is_among victims id ≡ b → b ≡ false
+    by false among = refl
+    by true among = sym (each_among (is_sealed_at copies) victims go.sealed id among) ∙ unsealed
+
 -- where a plan makes a place for n bytes
 module _ (row : Row) (beside : Beside) (contents : Contents) (h : IsShown row beside contents) (n : ℕ) (victims : List ObjectId)
     (makes : MakesPlace (make_room row.order (shape_of row beside) n) (shape_of row beside) n victims) where
@@ -181,26 +212,6 @@ module _ (row : Row) (beside : Beside) (contents : Contents) (h : IsShown row be
         backed = λ p. ap (λ b. not b || is_some k.copy.backed) (sym p) ∙ both_right (is_sealed k.copy.state && is_idle st q k.copy) _ evictable;
       }
 
-  -- what can't be evicted is no victim
-  pub no_victim : (id : ObjectId) → option_map_or (is_evictable st id) (at st.copies id) false ≡ false → is_among victims id ≡ false
-  no_victim id stays = by (is_among victims id) refl
-    where
-      by : (b : Bool) → is_among victims id ≡ b → b ≡ false
-      by false t = refl
-      by true t = sym (each_among (λ q. option_map_or (is_evictable st q) (at st.copies q) false) victims makes.evictable id t) ∙ stays
-
-  -- and there are no more victims than copies
-  pub few_victims : length victims ≤ length row.copies
-  few_victims = subst (λ n. length victims ≤ n) (length-map {B = ObjectId × Copy} (λ e. (e.0, e.1.copy)) row.copies) (length-once victims st.copies makes.once (passing_there st (is_evictable st) victims makes.evictable))
-
-  -- what isn't sealed can't be evicted
-  unsealed_stays : (id : ObjectId) → is_sealed_at row.copies id ≡ false → option_map_or (is_evictable st id) (at st.copies id) false ≡ false
-  unsealed_stays id unsealed = ap (λ o. option_map_or (is_evictable st id) o false) (at-copies row.copies id) ∙ by (at row.copies id) unsealed
-    where
-      by : (o : Option Kept) → option_map_or (λ (k : Kept). is_sealed k.copy.state) o false ≡ false → option_map_or (is_evictable st id) (option_map (λ (k : Kept). k.copy) o) false ≡ false
-      by None t = refl
-      by (Some k) t = ap (λ b. b && is_idle st id k.copy && (not (is_primary k.copy.kind) || is_some k.copy.backed)) t
-
   can : CanGo victims row.copies
   can q k among found primary =
       let g = goes q k among found in
@@ -217,18 +228,12 @@ module _ (row : Row) (beside : Beside) (contents : Contents) (h : IsShown row be
     pub same_place : first (extents_of (placed_without row victims)) row.window.quota n ≡ offset_without st n victims
     same_place = offset-described st row.window device (facts_at row.copies) (described row beside contents h placed device refl refl refl) n victims
 
-    -- an object of a size that isn't sealed fits there
-    pub fits_there : (id : ObjectId) → is_sealed_at row.copies id ≡ false → 0 < n → n ≤ longest_object → fits_without row id n victims ≡ true
-    fits_there id unsealed some small =
-        both (not (is_among victims id)) _ (ap not (no_victim id (unsealed_stays id unsealed)))
-        (both (nat_le (length victims) (length row.copies)) _ few_enough
-        (both (is_size row.window.quota n) _ (size_is (first (extents_of (placed_without row victims)) row.window.quota n) refl there) there))
+    -- an object of a size has a place there
+    pub place_there : 0 < n → n ≤ longest_object → has_place row n victims ≡ true
+    place_there some small = both (is_size row.window.quota n) _ (size_is (first (extents_of (placed_without row victims)) row.window.quota n) refl there) there
       where
         there : is_some (first (extents_of (placed_without row victims)) row.window.quota n) ≡ true
         there = ap is_some same_place ∙ makes.place
-
-        few_enough : nat_le (length victims) (length row.copies) ≡ true
-        few_enough = grind (arith, nat_tests, few_victims)
 
         size_is : (o : Option ℕ) → first (extents_of (placed_without row victims)) row.window.quota n ≡ o → is_some o ≡ true → is_size row.window.quota n ≡ true
         size_is None e t = true_false t

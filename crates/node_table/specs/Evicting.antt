@@ -1,5 +1,6 @@
 -- A row in which copies were evicted, and one took a place.
-use Rattle.std.specs.Prelude.{◌≡◌, ℕ, ◌+◌, ◌^◌, ◌<◌, nat_eq, nat_le, Bool, false, not, ◌&&◌, if◌then◌else◌, List, length, ◌++◌, replicate, filter, flat_map, fold, Option, Some, None, is_none, is_some, option_to_list}
+use Rattle.std.specs.Prelude.{◌≡◌, ℕ, ◌+◌, ◌^◌, ◌<◌, ◌≤◌, nat_eq, Bool, true, false, not, ◌&&◌, if◌then◌else◌, List, length, ◌++◌, replicate, filter, flat_map, fold, Option, Some, None, is_none, is_some, option_to_list}
+use Rattle.std.specs.List.{list_all}
 use Rattle.std.specs.Option.{option_map, option_map_or}
 use Rattle.std.specs.Map.{lookup}
 use Rattle.obj_id.specs.declared.ids.ObjectId.{ObjectId}
@@ -13,7 +14,7 @@ use Rattle.private_store.specs.Step.{is_used}
 use Rattle.job_region.specs.Region.{put_in, without, extents_of}
 use Rattle.lru_evictor.specs.Facts.{gone_of}
 use Rattle.node_table.specs.Entries.{changed}
-use Rattle.node_table.specs.Kept.{Kept, unplaced}
+use Rattle.node_table.specs.Kept.{Kept, unplaced, is_sealed_at}
 use Rattle.node_table.specs.RoomPlans.{facts_of}
 use Rattle.node_table.specs.Row.{Row}
 
@@ -54,10 +55,14 @@ extents_gone row victims = gone_of (λ id. option_map facts_of (at row.copies id
 abbrev pub placed_without : Row → List ObjectId → List (ℕ × List ℕ)
 placed_without row victims = without (extents_gone row victims) row.window.placed
 
--- whether the object, of n bytes, has a place once these copies are evicted: it is none of them
-abbrev pub fits_without : Row → ObjectId → ℕ → List ObjectId → Bool
-fits_without row id n victims =
-    not (is_among victims id) && (nat_le (length victims) (length row.copies) && (is_size row.window.quota n && is_some (first (extents_of (placed_without row victims)) row.window.quota n)))
+-- whether an object of n bytes has a place once these copies are evicted
+abbrev pub has_place : Row → ℕ → List ObjectId → Bool
+has_place row n victims = is_size row.window.quota n && is_some (first (extents_of (placed_without row victims)) row.window.quota n)
+
+-- these ids are of sealed copies, and no more than there are
+pub record MayGo (copies : ById Kept) (victims : List ObjectId) : Type 0 where
+  pub sealed : list_all (is_sealed_at copies) victims ≡ true
+  pub few : length victims ≤ length copies
 
 -- the copies then
 abbrev pub copies_replaced : Row → ObjectId → Kept → List ObjectId → ById Kept

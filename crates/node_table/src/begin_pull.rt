@@ -15,7 +15,7 @@ ghost use Rattle.node_table.specs.Outcomes.{given_of};
 ghost use Rattle.std.specs.Option.{option_map_or};
 ghost use Rattle.std.specs.Prelude.{unwrap_or};
 ghost use Rattle.obj_id.specs.declared.messages.PeerMessage.TheVariants.{Pull};
-ghost use Rattle.node_table.specs.Evicting.{fits_without};
+ghost use Rattle.node_table.specs.Evicting.{MayGo};
 ghost use Rattle.private_store.specs.Commands.{counted, chunk_count};
 ghost use Rattle.private_store.specs.Contents.{no_digest};
 ghost use Rattle.private_store.specs.Private.{to_peer};
@@ -34,7 +34,7 @@ use crate::outcome::Outcome;
 use crate::room::MadeRoom;
 use crate::row::JobRow;
 use fetch_core::{Stage, all_chunks};
-use obj_id::{Items, Message, ObjectId, PeerMessage, Place};
+use obj_id::{Items, Message, ObjectId, PeerMessage, Place, Refusal};
 use spill_work::Works;
 use std::alloc::{AllocError, Global};
 
@@ -68,7 +68,7 @@ impl JobRow {
         // that it has no place yet is what the proof needs
         let _place = copy.offset();
         let len = copy.length();
-        match self.room_for(alloc, works, id, len)? {
+        match self.room_for(alloc, works, id.job(), len)? {
             MadeRoom::Place(victims) => {
                 self.pull_in_place(alloc, node, id, len, victims.as_slice())
             }
@@ -89,7 +89,7 @@ impl JobRow {
         requires visible { visible_state (at self.old.copies id.now) ≡ Ok (Some Fetching) }
         requires sized { can_pull_at self.old id.now ≡ true }
         requires waits { option_map_or (waits_for_place len) (at self.old.copies id.now) false ≡ true }
-        requires fits { fits_without self.old id.now len victims.now ≡ true }
+        requires may_go { MayGo self.old.copies victims.now }
         ensures ok { IfOk result (λ o. (session : ℕ) (beside : Beside) (contents : Contents) → (id.now.job.0 == self.old.job) ≡ true → IsShown self.old beside contents
             → MakesPlace (make_room self.old.order (shape_of self.old beside) len) (shape_of self.old beside) len victims.now
             → TakesStep node self.old beside contents (input.Call session (command.Get id.now)) (given_of o) self.new beside) }
@@ -100,7 +100,9 @@ impl JobRow {
         messages.push(self.question(alloc, id)?)?;
         let missing = all_chunks(alloc, len)?;
         let awaited = Awaited::Chunks(missing);
-        self.place_copy(alloc, id, len, victims, awaited)?;
+        let Some(_extent) = self.place_copy(alloc, id, len, victims, awaited)? else {
+            return told(alloc, Refusal::Full);
+        };
         Ok(pending(messages))
     }
 

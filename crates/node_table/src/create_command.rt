@@ -9,7 +9,7 @@ ghost use Rattle.private_store.specs.Hands.{Hand};
 ghost use Rattle.spill_work.specs.Line.{same_job, IsSameFor};
 ghost use Rattle.node_table.specs.Asked.{HasAsked};
 ghost use Rattle.node_table.specs.Checks.{create_check as create_check_lem};
-ghost use Rattle.node_table.specs.Evicting.{fits_without, removals as removals_lem};
+ghost use Rattle.node_table.specs.Evicting.{MayGo, removals as removals_lem};
 ghost use Rattle.node_table.specs.Late.{IsDueMore};
 ghost use Rattle.node_table.specs.Outcomes.{given_of};
 ghost use Rattle.node_table.specs.RoomPlans.{MakesPlace};
@@ -54,7 +54,7 @@ impl JobRow {
         if let Some(refusal) = self.create_check(id, len) {
             return told(alloc, refusal);
         }
-        match self.room_for(alloc, works, id, len)? {
+        match self.room_for(alloc, works, id.job(), len)? {
             MadeRoom::Place(victims) => {
                 self.create_in_place(alloc, node, id, kind, len, victims.as_slice())
             }
@@ -73,19 +73,17 @@ impl JobRow {
         victims: &[ObjectId],
     ) -> Result<Outcome, AllocError>
         requires checked { create_check_lem self.old id.now len ≡ None }
-        requires fits { fits_without self.old id.now len victims.now ≡ true }
+        requires may_go { MayGo self.old.copies victims.now }
         ensures ok { IfOk result (λ o. (session : ℕ) (beside : Beside) (contents : Contents) → (id.now.job.0 == self.old.job) ≡ true → IsShown self.old beside contents
             → MakesPlace (make_room self.old.order (shape_of self.old beside) len) (shape_of self.old beside) len victims.now
             → TakesStep node self.old beside contents (input.Call session (command.Create id.now kind len)) (given_of o) self.new beside) }
         ensures few { IfOk result (λ o. length o.messages ≤ length self.old.copies) }
         ensures err { OnErr result (self.new ≡ self.old) }
     {
-        // what has no copy isn't in the order of use
-        if self.is_listed(id) {
-            return told(alloc, Refusal::Exists);
-        }
         let messages = removals(alloc, node, self.copies(), victims)?;
-        let extent = self.replace_copies(alloc, id, kind, len, victims)?;
+        let Some(extent) = self.replace_copies(alloc, id, kind, len, victims)? else {
+            return told(alloc, Refusal::Full);
+        };
         Ok(Outcome {
             reply: Reply::Placed(extent.offset as u32, extent.length as u32),
             messages,

@@ -49,7 +49,7 @@ impl JobRow {
                 self.forget_fault(id);
                 told(alloc, fault.refusal())
             }
-            None => self.restore(alloc, node, works, id),
+            None => self.restore(alloc, node, works, id.job(), id),
         }
     }
 }

@@ -8,16 +8,17 @@ ghost use Rattle.private_store.specs.Tables.{at};
 ghost use Rattle.private_store.specs.Kept.{is_remembered};
 ghost use Rattle.private_store.specs.Hands.{Hand};
 ghost use Rattle.private_store.specs.Contents.{Contents};
-ghost use Rattle.spill_work.specs.Line.{Asks, ask_check, same_job, in_flight, used_by, IsSameFor};
+ghost use Rattle.spill_work.specs.Line.{Asks, ask_check, same_job, in_flight, used_by, room_for, IsSameFor};
 ghost use Rattle.obj_id.specs.declared.works.WorkKind.TheVariants.{Read};
 ghost use Rattle.std.specs.Map.{lookup};
 ghost use Rattle.std.specs.Option.{option_map_or};
 ghost use Rattle.private_store.specs.Limits.{most_works, has_numbers};
 ghost use Rattle.private_store.specs.Room.{make_room};
-ghost use Rattle.node_table.specs.Evicting.{fits_without};
+ghost use Rattle.node_table.specs.Evicting.{MayGo};
 ghost use Rattle.node_table.specs.Kept.{waits_for_place};
 ghost use Rattle.node_table.specs.Late.{IsDueMore};
 ghost use Rattle.node_table.specs.RoomPlans.{MakesPlace, planned_by, refuses, makes_place};
+ghost use Rattle.node_table.specs.declared.room.RoomPlan.TheVariants.{Ask};
 ghost use Rattle.node_table.specs.Asked.{HasAsked};
 ghost use Rattle.node_table.specs.Checks.{fault_at, visible_state};
 ghost use Rattle.node_table.specs.Outcomes.{given_of};
@@ -36,8 +37,8 @@ use spill_work::Works;
 use std::alloc::{AllocError, Global};
 
 impl JobRow {
-    /// Get of a copy that is away and has no fault to tell of: room is made for it, and its bytes are asked for at the
-    /// device; the answer is `Pending`. `Busy` at 8 works in flight, `TooMany` if the job has no number of works left, and
+    /// Get of a copy that is away and has no fault to tell of, if the row is this job's: room is made for it, and its bytes are asked
+    /// for at the device; the answer is `Pending`. `Busy` at 8 works in flight, `TooMany` if the job has no number of works left, and
     /// if there is no room the answer is that of Create. The error is out of memory: no other refusal was due then, and
     /// nothing has changed. The works that it asks for come last in the line.
     pub(crate) fn restore(
@@ -45,21 +46,22 @@ impl JobRow {
         alloc: Global,
         node: u32,
         works: &mut Works,
+        job: JobNo,
         id: &ObjectId,
     ) -> Result<Outcome, AllocError>
-        requires alive { is_remembered self.old.ended_tasks id.now.task ≡ false }
         requires visible { visible_state (at self.old.copies id.now) ≡ Ok (Some Away) }
         requires sound { fault_at self.old.copies id.now ≡ None }
-        ensures ok { IfOk result (λ o. (session : ℕ) (hands : List Hand) (bytes : ObjectId → List ℕ) (contents : Contents) → (id.now.job.0 == self.old.job) ≡ true → IsShown self.old (beside_of works.old hands bytes self.old.job) contents
+        ensures ok { IfOk result (λ o. (session : ℕ) (hands : List Hand) (bytes : ObjectId → List ℕ) (contents : Contents) → job ≡ record { 0 = self.old.job } → (id.now.job.0 == self.old.job) ≡ true
+            → is_remembered self.old.ended_tasks id.now.task ≡ false → IsShown self.old (beside_of works.old hands bytes self.old.job) contents
             → TakesStep node self.old (beside_of works.old hands bytes self.old.job) contents (input.Call session (command.Get id.now)) (given_of o) self.new (beside_of works.new hands bytes self.old.job)) }
         ensures few { IfOk result (λ o. length o.messages ≤ length self.old.copies + 1) }
-        ensures line { OnOk result (HasAsked works.old id.now.job works.new) }
-        ensures late { OnErr result ((id.now.job.0 == self.old.job) ≡ true → IsDueMore node self.old works.old (command.Get id.now)) }
-        ensures others { (other : JobNo) → same_job id.now.job other ≡ false → IsSameFor other works.old works.new }
+        ensures line { OnOk result (HasAsked works.old job works.new) }
+        ensures late { OnErr result (job ≡ record { 0 = self.old.job } → (id.now.job.0 == self.old.job) ≡ true → is_remembered self.old.ended_tasks id.now.task ≡ false → IsDueMore node self.old works.old (command.Get id.now)) }
+        ensures others { (other : JobNo) → same_job job other ≡ false → IsSameFor other works.old works.new }
         ensures err { OnErr result (self.new ≡ self.old) }
         ensures works { OnErr result (works.new ≡ works.old) }
     {
-        if works.in_flight(id.job()) >= MOST_WORKS {
+        if works.in_flight(job) >= MOST_WORKS {
             return told(alloc, Refusal::Busy);
         }
         let Some(copy) = self.copies().get(id) else {
@@ -68,13 +70,13 @@ impl JobRow {
         // that it has no place is what the proof needs
         let _place = copy.offset();
         let len = copy.length();
-        let plan = self.plan_room(works, len);
-        let asked = works.asked(id.job());
+        let plan = self.plan_room(works, job, len);
+        let asked = works.asked(job);
         // before anything grows
         if plan.makes_place() && asked == u64::MAX {
             return told(alloc, Refusal::TooMany);
         }
-        self.restore_by(alloc, node, works, id, len, plan)
+        self.restore_by(alloc, node, works, job, id, len, plan)
     }
 
     /// The same by this plan, which is that of the row, where neither works nor numbers are too many.
@@ -83,68 +85,76 @@ impl JobRow {
         alloc: Global,
         node: u32,
         works: &mut Works,
+        job: JobNo,
         id: &ObjectId,
         len: u32,
         plan: RoomPlan,
     ) -> Result<Outcome, AllocError>
-        requires alive { is_remembered self.old.ended_tasks id.now.task ≡ false }
         requires visible { visible_state (at self.old.copies id.now) ≡ Ok (Some Away) }
         requires sound { fault_at self.old.copies id.now ≡ None }
-        requires idle { in_flight works.old id.now.job < most_works }
+        requires idle { in_flight works.old job < most_works }
         requires waits { option_map_or (waits_for_place len) (at self.old.copies id.now) false ≡ true }
-        requires numbered { makes_place plan ≡ true → has_numbers (used_by works.old id.now.job) 1 ≡ true }
-        requires fresh { used_by works.old id.now.job ≡ 0 → lookup (same_job id.now.job) works.old.used ≡ None }
-        ensures ok { IfOk result (λ o. (session : ℕ) (hands : List Hand) (bytes : ObjectId → List ℕ) (contents : Contents) → (id.now.job.0 == self.old.job) ≡ true → IsShown self.old (beside_of works.old hands bytes self.old.job) contents
+        requires asks { (count : ℕ) → plan ≡ Ask count → room_for works.old job count ≡ true }
+        requires numbered { makes_place plan ≡ true → has_numbers (used_by works.old job) 1 ≡ true }
+        requires fresh { used_by works.old job ≡ 0 → lookup (same_job job) works.old.used ≡ None }
+        ensures ok { IfOk result (λ o. (session : ℕ) (hands : List Hand) (bytes : ObjectId → List ℕ) (contents : Contents) → job ≡ record { 0 = self.old.job } → (id.now.job.0 == self.old.job) ≡ true
+            → is_remembered self.old.ended_tasks id.now.task ≡ false → IsShown self.old (beside_of works.old hands bytes self.old.job) contents
             → plan ≡ planned_by self.old.order (shape_of self.old (beside_of works.old hands bytes self.old.job)) len
             → TakesStep node self.old (beside_of works.old hands bytes self.old.job) contents (input.Call session (command.Get id.now)) (given_of o) self.new (beside_of works.new hands bytes self.old.job)) }
         ensures few { IfOk result (λ o. length o.messages ≤ length self.old.copies + 1) }
-        ensures line { OnOk result (HasAsked works.old id.now.job works.new) }
+        ensures line { OnOk result (HasAsked works.old job works.new) }
         ensures late { OnErr result (refuses plan ≡ false) }
-        ensures others { (other : JobNo) → same_job id.now.job other ≡ false → IsSameFor other works.old works.new }
+        ensures others { (other : JobNo) → same_job job other ≡ false → IsSameFor other works.old works.new }
         ensures err { OnErr result (self.new ≡ self.old) }
         ensures works { OnErr result (works.new ≡ works.old) }
     {
-        match self.room_by(alloc, works, id, len, plan)? {
+        match self.room_by(alloc, works, job, len, plan)? {
             MadeRoom::Place(victims) => {
-                self.restore_in_place(alloc, node, works, id, len, victims.as_slice())
+                self.restore_in_place(alloc, node, works, job, id, len, victims.as_slice())
             }
             MadeRoom::Told(refusal) => told(alloc, refusal),
         }
     }
 
-    /// The place is taken where the victims were, which the directory is told of, and the read is asked for.
+    /// The place is taken where the victims were, which the directory is told of, and the read is asked for. The answer is `Full` if
+    /// there is none.
     fn restore_in_place(
         &mut self,
         alloc: Global,
         node: u32,
         works: &mut Works,
+        job: JobNo,
         id: &ObjectId,
         len: u32,
         victims: &[ObjectId],
     ) -> Result<Outcome, AllocError>
-        requires alive { is_remembered self.old.ended_tasks id.now.task ≡ false }
         requires visible { visible_state (at self.old.copies id.now) ≡ Ok (Some Away) }
         requires sound { fault_at self.old.copies id.now ≡ None }
-        requires idle { in_flight works.old id.now.job < most_works }
+        requires idle { in_flight works.old job < most_works }
         requires waits { option_map_or (waits_for_place len) (at self.old.copies id.now) false ≡ true }
-        requires fits { fits_without self.old id.now len victims.now ≡ true }
-        requires numbered { has_numbers (used_by works.old id.now.job) 1 ≡ true }
-        requires fresh { used_by works.old id.now.job ≡ 0 → lookup (same_job id.now.job) works.old.used ≡ None }
-        ensures ok { IfOk result (λ o. (session : ℕ) (hands : List Hand) (bytes : ObjectId → List ℕ) (contents : Contents) → (id.now.job.0 == self.old.job) ≡ true → IsShown self.old (beside_of works.old hands bytes self.old.job) contents
+        requires may_go { MayGo self.old.copies victims.now }
+        requires numbered { has_numbers (used_by works.old job) 1 ≡ true }
+        requires fresh { used_by works.old job ≡ 0 → lookup (same_job job) works.old.used ≡ None }
+        ensures ok { IfOk result (λ o. (session : ℕ) (hands : List Hand) (bytes : ObjectId → List ℕ) (contents : Contents) → job ≡ record { 0 = self.old.job } → (id.now.job.0 == self.old.job) ≡ true
+            → is_remembered self.old.ended_tasks id.now.task ≡ false → IsShown self.old (beside_of works.old hands bytes self.old.job) contents
             → MakesPlace (make_room self.old.order (shape_of self.old (beside_of works.old hands bytes self.old.job)) len) (shape_of self.old (beside_of works.old hands bytes self.old.job)) len victims.now
             → TakesStep node self.old (beside_of works.old hands bytes self.old.job) contents (input.Call session (command.Get id.now)) (given_of o) self.new (beside_of works.new hands bytes self.old.job)) }
         ensures few { IfOk result (λ o. length o.messages ≤ length self.old.copies + 1) }
-        ensures line { OnOk result (HasAsked works.old id.now.job works.new) }
-        ensures others { (other : JobNo) → same_job id.now.job other ≡ false → IsSameFor other works.old works.new }
+        ensures line { OnOk result (HasAsked works.old job works.new) }
+        ensures others { (other : JobNo) → same_job job other ≡ false → IsSameFor other works.old works.new }
         ensures err { OnErr result (self.new ≡ self.old) }
         ensures works { OnErr result (works.new ≡ works.old) }
     {
         let messages = removals(alloc, node, self.copies(), victims)?;
-        let number = ask_read(works, id.job(), *id)?;
+        let number = ask_read(works, job, *id)?;
         match self.place_copy(alloc, id, len, victims, Awaited::Device) {
-            Ok(_) => Ok(pending(messages)),
+            Ok(Some(_)) => Ok(pending(messages)),
+            Ok(None) => {
+                works.take_back(job, number);
+                told(alloc, Refusal::Full)
+            }
             Err(error) => {
-                works.take_back(id.job(), number);
+                works.take_back(job, number);
                 Err(error)
             }
         }

@@ -1,28 +1,24 @@
 //! How room is made in a row's window.
-ghost use Rattle.std.specs.Prelude.{◌≡◌, ℕ, ◌<◌, ◌≤◌, List, true, false, not, ◌&&◌, nat_le, length, IfOk, OnOk, OnErr};
+ghost use Rattle.std.specs.Prelude.{◌≡◌, ℕ, ◌≤◌, List, true, false, length, IfOk, OnOk, OnErr};
 ghost use Rattle.obj_id.specs.declared.ids.JobNo.{JobNo};
-ghost use Rattle.spill_work.specs.Line.{same_job, IsSameFor};
+ghost use Rattle.spill_work.specs.Line.{same_job, IsSameFor, room_for as room_for_lem};
 ghost use Rattle.node_table.specs.Asked.{HasAsked};
 ghost use Rattle.node_table.specs.MadeRooms.{IsMade, IsPlannedFor, WaitsForPlace, is_told};
-ghost use Rattle.node_table.specs.Evicting.{fits_without as fits_without_lem};
-ghost use Rattle.node_table.specs.Kept.{is_sealed_at};
-ghost use Rattle.private_store.specs.Limits.{longest_object};
-ghost use Rattle.private_store.specs.Extents.{is_size};
-ghost use Rattle.private_store.specs.Tables.{is_among as is_among_lem};
+ghost use Rattle.node_table.specs.Evicting.{MayGo};
 ghost use Rattle.obj_id.specs.declared.ids.ObjectId.{ObjectId};
 ghost use Rattle.private_store.specs.Room.{make_room, plan};
 ghost use Rattle.private_store.specs.Hands.{Hand};
 ghost use Rattle.private_store.specs.Contents.{Contents};
-ghost use Rattle.node_table.specs.Row.{Beside, beside_of, shape_of, place_of, ArePlaced};
+ghost use Rattle.node_table.specs.Row.{beside_of, shape_of};
 ghost use Rattle.node_table.specs.Shown.{IsShown};
-ghost use Rattle.node_table.specs.RoomPlans.{AsksWrites, MakesPlace, by_kind, planned_by, refuses, makes_place as makes_place_lem};
+ghost use Rattle.node_table.specs.RoomPlans.{AsksWrites, by_kind, planned_by, refuses, makes_place as makes_place_lem};
 ghost use Rattle.lru_evictor.specs.Plans.{listed};
 ghost use Rattle.node_table.specs.declared.room.RoomPlan.TheVariants.{Evict, Ask};
 ghost use Rattle.spill_work.specs.Line.{WorkLine};
 
 use crate::copies::Copies;
 use crate::row::JobRow;
-use lru_evictor::{CopyFacts, CopyLookup, DeviceRoom, Plan, extents_by_offset};
+use lru_evictor::{CopyFacts, CopyLookup, DeviceRoom, Plan};
 use obj_id::{Items, JobNo, ObjectId, Refusal, WorkKind};
 use spill_work::Works;
 use std::alloc::{AllocError, Global};
@@ -76,17 +72,17 @@ impl CopyLookup for Copies {
 }
 
 impl JobRow {
-    /// How room for an object of `len` bytes is made in the window, by the rule of room. Takes no memory, and changes nothing
-    /// in the end.
+    /// How room for an object of `len` bytes is made in the window, by the rule of room, if the row is this job's. Takes no memory,
+    /// and changes nothing in the end. It asks for no more works than the job may.
     ///
     /// If there is a place as it is, takes one descent of the window's tree of holes. Otherwise it
     /// takes what `UseOrder::plan` does; what the copies take of the device is counted.
-    pub(crate) fn plan_room(&mut self, works: &Works, len: u32) -> RoomPlan
-        ensures plan { (hands : List Hand) (bytes : ObjectId → List ℕ) (contents : Contents) → IsShown self.old (beside_of works.now hands bytes self.old.job) contents
+    pub(crate) fn plan_room(&mut self, works: &Works, job: JobNo, len: u32) -> RoomPlan
+        ensures plan { (hands : List Hand) (bytes : ObjectId → List ℕ) (contents : Contents) → job ≡ record { 0 = self.old.job } → IsShown self.old (beside_of works.now hands bytes self.old.job) contents
             → result ≡ planned_by self.old.order (shape_of self.old (beside_of works.now hands bytes self.old.job)) len }
+        ensures asks { (count : ℕ) → result ≡ Ask count → room_for_lem works.now job count ≡ true }
         ensures same { self.new ≡ self.old }
     {
-        let job = self.job();
         let device = DeviceRoom {
             quota: self.device(),
             used: self.copies().device_bytes(),
@@ -102,8 +98,9 @@ impl JobRow {
 
     /// The copies that are to be evicted for an object of `len` bytes, in this order, if that is the plan.
     fn victims(&self, alloc: Global, len: u32) -> Result<Items<ObjectId>, AllocError>
-        ensures { IfOk result (λ victims. (line : WorkLine) (hands : List Hand) (bytes : ObjectId → List ℕ) (contents : Contents) → IsShown self.now (beside_of line hands bytes self.now.job) contents
+        ensures victims { IfOk result (λ victims. (line : WorkLine) (hands : List Hand) (bytes : ObjectId → List ℕ) (contents : Contents) → IsShown self.now (beside_of line hands bytes self.now.job) contents
             → planned_by self.now.order (shape_of self.now (beside_of line hands bytes self.now.job)) len ≡ Evict → victims ≡ listed (plan self.now.order (shape_of self.now (beside_of line hands bytes self.now.job)) len)) }
+        ensures may_go { IfOk result (λ victims. MayGo self.now.copies victims) }
     {
         let order = self.use_order();
         order.victims(alloc, len, self.window(), self.copies())
@@ -111,15 +108,16 @@ impl JobRow {
 
     /// The first so many copies that may be spilled, the least recently used first.
     fn spillable(&self, alloc: Global, count: usize) -> Result<Items<ObjectId>, AllocError>
-        ensures { IfOk result (λ written. (line : WorkLine) (hands : List Hand) (bytes : ObjectId → List ℕ) (contents : Contents) (n : ℕ) → IsShown self.now (beside_of line hands bytes self.now.job) contents
+        ensures spillable { IfOk result (λ written. (line : WorkLine) (hands : List Hand) (bytes : ObjectId → List ℕ) (contents : Contents) (n : ℕ) → IsShown self.now (beside_of line hands bytes self.now.job) contents
             → planned_by self.now.order (shape_of self.now (beside_of line hands bytes self.now.job)) n ≡ Ask count → written ≡ listed (plan self.now.order (shape_of self.now (beside_of line hands bytes self.now.job)) n)) }
+        ensures few { IfOk result (λ written. length written ≤ count) }
     {
         self.use_order().spillable(alloc, count)
     }
 }
 
 impl JobRow {
-    /// Room for the object, of `len` bytes, in the window of the row's job, as far as it can be made without an eviction:
+    /// Room for an object of `len` bytes in the window, if the row is this job's, as far as it can be made without an eviction:
     /// the writes that it needs are asked for, and that a spill failed is told and forgotten. The error is out of
     /// memory, and then the plan was no refusal, and nothing has changed. The works that it asks for come last in the
     /// line, and those before them stay.
@@ -127,23 +125,21 @@ impl JobRow {
         &mut self,
         alloc: Global,
         works: &mut Works,
-        id: &ObjectId,
+        job: JobNo,
         len: u32,
     ) -> Result<MadeRoom, AllocError>
-        requires { is_sealed_at self.old.copies id.now ≡ false }
-        ensures ok { IfOk result (λ made. (hands : List Hand) (bytes : ObjectId → List ℕ) (contents : Contents) → id.now.job ≡ record { 0 = self.old.job } → IsShown self.old (beside_of works.old hands bytes self.old.job) contents
-            → 0 < len → len ≤ longest_object
+        ensures ok { IfOk result (λ made. (hands : List Hand) (bytes : ObjectId → List ℕ) (contents : Contents) → job ≡ record { 0 = self.old.job } → IsShown self.old (beside_of works.old hands bytes self.old.job) contents
             → IsMade made self.old (beside_of works.old hands bytes self.old.job) contents len self.new (beside_of works.new hands bytes self.old.job)) }
-        ensures place { IfOk result (λ made. WaitsForPlace made self.old works.old id.now len self.new works.new) }
-        ensures made { IfOk result (λ made. is_told made ≡ false → IsPlannedFor self.old works.old len) }
-        ensures line { OnOk result (HasAsked works.old id.now.job works.new) }
-        ensures others { (other : JobNo) → same_job id.now.job other ≡ false → IsSameFor other works.old works.new }
-        ensures late { OnErr result (IsPlannedFor self.old works.old len) }
+        ensures place { IfOk result (λ made. WaitsForPlace made self.old works.old self.new works.new) }
+        ensures made { IfOk result (λ made. is_told made ≡ false → job ≡ record { 0 = self.old.job } → IsPlannedFor self.old works.old len) }
+        ensures line { OnOk result (HasAsked works.old job works.new) }
+        ensures others { (other : JobNo) → same_job job other ≡ false → IsSameFor other works.old works.new }
+        ensures late { OnErr result (job ≡ record { 0 = self.old.job } → IsPlannedFor self.old works.old len) }
         ensures err { OnErr result (self.new ≡ self.old) }
         ensures works { OnErr result (works.new ≡ works.old) }
     {
-        let plan = self.plan_room(works, len);
-        self.room_by(alloc, works, id, len, plan)
+        let plan = self.plan_room(works, job, len);
+        self.room_by(alloc, works, job, len, plan)
     }
 
     /// The same by this plan, which is that of the row.
@@ -151,31 +147,31 @@ impl JobRow {
         &mut self,
         alloc: Global,
         works: &mut Works,
-        id: &ObjectId,
+        job: JobNo,
         len: u32,
         plan: RoomPlan,
     ) -> Result<MadeRoom, AllocError>
-        requires { is_sealed_at self.old.copies id.now ≡ false }
-        ensures ok { IfOk result (λ made. (hands : List Hand) (bytes : ObjectId → List ℕ) (contents : Contents) → id.now.job ≡ record { 0 = self.old.job } → IsShown self.old (beside_of works.old hands bytes self.old.job) contents
-            → 0 < len → len ≤ longest_object → plan ≡ planned_by self.old.order (shape_of self.old (beside_of works.old hands bytes self.old.job)) len
+        requires { (count : ℕ) → plan ≡ Ask count → room_for_lem works.old job count ≡ true }
+        ensures ok { IfOk result (λ made. (hands : List Hand) (bytes : ObjectId → List ℕ) (contents : Contents) → job ≡ record { 0 = self.old.job } → IsShown self.old (beside_of works.old hands bytes self.old.job) contents
+            → plan ≡ planned_by self.old.order (shape_of self.old (beside_of works.old hands bytes self.old.job)) len
             → IsMade made self.old (beside_of works.old hands bytes self.old.job) contents len self.new (beside_of works.new hands bytes self.old.job)) }
-        ensures place { IfOk result (λ made. WaitsForPlace made self.old works.old id.now len self.new works.new) }
+        ensures place { IfOk result (λ made. WaitsForPlace made self.old works.old self.new works.new) }
         ensures made { IfOk result (λ made. is_told made ≡ false → makes_place_lem plan ≡ true) }
-        ensures line { OnOk result (HasAsked works.old id.now.job works.new) }
-        ensures others { (other : JobNo) → same_job id.now.job other ≡ false → IsSameFor other works.old works.new }
+        ensures line { OnOk result (HasAsked works.old job works.new) }
+        ensures others { (other : JobNo) → same_job job other ≡ false → IsSameFor other works.old works.new }
         ensures late { OnErr result (refuses plan ≡ false) }
         ensures err { OnErr result (self.new ≡ self.old) }
         ensures works { OnErr result (works.new ≡ works.old) }
     {
         match plan {
-            RoomPlan::Fits => self.place_without(alloc, id, len, Items::new(alloc)),
+            RoomPlan::Fits => Ok(MadeRoom::Place(Items::new(alloc))),
             RoomPlan::Evict => {
                 let victims = self.victims(alloc, len)?;
-                self.place_without(alloc, id, len, victims)
+                Ok(MadeRoom::Place(victims))
             }
             RoomPlan::Ask(count) => {
                 let ids = self.spillable(alloc, count)?;
-                self.ask_writes(alloc, id.job(), works, ids.as_slice())
+                self.ask_writes(alloc, job, works, ids.as_slice())
             }
             RoomPlan::TellFailedSpill => {
                 self.forget_failed_spill();
@@ -183,54 +179,6 @@ impl JobRow {
             }
             RoomPlan::Refuse(refusal) => Ok(MadeRoom::Told(refusal)),
         }
-    }
-
-    /// The place that there is once these copies, which are others, have gone.
-    fn place_without(
-        &self,
-        alloc: Global,
-        id: &ObjectId,
-        len: u32,
-        victims: Items<ObjectId>,
-    ) -> Result<MadeRoom, AllocError>
-        requires { is_sealed_at self.now.copies id.now ≡ false }
-        ensures ok { IfOk result (λ made. (beside : Beside) (contents : Contents) → IsShown self.now beside contents → 0 < len → len ≤ longest_object
-            → MakesPlace (make_room self.now.order (shape_of self.now beside) len) (shape_of self.now beside) len victims
-            → IsMade made self.now beside contents len self.now beside) }
-        ensures place { IfOk result (λ made. (line : WorkLine) → WaitsForPlace made self.now line id.now len self.now line) }
-    {
-        if !self.fits_without(alloc, id, len, victims.as_slice())? {
-            return Ok(MadeRoom::Told(Refusal::Full));
-        }
-        Ok(MadeRoom::Place(victims))
-    }
-
-    /// Whether the object, of `len` bytes, can take a place once these copies are evicted. The error is out of memory.
-    fn fits_without(
-        &self,
-        alloc: Global,
-        id: &ObjectId,
-        len: u32,
-        victims: &[ObjectId],
-    ) -> Result<bool, AllocError>
-        ensures ok { IfOk result (λ fits. fits ≡ fits_without_lem self.now id.now len victims.now) }
-        ensures placed { ArePlaced self.now.window.placed (place_of self.now.copies) }
-    {
-        let copies = self.copies();
-        if !self.may_replace(id, len, victims) {
-            return Ok(false);
-        }
-        let gone = extents_by_offset(alloc, copies, victims)?;
-        Ok(self.window().fits_without(&gone, len).is_some())
-    }
-
-    /// Whether the object is none of these copies, which are no more than there are, and of a length for the window.
-    fn may_replace(&self, id: &ObjectId, len: u32, victims: &[ObjectId]) -> bool
-        ensures { result ≡ not (is_among_lem victims.now id.now) && (nat_le (length victims.now) (length self.now.copies) && is_size self.now.window.quota len) }
-    {
-        !is_among(victims, id)
-            && victims.len() <= self.copies().len()
-            && self.window().may_have(len)
     }
 
     /// Asks for the job's writes of these copies, which is told `Pending`.
@@ -241,6 +189,7 @@ impl JobRow {
         works: &mut Works,
         ids: &[ObjectId],
     ) -> Result<MadeRoom, AllocError>
+        requires { room_for_lem works.old job (length ids.now) ≡ true }
         ensures ok { IfOk result (λ made. (hands : List Hand) (bytes : ObjectId → List ℕ) (contents : Contents) (n : ℕ) → job ≡ record { 0 = self.old.job } → IsShown self.old (beside_of works.old hands bytes self.old.job) contents
             → AsksWrites (make_room self.old.order (shape_of self.old (beside_of works.old hands bytes self.old.job)) n) (shape_of self.old (beside_of works.old hands bytes self.old.job)) ids.now
             → IsMade made self.old (beside_of works.old hands bytes self.old.job) contents n self.new (beside_of works.new hands bytes self.old.job)) }
@@ -250,21 +199,10 @@ impl JobRow {
         ensures err { OnErr result (self.new ≡ self.old) }
         ensures works { OnErr result (works.new ≡ works.old) }
     {
-        // a plan asks for no more works than there may be
-        if !works.room_for(job, ids.len()) {
-            return Ok(MadeRoom::Told(Refusal::Busy));
-        }
         works.ask_all(alloc, job, ids, WorkKind::Write)?;
         self.spill_copies(ids);
         Ok(MadeRoom::Told(Refusal::Pending))
     }
-}
-
-/// Whether the id is one of these.
-fn is_among(ids: &[ObjectId], id: &ObjectId) -> bool
-    ensures { result ≡ is_among_lem ids.now id.now }
-{
-    ids.contains(id)
 }
 
 /// What a plan is to a job whose works had numbers up to this one, and of which a spill failed or not.

@@ -1,10 +1,10 @@
 //! The row of one job.
-ghost use Rattle.std.specs.Prelude.{◌≡◌, ◌≢◌, ◌↔◌, ◌+◌, ◌^◌, ◌≤◌, ◌<◌, nat_eq, take, length, true, false, Some, None, IfOk, IfErr, IfSome, IfNone, OnOk, OnErr, IsOk, IsErr, IsErrOf, option_to_list, option_map, ◌&&◌, is_some};
+ghost use Rattle.std.specs.Prelude.{◌≡◌, ◌≢◌, ◌↔◌, ℕ, ◌+◌, ◌^◌, ◌≤◌, ◌<◌, nat_eq, take, length, true, false, Some, None, IfOk, IfErr, IfSome, IfNone, OnOk, OnErr, IsOk, IsErr, IsErrOf, option_to_list, option_map, ◌&&◌, is_some};
 ghost use Rattle.std.specs.Map.{set_value};
 ghost use Rattle.obj_id.specs.declared.works.Extent.{Extent};
 ghost use Rattle.obj_id.specs.declared.refusals.Refusal.{Refusal};
 ghost use Rattle.obj_id.specs.declared.refusals.Refusal.TheVariants.{BadSize, NoMemory};
-ghost use Rattle.private_store.specs.Limits.{is_window};
+ghost use Rattle.private_store.specs.Limits.{is_window, most_works};
 ghost use Rattle.private_store.specs.Tables.{at, with_entry, is_among};
 ghost use Rattle.private_store.specs.Copies.{extent_of};
 ghost use Rattle.private_store.specs.Contents.{digest_of, overwritten};
@@ -19,6 +19,7 @@ ghost use Rattle.node_table.specs.Followed.{AreFollowed, AreListed, facts_in};
 ghost use Rattle.private_store.specs.Shape.{Shape};
 ghost use Rattle.private_store.specs.Room.{plan as room_plan};
 ghost use Rattle.lru_evictor.specs.Plans.{IsDescribed, kind_of};
+ghost use Rattle.lru_evictor.specs.declared.facts.Plan.TheVariants as plan_kind;
 ghost use Rattle.node_table.specs.Entries.{changed, all_changed, each_changed};
 ghost use Rattle.node_table.specs.Kept.{Kept, sealed, released, left, spilling_if, fetched_kept, unpinned, borrowed, given_up, doomed, marked, fault_told, new_kept, waits_for_place, placed_for, CanAwait};
 ghost use Rattle.node_table.specs.Checks.{release_check, borrow_check};
@@ -28,7 +29,7 @@ ghost use Rattle.node_table.specs.Row.{Row, new_row, place_of, ArePlaced};
 ghost use Rattle.node_table.specs.EndingTasks.{task_row};
 ghost use Rattle.node_table.specs.Dropping.{dropped, is_over_at, settled_row, keys_settled, unheld_row};
 ghost use Rattle.node_table.specs.Holding.{IsUnreadyAt, IsHoldRefusedAt, IsRowHeld};
-ghost use Rattle.node_table.specs.Evicting.{fits_without, IsReplaced};
+ghost use Rattle.node_table.specs.Evicting.{has_place, IsReplaced};
 ghost use Rattle.private_store.specs.Kept.{is_fetching};
 ghost use Rattle.node_table.specs.Arriving.{located, gap_closed, brought, unfetched_row};
 
@@ -203,17 +204,11 @@ impl JobRow {
     pub(crate) fn plan(&mut self, len: u32, device: DeviceRoom) -> Plan
         ensures plan { (store : Shape) → AreListed self.old.copies self.old.order → IsDescribed store self.old.window device (facts_in self.old.copies)
             → result ≡ kind_of (room_plan self.old.order store len) }
+        ensures left { (k : ℕ) → result ≡ plan_kind.Spill k → k + device.works ≤ most_works }
         ensures same { self.new ≡ self.old }
         ensures placed { ArePlaced self.old.window.placed (place_of self.old.copies) }
     {
         self.order.plan(len, device, &self.window, &self.copies)
-    }
-
-    /// Whether the id is in the order of use.
-    pub(crate) fn is_listed(&self, id: &ObjectId) -> bool
-        ensures { result ≡ is_among self.now.order id.now }
-    {
-        self.order.has(id)
     }
 
     /// Where the copy lies in the window, if it is there and resident.
@@ -443,9 +438,9 @@ impl JobRow {
         Ok(())
     }
 
-    /// The victims are evicted, and the job has a copy of the object to be written, at the first place for its `len` bytes
-    /// that there is then, of zeros; it is the most recently used one. The error is out of memory, and then nothing has
-    /// changed.
+    /// The victims, which are other copies, are evicted, and the job has a copy of the object to be written, at the first place for
+    /// its `len` bytes that there is then, of zeros; it is the most recently used one. `None` if there is no place. The error is out
+    /// of memory. Without a place and after an error nothing has changed.
     pub(crate) fn replace_copies(
         &mut self,
         alloc: Global,
@@ -453,41 +448,46 @@ impl JobRow {
         kind: Kind,
         len: u32,
         victims: &[ObjectId],
-    ) -> Result<Extent, AllocError>
-        requires fits { fits_without self.old id.now len victims.now ≡ true }
+    ) -> Result<Option<Extent>, AllocError>
         requires absent { at self.old.copies id.now ≡ None }
-        requires unlisted { is_among self.old.order id.now ≡ false }
+        requires stays { is_among victims.now id.now ≡ false }
         ensures placed { ArePlaced self.old.window.placed (place_of self.old.copies) }
-        ensures ok { IfOk result (λ e. IsReplaced self.old (Some id.now) id.now (new_kept kind len) len victims.now e self.new) }
+        ensures some { IfOk result (λ o. IfSome o (λ e. is_among self.old.order id.now ≡ false → IsReplaced self.old (Some id.now) id.now (new_kept kind len) len victims.now e self.new)) }
+        ensures small { IfOk result (λ o. IfSome o (λ e. e.offset + e.length < 2 ^ 32)) }
+        ensures none { IfOk result (λ o. IfNone o (has_place self.old len victims.now ≡ false)) }
+        ensures same { IfOk result (λ o. IfNone o (self.new ≡ self.old)) }
         ensures err { OnErr result (self.new ≡ self.old) }
     {
         let gone = extents_by_offset(alloc, &self.copies, victims)?;
         let Some(offset) = self.window.fits_without(&gone, len) else {
-            unreachable!()
+            return Ok(None);
         };
         let room = Room::new(alloc)?;
         self.copies
             .insert(*id, RowCopy::created(alloc, kind, len, offset))?;
         // it lies nowhere, as far as the order knows, until the victims have gone
-        if self.order.enter(*id).is_err() {
+        let Ok(entered) = self.order.enter_new(*id) else {
             self.copies.remove(id);
             return Err(AllocError);
-        }
+        };
         match self.window.replace(alloc, &gone, len) {
-            Err(_) => {
+            Err(refusal) => {
                 self.copies.remove(id);
-                self.order.forget(*id);
-                Err(AllocError)
+                if entered {
+                    self.order.forget(*id);
+                }
+                no_place(refusal)
             }
             Ok(extent) => {
                 evict_for(&mut self.order, &mut self.copies, victims, id, room, extent);
-                Ok(extent)
+                Ok(Some(extent))
             }
         }
     }
 
-    /// The victims are evicted, and the copy of the id, which has no place, takes the first one for its `len` bytes that
-    /// there is then: of zeros, and it waits for this there. The error is out of memory, and then nothing has changed.
+    /// The victims, which are other copies, are evicted, and the copy of the id, which has no place, takes the first one for its `len`
+    /// bytes that there is then: of zeros, and it waits for this there. `None` if there is no place. The error is out of memory.
+    /// Without a place and after an error nothing has changed.
     pub(crate) fn place_copy(
         &mut self,
         alloc: Global,
@@ -495,22 +495,24 @@ impl JobRow {
         len: u32,
         victims: &[ObjectId],
         awaited: Awaited,
-    ) -> Result<Extent, AllocError>
-        requires fits { fits_without self.old id.now len victims.now ≡ true }
+    ) -> Result<Option<Extent>, AllocError>
+        requires stays { is_among victims.now id.now ≡ false }
         requires waits { option_map_or (waits_for_place len) (at self.old.copies id.now) false ≡ true }
         requires awaits { (k : Kept) → at self.old.copies id.now ≡ Some k → CanAwait awaited k }
         ensures placed { ArePlaced self.old.window.placed (place_of self.old.copies) }
-        ensures ok { IfOk result (λ e. (k : Kept) → at self.old.copies id.now ≡ Some k → IsReplaced self.old None id.now (λ offset. placed_for awaited offset k) len victims.now e self.new) }
+        ensures some { IfOk result (λ o. IfSome o (λ e. (k : Kept) → at self.old.copies id.now ≡ Some k → IsReplaced self.old None id.now (λ offset. placed_for awaited offset k) len victims.now e self.new)) }
+        ensures none { IfOk result (λ o. IfNone o (has_place self.old len victims.now ≡ false)) }
+        ensures same { IfOk result (λ o. IfNone o (self.new ≡ self.old)) }
         ensures err { OnErr result (self.new ≡ self.old) }
     {
         let gone = extents_by_offset(alloc, &self.copies, victims)?;
         let room = Room::new(alloc)?;
         match self.window.replace(alloc, &gone, len) {
-            Err(_) => Err(AllocError),
+            Err(refusal) => no_place(refusal),
             Ok(extent) => {
                 self.copies.take_place(id, extent.offset, awaited);
                 evict_for(&mut self.order, &mut self.copies, victims, id, room, extent);
-                Ok(extent)
+                Ok(Some(extent))
             }
         }
     }
@@ -742,6 +744,16 @@ impl JobRow {
             Some(filling) => self.window.adopt(&extent, filling),
             None => self.put_bytes(id, 0, bytes),
         }
+    }
+}
+
+/// What a window's refusal of a place comes to: there is none, or there is no memory.
+fn no_place(refusal: Refusal) -> Result<Option<Extent>, AllocError>
+    ensures none { IfOk result (λ o. (o ≡ None) × (refusal ≢ NoMemory)) }
+{
+    match refusal {
+        Refusal::NoMemory => Err(AllocError),
+        _ => Ok(None),
     }
 }
 

@@ -172,16 +172,9 @@ impl JobRow {
         ensures err { OnErr result (self.new ≡ self.old) }
         ensures works { OnErr result (works.new ≡ works.old) }
     {
-        // a copy that is shown is the job's own
-        if id.job().0 != self.job().0 {
-            return Ok(Outcome::only(alloc, Reply::Ok));
-        }
-        // and its task hasn't ended
-        if self.has_ended(id.task()) {
-            return Ok(Outcome::only(alloc, Reply::Ok));
-        }
         let spill_failed = self.spill_failed();
-        let outcome = self.restore(alloc, node, works, id)?;
+        let job = self.job();
+        let outcome = self.restore(alloc, node, works, job, id)?;
         self.put_spill_failed(spill_failed);
         Ok(answered(outcome.messages))
     }

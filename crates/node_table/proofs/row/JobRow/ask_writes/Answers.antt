@@ -1,15 +1,8 @@
-use Rattle.std.proofs.Common.{length, sym, ap, subst, ◌∙◌}
-use Rattle.obj_id.specs.declared.ids.JobNo.{JobNo}
+use Rattle.std.proofs.Common.{subst}
 use Rattle.obj_id.specs.declared.works.WorkKind.TheVariants.{Write}
-use Rattle.private_store.proofs.Tests.{true_false}
-use Rattle.spill_work.specs.Line.{AsksAll, room_for}
-use Rattle.node_table.proofs.Asking.{may_ask, asked_told}
+use Rattle.spill_work.specs.Line.{AsksAll}
+use Rattle.node_table.proofs.Asking.{asked_told}
 use Rattle.node_table.proofs.row.JobRow.ask_writes.Goals as goal
-
-pub returns-then-not-room_for-clause-ok : goal.returns-then-not-room_for-clause-ok
-returns-then-not-room_for-clause-ok c hands bytes contents n own h asks =
-    let no = sym c.room_for.ensures ∙ c.if-not-room_for.true in
-    true_false (sym (ap (λ (j : JobNo). room_for c.args.works.now j (length c.args.ids.now)) (sym own) ∙ no) ∙ may_ask c.args.self.now c.args.works.now hands bytes n c.args.ids.now asks)
 
 pub returns-clause-ok : goal.returns-clause-ok
 returns-clause-ok c hands bytes contents n own h asks =

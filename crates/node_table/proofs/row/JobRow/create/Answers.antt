@@ -1,8 +1,5 @@
-use Rattle.std.proofs.Common.{◌≡◌, ◌==◌, true, false, sym, ap, subst, ◌∙◌}
-use Rattle.std.specs.Option.{option_map_or}
-use Rattle.private_store.specs.Copies.{is_sealed}
-use Rattle.node_table.specs.Evicting.{fits_without}
-use Rattle.node_table.specs.Kept.{Kept}
+use Rattle.std.proofs.Common.{◌≡◌, ◌==◌, true, sym, ap, subst, ◌∙◌}
+use Rattle.node_table.specs.Evicting.{MayGo}
 use Rattle.obj_id.specs.declared.commands.Command.TheVariants as command
 use Rattle.private_store.specs.declared.inputs.Input.TheVariants as input
 use Rattle.private_store.specs.Room.{make_room}
@@ -12,8 +9,8 @@ use Rattle.node_table.specs.RoomPlans.{MakesPlace}
 use Rattle.node_table.specs.MadeRooms.{IsMade, WaitsForPlace, is_told}
 use Rattle.node_table.specs.Shown.{IsShown, TakesStep}
 use Rattle.node_table.specs.Outcomes.{given_of}
-use Rattle.node_table.proofs.Creating.{size_of, absent_of, x, quiet, by_room, create_refused}
-use Rattle.node_table.proofs.Pulling.{own_job, some_bytes, few_bytes}
+use Rattle.node_table.proofs.Creating.{x, quiet, by_room, create_refused}
+use Rattle.node_table.proofs.Pulling.{own_job}
 use Rattle.node_table.proofs.Getting.{each_ok, always_err}
 use Rattle.node_table.proofs.Late.{create_due}
 use Rattle.node_table.proofs.row.JobRow.create.Goals as goal
@@ -25,13 +22,9 @@ returns-in-Some-clause-ok c = each_ok c.told.result (λ o said session hands byt
 
 pub returns-in-Place-clause-ok : goal.returns-in-Place-clause-ok
 returns-in-Place-clause-ok c = each_ok c.create_in_place.result (λ o told session hands bytes contents mine h.
-    let passed = sym c.create_check.ensures ∙ c.in_default.is in
-    let fine = size_of c.args.self.now c.args.id.now c.args.len passed in
-    let some = some_bytes c.args.self.now.window.quota c.args.len fine in
-    let small = few_bytes c.args.self.now.window.quota c.args.len fine in
-    let own = own_job c.args.id.now.job c.args.self.now.job mine in
-    let kept = subst (λ m. WaitsForPlace m c.args.self.now c.args.works.now c.args.id.now c.args.len c.room_for.new.self c.room_for.new.works) c.in-Place.is c.in_ok-victims.ensures.place in
-    let makes = subst (λ m. IsMade m c.args.self.now (beside_of c.args.works.now hands bytes c.args.self.now.job) contents c.args.len c.room_for.new.self (beside_of c.room_for.new.works hands bytes c.args.self.now.job)) c.in-Place.is (c.in_ok-victims.ensures.ok hands bytes contents own h some small) in
+    let own = c.job.ensures.value ∙ own_job c.args.id.now.job c.args.self.now.job mine in
+    let kept = subst (λ m. WaitsForPlace m c.args.self.now c.args.works.now c.room_for.new.self c.room_for.new.works) c.in-Place.is c.in_ok-victims.ensures.place in
+    let makes = subst (λ m. IsMade m c.args.self.now (beside_of c.args.works.now hands bytes c.args.self.now.job) contents c.args.len c.room_for.new.self (beside_of c.room_for.new.works hands bytes c.args.self.now.job)) c.in-Place.is (c.in_ok-victims.ensures.ok hands bytes contents own h) in
     subst (λ w. TakesStep c.args.node c.args.self.now (beside_of c.args.works.now hands bytes c.args.self.now.job) contents (input.Call session (command.Create c.args.id.now c.args.kind c.args.len)) (given_of o) c.create_in_place.new.self (beside_of w hands bytes c.args.self.now.job)) (sym kept.1)
     (subst (λ r. (c.args.id.now.job.0 == r.job) ≡ true → IsShown r (beside_of c.args.works.now hands bytes c.args.self.now.job) contents → MakesPlace (make_room r.order (shape_of r (beside_of c.args.works.now hands bytes c.args.self.now.job)) c.args.len) (shape_of r (beside_of c.args.works.now hands bytes c.args.self.now.job)) c.args.len c.as_slice.result.now
     → TakesStep c.args.node r (beside_of c.args.works.now hands bytes c.args.self.now.job) contents (input.Call session (command.Create c.args.id.now c.args.kind c.args.len)) (given_of o) c.create_in_place.new.self (beside_of c.args.works.now hands bytes c.args.self.now.job)) kept.0 (told session (beside_of c.args.works.now hands bytes c.args.self.now.job) contents) mine h
@@ -40,30 +33,24 @@ returns-in-Place-clause-ok c = each_ok c.create_in_place.result (λ o told sessi
 pub returns-in-Told-clause-ok : goal.returns-in-Told-clause-ok
 returns-in-Told-clause-ok c = each_ok c.told-in-Told.result (λ o said session hands bytes contents mine h.
     let passed = sym c.create_check.ensures ∙ c.in_default.is in
-    let fine = size_of c.args.self.now c.args.id.now c.args.len passed in
-    let some = some_bytes c.args.self.now.window.quota c.args.len fine in
-    let small = few_bytes c.args.self.now.window.quota c.args.len fine in
-    let own = own_job c.args.id.now.job c.args.self.now.job mine in
-    let made = subst (λ m. IsMade m c.args.self.now (beside_of c.args.works.now hands bytes c.args.self.now.job) contents c.args.len c.room_for.new.self (beside_of c.room_for.new.works hands bytes c.args.self.now.job)) c.in-Told.is (c.in_ok-victims.ensures.ok hands bytes contents own h some small) in
+    let own = c.job.ensures.value ∙ own_job c.args.id.now.job c.args.self.now.job mine in
+    let made = subst (λ m. IsMade m c.args.self.now (beside_of c.args.works.now hands bytes c.args.self.now.job) contents c.args.len c.room_for.new.self (beside_of c.room_for.new.works hands bytes c.args.self.now.job)) c.in-Told.is (c.in_ok-victims.ensures.ok hands bytes contents own h) in
     subst (λ t. TakesStep c.args.node c.args.self.now (beside_of c.args.works.now hands bytes c.args.self.now.job) contents (input.Call session (command.Create c.args.id.now c.args.kind c.args.len)) t c.room_for.new.self (beside_of c.room_for.new.works hands bytes c.args.self.now.job)) (sym said)
     (made.tells c.args.node (x c.args.node c.args.self.now (beside_of c.args.works.now hands bytes c.args.self.now.job) contents session c.args.id.now c.args.kind c.args.len mine h)
     (created c.args.id.now c.args.kind c.args.len) (quiet c.args.node c.args.self.now (beside_of c.args.works.now hands bytes c.args.self.now.job) contents session c.args.id.now c.args.kind c.args.len mine h)
     (λ none. by_room c.args.node c.args.self.now (beside_of c.args.works.now hands bytes c.args.self.now.job) contents session c.args.id.now c.args.kind c.args.len mine h passed))) c.told-in-Told.ensures.ok
 
-pub room_for-requires : goal.room_for-requires
-room_for-requires c =
-    ap (λ o. option_map_or (λ (k : Kept). is_sealed k.copy.state) o false) (absent_of c.args.self.now c.args.id.now c.args.len (sym c.create_check.ensures ∙ c.in_default.is))
-
-pub create_in_place-requires-clause-fits : goal.create_in_place-requires-clause-fits
-create_in_place-requires-clause-fits c =
-    let kept = subst (λ m. WaitsForPlace m c.args.self.now c.args.works.now c.args.id.now c.args.len c.room_for.new.self c.room_for.new.works) c.in-Place.is c.in_ok-victims.ensures.place in
-    ap (λ (r : Row). fits_without r c.args.id.now c.args.len c.as_slice.result.now) kept.0 ∙ ap (fits_without c.args.self.now c.args.id.now c.args.len) c.as_slice.ensures ∙ kept.2
+pub create_in_place-requires-clause-may_go : goal.create_in_place-requires-clause-may_go
+create_in_place-requires-clause-may_go c =
+    let kept = subst (λ m. WaitsForPlace m c.args.self.now c.args.works.now c.room_for.new.self c.room_for.new.works) c.in-Place.is c.in_ok-victims.ensures.place in
+    subst (λ (r : Row). MayGo r.copies c.as_slice.result.now) (sym kept.0) (subst (MayGo c.args.self.now.copies) (sym c.as_slice.ensures) kept.2)
 
 pub returns-in_err-victims-clause-late : goal.returns-in_err-victims-clause-late
 returns-in_err-victims-clause-late c =
-    always_err c.from_residual.result (create_due c.args.node c.args.self.now c.args.works.now c.args.id.now c.args.kind c.args.len (sym c.create_check.ensures ∙ c.in_default.is) c.in_err-victims.ensures.late)
+    always_err c.from_residual.result (λ mine. create_due c.args.node c.args.self.now c.args.works.now c.args.id.now c.args.kind c.args.len (sym c.create_check.ensures ∙ c.in_default.is)
+    (c.in_err-victims.ensures.late (c.job.ensures.value ∙ own_job c.args.id.now.job c.args.self.now.job mine)) mine)
 
 pub returns-in-Place-clause-late : goal.returns-in-Place-clause-late
 returns-in-Place-clause-late c =
-    always_err c.create_in_place.result (create_due c.args.node c.args.self.now c.args.works.now c.args.id.now c.args.kind c.args.len (sym c.create_check.ensures ∙ c.in_default.is)
-    (c.in_ok-victims.ensures.made (ap is_told c.in-Place.is)))
+    always_err c.create_in_place.result (λ mine. create_due c.args.node c.args.self.now c.args.works.now c.args.id.now c.args.kind c.args.len (sym c.create_check.ensures ∙ c.in_default.is)
+    (c.in_ok-victims.ensures.made (ap is_told c.in-Place.is) (c.job.ensures.value ∙ own_job c.args.id.now.job c.args.self.now.job mine)) mine)

@@ -11,6 +11,7 @@ use Rattle.node_table.specs.Row.{beside_of}
 use Rattle.node_table.specs.Shown.{only, TakesStep}
 use Rattle.node_table.proofs.Getting.{each_ok, some_at}
 use Rattle.node_table.proofs.Faults.{told_once}
+use Rattle.node_table.proofs.Pulling.{own_job}
 use Rattle.node_table.proofs.row.JobRow.get_away.Goals as goal
 
 pub returns-in-Some-clause-ok : goal.returns-in-Some-clause-ok
@@ -22,3 +23,7 @@ returns-in-Some-clause-ok c =
     subst (λ g. TakesStep c.args.node c.args.self.now beside contents (input.Call session (command.Get c.args.id.now)) g c.forget_fault.new.self beside) (sym (said ∙ ap (λ r. only (reply.Refused r)) c.refusal.ensures))
     (subst (λ row. TakesStep c.args.node c.args.self.now beside contents (input.Call session (command.Get c.args.id.now)) (only (reply.Refused (refusal_of c.in-Some.fault))) row beside) (sym c.forget_fault.ensures)
     (told_once c.args.node c.args.self.now beside contents session c.args.id.now mine c.requires.alive h v.k v.found v.stays v.is c.in-Some.fault faulty))) c.told.ensures.ok
+
+pub returns-in-None-clause-ok : goal.returns-in-None-clause-ok
+returns-in-None-clause-ok c = each_ok c.restore.result (λ o told session hands bytes contents mine h.
+    told session hands bytes contents (c.job.ensures.value ∙ own_job c.args.id.now.job c.args.self.now.job mine) mine c.requires.alive h) c.restore.ensures.ok

@@ -1,17 +1,19 @@
 use Rattle.lru_evictor.specs.Orders.{ids_of}
-use Rattle.std.proofs.Common.{ℕ, nat_eq, false, replicate, List, Some, None, sym, ap, subst, ◌∙◌, arith}
+use Rattle.std.proofs.Common.{ℕ, ◌&&◌, nat_eq, false, replicate, List, Some, None, is_some, refl, sym, ap, subst, ◌∙◌, arith}
 use Rattle.std.specs.Map.{lookup}
 use Rattle.std.specs.Option.{option_map_or}
 use Rattle.obj_id.specs.declared.ids.ObjectId.{ObjectId}
 use Rattle.private_store.specs.Tables.{ById, at, with_entry}
-use Rattle.private_store.specs.Extents.{first}
-use Rattle.job_region.specs.Region.{Region, extents_of, put_in}
-use Rattle.node_table.specs.Evicting.{all_evicted, placed_without, replaced, without_missing}
+use Rattle.private_store.specs.Extents.{first, is_size}
+use Rattle.job_region.specs.Region.{Region, extents_of, put_in, without}
+use Rattle.node_table.specs.Evicting.{all_evicted, placed_without, has_place, replaced, without_missing}
 use Rattle.node_table.specs.Kept.{Kept, waits_for_place, placed_for}
 use Rattle.node_table.specs.Row.{Row, place_of, ArePlaced}
 use Rattle.node_table.proofs.Changes.{changed-found}
 use Rattle.node_table.proofs.Replacing.{left_sorted, new_lies, replaced_placed, alone}
-use Rattle.node_table.proofs.Pulling.{waiting, unused, placed_lies, stays_of}
+use Rattle.node_table.proofs.Getting.{each_ok}
+use Rattle.node_table.proofs.Placeless.{none_so, refused-placeless}
+use Rattle.node_table.proofs.Pulling.{waiting, unused, placed_lies}
 use Rattle.node_table.proofs.FollowsCopies.{changed_but, placed_unknown}
 use Rattle.node_table.proofs.row.JobRow.place_copy.Goals as goal
 
@@ -26,7 +28,7 @@ invariant_of-self-in-Ok-1 c =
     let placed = ap (λ (w : Region). w.placed) c.in-Ok.ensures.placed
     ∙ (λ i. put_in (c.in-Ok.extent.offset, replicate (c.in-Ok.ensures.length i) 0) (left i)) in
     let fresh = ap (lookup (nat_eq c.in-Ok.extent.offset)) (sym left) ∙ c.in-Ok.ensures.fresh in
-    let stays = stays_of c.args.self.now c.args.id.now c.args.len c.args.victims.now c.requires.fits in
+    let stays = c.requires.stays in
     let lies = placed_lies c.args.awaited c.in-Ok.extent.offset w.k c.args.len w.long in
     let there = new_lies c.self.inside.copies c.self.inside.window.placed c.self.invariant.0 c.args.victims.now c.args.id.now (placed_for c.args.awaited c.in-Ok.extent.offset w.k) c.args.len c.in-Ok.extent.offset w.nowhere stays lies fresh in
     let now_lie : ArePlaced c.replace.new.self.placed (place_of c.evict_for.new.copies) = subst (λ t. ArePlaced c.replace.new.self.placed (place_of t)) (sym copies)
@@ -38,8 +40,17 @@ invariant_of-self-in-Ok-1 c =
           (placed_unknown c.args.id.now c.self.inside.copies c.take_place.new.self (changed_but (placed_for c.args.awaited c.in-Ok.extent.offset) c.self.inside.copies c.take_place.new.self c.args.id.now c.take_place.ensures) w.nowhere c.self.inside.order c.self.invariant.1),
     )
 
-pub returns-in-Ok-clause-ok : goal.returns-in-Ok-clause-ok
-returns-in-Ok-clause-ok c k found =
+pub returns-in-Err-clause-none : goal.returns-in-Err-clause-none
+returns-in-Err-clause-none c =
+    let left = left_sorted c.self.inside.copies c.args.victims.now c.self.inside.window.placed c.in_ok-gone.gone.items c.deref.result.now c.in_ok-gone.ensures.permutation c.deref.ensures.value in
+    each_ok c.no_place.result (λ o none.
+    none_so o none.0
+    (ap (λ (r : Row). has_place r c.args.len c.args.victims.now) (sym c.self.view_is)
+    ∙ ap (λ ps. is_size c.self.inside.window.quota c.args.len && is_some (first (extents_of ps) c.self.inside.window.quota c.args.len)) (sym left)
+    ∙ refused-placeless (record c.self.inside.window { placed = without c.deref.result.now c.self.inside.window.placed }) c.args.len c.in-Err.refusal (c.in-Err.ensures.refused c.in-Err.refusal none.1 refl))) c.no_place.ensures.none
+
+pub returns-in-Ok-clause-some : goal.returns-in-Ok-clause-some
+returns-in-Ok-clause-some c k found =
     let left = left_sorted c.self.inside.copies c.args.victims.now c.self.inside.window.placed c.in_ok-gone.gone.items c.deref.result.now c.in_ok-gone.ensures.permutation c.deref.ensures.value in
     let there = ap (λ (r : Row). at r.copies c.args.id.now) c.self.view_is ∙ found in
     let copies = c.evict_for.ensures.copies ∙ ap (all_evicted c.args.victims.now) (c.take_place.ensures ∙ changed-found (placed_for c.args.awaited c.in-Ok.extent.offset) c.args.id.now c.self.inside.copies k there) in

@@ -1,5 +1,4 @@
-use Rattle.std.proofs.Common.{◌≡◌, ◌==◌, None, ◌<◌, true, false, ◌≤◌, ◌+◌, length, IfOk, sym, ap, subst, ◌∙◌}
-use Rattle.std.specs.Map.{lookup}
+use Rattle.std.proofs.Common.{◌≡◌, ◌==◌, ◌<◌, true, false, ◌≤◌, ◌+◌, length, IfOk, sym, ap, subst, ◌∙◌}
 use Rattle.std.specs.Option.{option_copied, option_map_or, option_and_then}
 use Rattle.obj_id.specs.declared.commands.Command.TheVariants as command
 use Rattle.obj_id.specs.declared.commands.CopyState.TheVariants.{Away}
@@ -11,7 +10,7 @@ use Rattle.private_store.specs.Kept.{is_remembered}
 use Rattle.private_store.specs.Limits.{most_works, has_numbers}
 use Rattle.private_store.specs.Room.{make_room}
 use Rattle.private_store.specs.Tables.{at}
-use Rattle.spill_work.specs.Line.{in_flight, same_job, used_by}
+use Rattle.spill_work.specs.Line.{in_flight, used_by}
 use Rattle.node_table.specs.Checks.{visible_state, fault_at}
 use Rattle.node_table.specs.Kept.{Kept, waits_for_place}
 use Rattle.node_table.specs.Outcomes.{given_of}
@@ -25,9 +24,6 @@ use Rattle.node_table.proofs.Pulling.{own_job, waits}
 use Rattle.node_table.proofs.Restoring.{busy_told, few_works, all_works, no_number, numbers_left, too_many_told}
 use Rattle.node_table.proofs.row.JobRow.restore.Goals as goal
 
-pub restore_by-requires-clause-alive : goal.restore_by-requires-clause-alive
-restore_by-requires-clause-alive c = ap (λ (r : Row). is_remembered r.ended_tasks c.args.id.now.task) c.plan_room-plan.ensures.same ∙ c.requires.alive
-
 pub restore_by-requires-clause-visible : goal.restore_by-requires-clause-visible
 restore_by-requires-clause-visible c = ap (λ (r : Row). visible_state (at r.copies c.args.id.now)) c.plan_room-plan.ensures.same ∙ c.requires.visible
 
@@ -35,7 +31,7 @@ pub restore_by-requires-clause-sound : goal.restore_by-requires-clause-sound
 restore_by-requires-clause-sound c = ap (λ (r : Row). fault_at r.copies c.args.id.now) c.plan_room-plan.ensures.same ∙ c.requires.sound
 
 pub restore_by-requires-clause-idle : goal.restore_by-requires-clause-idle
-restore_by-requires-clause-idle c = subst (λ m. m < most_works) (c.in_flight.ensures ∙ ap (in_flight c.args.works.now) c.job.ensures.value) c.if-in_flight-ge-MOST_WORKS.false
+restore_by-requires-clause-idle c = subst (λ m. m < most_works) c.in_flight.ensures c.if-in_flight-ge-MOST_WORKS.false
 
 pub restore_by-requires-clause-waits : goal.restore_by-requires-clause-waits
 restore_by-requires-clause-waits c =
@@ -49,21 +45,19 @@ pub returns-then-in_flight-ge-MOST_WORKS-clause-ok : goal.returns-then-in_flight
 returns-then-in_flight-ge-MOST_WORKS-clause-ok c =
     let v = some_at c.args.self.now.copies c.args.id.now Away c.requires.visible in
     let sound = sym (ap (option_and_then (λ (k : Kept). k.copy.fault)) v.found) ∙ c.requires.sound in
-    each_ok c.told.result (λ o said session hands bytes contents mine h.
-    let own = own_job c.args.id.now.job c.args.self.now.job mine in
+    each_ok c.told.result (λ o said session hands bytes contents own mine alive h.
     subst (λ t. TakesStep c.args.node c.args.self.now (beside_of c.args.works.now hands bytes c.args.self.now.job) contents (input.Call session (command.Get c.args.id.now)) t c.args.self.now (beside_of c.args.works.now hands bytes c.args.self.now.job)) (sym said)
-    (busy_told c.args.node c.args.self.now (beside_of c.args.works.now hands bytes c.args.self.now.job) contents session c.args.id.now mine c.requires.alive h v.k v.found v.stays v.is sound
-    (all_works c.args.works.now c.args.id.now.job c.args.self.now.job own (subst (λ m. most_works ≤ m) (c.in_flight.ensures ∙ ap (in_flight c.args.works.now) c.job.ensures.value) c.if-in_flight-ge-MOST_WORKS.true)))) c.told.ensures.ok
+    (busy_told c.args.node c.args.self.now (beside_of c.args.works.now hands bytes c.args.self.now.job) contents session c.args.id.now mine alive h v.k v.found v.stays v.is sound
+    (all_works c.args.works.now c.args.job c.args.self.now.job own (subst (λ m. most_works ≤ m) c.in_flight.ensures c.if-in_flight-ge-MOST_WORKS.true)))) c.told.ensures.ok
 
 pub restore_by-requires-clause-numbered : goal.restore_by-requires-clause-numbered
 restore_by-requires-clause-numbered c makes =
-    ap (λ n. has_numbers n 1) (sym (c.asked-asked.ensures.last ∙ ap (used_by c.args.works.now) c.job-2.ensures.value))
+    ap (λ n. has_numbers n 1) (sym c.asked-asked.ensures.last)
     ∙ numbers_left c.makes_place.result c.asked-asked.result c.else-makes_place.either c.asked-asked.type_inv (c.makes_place.ensures ∙ makes)
 
 pub restore_by-requires-clause-fresh : goal.restore_by-requires-clause-fresh
 restore_by-requires-clause-fresh c none =
-    subst (λ j. lookup (same_job j) c.args.works.now.used ≡ None) c.job-2.ensures.value
-    (c.asked-asked.ensures.fresh (c.asked-asked.ensures.last ∙ ap (used_by c.args.works.now) c.job-2.ensures.value ∙ none))
+    c.asked-asked.ensures.fresh (c.asked-asked.ensures.last ∙ none)
 
 pub returns-then-asked-clause-ok : goal.returns-then-asked-clause-ok
 returns-then-asked-clause-ok c =
@@ -71,24 +65,23 @@ returns-then-asked-clause-ok c =
     let found = ap (λ t. at t c.args.id.now) (sym c.copies.ensures.copies) ∙ sym c.get.ensures ∙ ap option_copied c.in-Some.is in
     let st = seen_at c.args.self.now.copies c.args.id.now Away k found c.requires.visible in
     let sound = sym (ap (option_and_then (λ (k : Kept). k.copy.fault)) found) ∙ c.requires.sound in
-    each_ok c.told-then-asked.result (λ o said session hands bytes contents mine h.
-    let own = own_job c.args.id.now.job c.args.self.now.job mine in
+    each_ok c.told-then-asked.result (λ o said session hands bytes contents own mine alive h.
     let beside = beside_of c.args.works.now hands bytes c.args.self.now.job in
     let place = place_planned_by c.args.self.now beside contents h c.length-len.result
-    (ap makes_place (sym (c.plan_room-plan.ensures.plan hands bytes contents h)) ∙ sym c.makes_place.ensures ∙ c.if-makes_place.true) in
+    (ap makes_place (sym (c.plan_room-plan.ensures.plan hands bytes contents own h)) ∙ sym c.makes_place.ensures ∙ c.if-makes_place.true) in
     subst (λ g. TakesStep c.args.node c.args.self.now beside contents (input.Call session (command.Get c.args.id.now)) g c.plan_room-plan.new.self beside) (sym said)
     (subst (λ row. TakesStep c.args.node c.args.self.now beside contents (input.Call session (command.Get c.args.id.now)) (only (reply.Refused TooMany)) row beside) (sym c.plan_room-plan.ensures.same)
-    (too_many_told c.args.node c.args.self.now beside contents session c.args.id.now mine c.requires.alive h k found st.0 st.1 sound
-    (few_works c.args.works.now c.args.id.now.job c.args.self.now.job own (subst (λ m. m < most_works) (c.in_flight.ensures ∙ ap (in_flight c.args.works.now) c.job.ensures.value) c.if-in_flight-ge-MOST_WORKS.false))
+    (too_many_told c.args.node c.args.self.now beside contents session c.args.id.now mine alive h k found st.0 st.1 sound
+    (few_works c.args.works.now c.args.job c.args.self.now.job own (subst (λ m. m < most_works) c.in_flight.ensures c.if-in_flight-ge-MOST_WORKS.false))
     place.0 (subst (λ n. MakesPlace (make_room c.args.self.now.order (shape_of c.args.self.now beside) n) (shape_of c.args.self.now beside) n place.0) c.length-len.ensures place.1)
-    (no_number c.args.works.now c.args.id.now.job c.args.self.now.job own (ap (used_by c.args.works.now) (sym c.job-2.ensures.value) ∙ sym c.asked-asked.ensures.last ∙ c.if-asked.true))))) c.told-then-asked.ensures.ok
+    (no_number c.args.works.now c.args.job c.args.self.now.job own (sym c.asked-asked.ensures.last ∙ c.if-asked.true))))) c.told-then-asked.ensures.ok
 
 pub returns-clause-ok : goal.returns-clause-ok
-returns-clause-ok c = each_ok c.restore_by.result (λ o told session hands bytes contents mine h.
-    subst (λ (r : Row). (c.args.id.now.job.0 == r.job) ≡ true → IsShown r (beside_of c.args.works.now hands bytes r.job) contents
+returns-clause-ok c = each_ok c.restore_by.result (λ o told session hands bytes contents own mine alive h.
+    subst (λ (r : Row). c.args.job ≡ record { 0 = r.job } → (c.args.id.now.job.0 == r.job) ≡ true → is_remembered r.ended_tasks c.args.id.now.task ≡ false → IsShown r (beside_of c.args.works.now hands bytes r.job) contents
     → c.plan_room-plan.result ≡ planned_by r.order (shape_of r (beside_of c.args.works.now hands bytes r.job)) c.length-len.result
     → TakesStep c.args.node r (beside_of c.args.works.now hands bytes r.job) contents (input.Call session (command.Get c.args.id.now)) (given_of o) c.restore_by.new.self (beside_of c.restore_by.new.works hands bytes r.job)) c.plan_room-plan.ensures.same
-    (told session hands bytes contents) mine h (c.plan_room-plan.ensures.plan hands bytes contents h)) c.restore_by.ensures.ok
+    (told session hands bytes contents) own mine alive h (c.plan_room-plan.ensures.plan hands bytes contents own h)) c.restore_by.ensures.ok
 
 pub returns-clause-few : goal.returns-clause-few
 returns-clause-few c = subst (λ (r : Row). IfOk c.restore_by.result (λ o. length o.messages ≤ length r.copies + 1)) c.plan_room-plan.ensures.same c.restore_by.ensures.few
@@ -102,8 +95,10 @@ returns-clause-late c =
     let found = ap (λ t. at t c.args.id.now) (sym c.copies.ensures.copies) ∙ sym c.get.ensures ∙ ap option_copied c.in-Some.is in
     let st = seen_at c.args.self.now.copies c.args.id.now Away k found c.requires.visible in
     let sound = sym (ap (option_and_then (λ (k : Kept). k.copy.fault)) found) ∙ c.requires.sound in
-    each_err c.restore_by.result (restore_due c.args.node c.args.self.now c.args.works.now c.args.id.now c.requires.alive k found st.0 st.1 sound
-    (subst (λ m. m < most_works) (c.in_flight.ensures ∙ ap (in_flight c.args.works.now) c.job.ensures.value) c.if-in_flight-ge-MOST_WORKS.false) c.length-len.result c.length-len.ensures
-    c.plan_room-plan.result c.plan_room-plan.ensures.plan (λ makes.
-    ap (λ n. has_numbers n 1) (sym (c.asked-asked.ensures.last ∙ ap (used_by c.args.works.now) c.job-2.ensures.value))
-    ∙ numbers_left c.makes_place.result c.asked-asked.result c.else-makes_place.either c.asked-asked.type_inv (c.makes_place.ensures ∙ makes))) c.restore_by.ensures.late
+    each_err c.restore_by.result (λ may own mine alive.
+    let same : c.args.job ≡ c.args.id.now.job = own ∙ sym (own_job c.args.id.now.job c.args.self.now.job mine) in
+    restore_due c.args.node c.args.self.now c.args.works.now c.args.id.now alive k found st.0 st.1 sound
+    (subst (λ j. in_flight c.args.works.now j < most_works) same (subst (λ m. m < most_works) c.in_flight.ensures c.if-in_flight-ge-MOST_WORKS.false)) c.length-len.result c.length-len.ensures
+    c.plan_room-plan.result (λ hands bytes contents h. c.plan_room-plan.ensures.plan hands bytes contents own h) (λ makes.
+    ap (λ j. has_numbers (used_by c.args.works.now j) 1) (sym same) ∙ ap (λ n. has_numbers n 1) (sym c.asked-asked.ensures.last)
+    ∙ numbers_left c.makes_place.result c.asked-asked.result c.else-makes_place.either c.asked-asked.type_inv (c.makes_place.ensures ∙ makes)) may mine) c.restore_by.ensures.late

@@ -1,17 +1,17 @@
-use Rattle.std.proofs.Common.{◌≡◌, ◌==◌, None, ◌<◌, true, false, ◌≤◌, refl, sym, ap, subst, ◌∙◌}
+use Rattle.std.proofs.Common.{◌≡◌, ◌==◌, None, ◌<◌, true, false, sym, ap, subst, ◌∙◌}
 use Rattle.std.specs.Map.{lookup}
 use Rattle.std.specs.Option.{option_map_or, option_and_then}
 use Rattle.obj_id.specs.declared.commands.Command.TheVariants as command
 use Rattle.obj_id.specs.declared.commands.CopyState.TheVariants.{Away}
 use Rattle.private_store.specs.declared.inputs.Input.TheVariants as input
 use Rattle.private_store.specs.Kept.{is_remembered}
-use Rattle.private_store.specs.Limits.{most_works, longest_object, has_numbers}
+use Rattle.private_store.specs.Limits.{most_works, has_numbers}
 use Rattle.private_store.specs.Room.{make_room}
 use Rattle.private_store.specs.Tables.{at}
 use Rattle.private_store.proofs.Tests.{some_value}
 use Rattle.spill_work.specs.Line.{in_flight, same_job, used_by}
 use Rattle.node_table.specs.Checks.{visible_state, fault_at}
-use Rattle.node_table.specs.Evicting.{fits_without}
+use Rattle.node_table.specs.Evicting.{MayGo}
 use Rattle.node_table.specs.Kept.{Kept, waits_for_place}
 use Rattle.node_table.specs.MadeRooms.{IsMade, TellsRoom, WaitsForPlace, is_told}
 use Rattle.node_table.specs.Outcomes.{given_of}
@@ -20,69 +20,55 @@ use Rattle.node_table.specs.Row.{Row, beside_of, shape_of}
 use Rattle.node_table.specs.Shown.{IsShown, TakesStep}
 use Rattle.node_table.proofs.Getting.{each_ok, always_err, some_at}
 use Rattle.node_table.proofs.Growing.{placed_unrefused}
-use Rattle.node_table.proofs.Pulling.{own_job, unsealed_visible, waiting, quiet_get}
-use Rattle.node_table.proofs.Restoring.{f, by_no_room, few_works, sized_away}
+use Rattle.node_table.proofs.Pulling.{waiting, quiet_get}
+use Rattle.node_table.proofs.Restoring.{f, by_no_room, few_works}
 use Rattle.node_table.proofs.row.JobRow.restore_by.Goals as goal
-
-pub room_by-requires : goal.room_by-requires
-room_by-requires c = unsealed_visible c.args.self.now.copies c.args.id.now Away refl c.requires.visible
-
-pub restore_in_place-requires-clause-alive : goal.restore_in_place-requires-clause-alive
-restore_in_place-requires-clause-alive c =
-    let kept = subst (λ m. WaitsForPlace m c.args.self.now c.args.works.now c.args.id.now c.args.len c.room_by.new.self c.room_by.new.works) c.in-Place.is c.in_ok-victims.ensures.place in
-    ap (λ (r : Row). is_remembered r.ended_tasks c.args.id.now.task) kept.0 ∙ c.requires.alive
 
 pub restore_in_place-requires-clause-visible : goal.restore_in_place-requires-clause-visible
 restore_in_place-requires-clause-visible c =
-    let kept = subst (λ m. WaitsForPlace m c.args.self.now c.args.works.now c.args.id.now c.args.len c.room_by.new.self c.room_by.new.works) c.in-Place.is c.in_ok-victims.ensures.place in
+    let kept = subst (λ m. WaitsForPlace m c.args.self.now c.args.works.now c.room_by.new.self c.room_by.new.works) c.in-Place.is c.in_ok-victims.ensures.place in
     ap (λ (r : Row). visible_state (at r.copies c.args.id.now)) kept.0 ∙ c.requires.visible
 
 pub restore_in_place-requires-clause-sound : goal.restore_in_place-requires-clause-sound
 restore_in_place-requires-clause-sound c =
-    let kept = subst (λ m. WaitsForPlace m c.args.self.now c.args.works.now c.args.id.now c.args.len c.room_by.new.self c.room_by.new.works) c.in-Place.is c.in_ok-victims.ensures.place in
+    let kept = subst (λ m. WaitsForPlace m c.args.self.now c.args.works.now c.room_by.new.self c.room_by.new.works) c.in-Place.is c.in_ok-victims.ensures.place in
     ap (λ (r : Row). fault_at r.copies c.args.id.now) kept.0 ∙ c.requires.sound
 
 pub restore_in_place-requires-clause-idle : goal.restore_in_place-requires-clause-idle
 restore_in_place-requires-clause-idle c =
-    let kept = subst (λ m. WaitsForPlace m c.args.self.now c.args.works.now c.args.id.now c.args.len c.room_by.new.self c.room_by.new.works) c.in-Place.is c.in_ok-victims.ensures.place in
-    subst (λ w. in_flight w c.args.id.now.job < most_works) (sym kept.1) c.requires.idle
+    let kept = subst (λ m. WaitsForPlace m c.args.self.now c.args.works.now c.room_by.new.self c.room_by.new.works) c.in-Place.is c.in_ok-victims.ensures.place in
+    subst (λ w. in_flight w c.args.job < most_works) (sym kept.1) c.requires.idle
 
 pub restore_in_place-requires-clause-numbered : goal.restore_in_place-requires-clause-numbered
 restore_in_place-requires-clause-numbered c =
-    let kept = subst (λ m. WaitsForPlace m c.args.self.now c.args.works.now c.args.id.now c.args.len c.room_by.new.self c.room_by.new.works) c.in-Place.is c.in_ok-victims.ensures.place in
-    ap (λ w. has_numbers (used_by w c.args.id.now.job) 1) kept.1 ∙ c.requires.numbered (c.in_ok-victims.ensures.made (ap is_told c.in-Place.is))
+    let kept = subst (λ m. WaitsForPlace m c.args.self.now c.args.works.now c.room_by.new.self c.room_by.new.works) c.in-Place.is c.in_ok-victims.ensures.place in
+    ap (λ w. has_numbers (used_by w c.args.job) 1) kept.1 ∙ c.requires.numbered (c.in_ok-victims.ensures.made (ap is_told c.in-Place.is))
 
 pub restore_in_place-requires-clause-fresh : goal.restore_in_place-requires-clause-fresh
 restore_in_place-requires-clause-fresh c =
-    let kept = subst (λ m. WaitsForPlace m c.args.self.now c.args.works.now c.args.id.now c.args.len c.room_by.new.self c.room_by.new.works) c.in-Place.is c.in_ok-victims.ensures.place in
-    subst (λ w. used_by w c.args.id.now.job ≡ 0 → lookup (same_job c.args.id.now.job) w.used ≡ None) (sym kept.1) c.requires.fresh
+    let kept = subst (λ m. WaitsForPlace m c.args.self.now c.args.works.now c.room_by.new.self c.room_by.new.works) c.in-Place.is c.in_ok-victims.ensures.place in
+    subst (λ w. used_by w c.args.job ≡ 0 → lookup (same_job c.args.job) w.used ≡ None) (sym kept.1) c.requires.fresh
 
 pub restore_in_place-requires-clause-waits : goal.restore_in_place-requires-clause-waits
 restore_in_place-requires-clause-waits c =
-    let kept = subst (λ m. WaitsForPlace m c.args.self.now c.args.works.now c.args.id.now c.args.len c.room_by.new.self c.room_by.new.works) c.in-Place.is c.in_ok-victims.ensures.place in
+    let kept = subst (λ m. WaitsForPlace m c.args.self.now c.args.works.now c.room_by.new.self c.room_by.new.works) c.in-Place.is c.in_ok-victims.ensures.place in
     ap (λ (r : Row). option_map_or (waits_for_place c.args.len) (at r.copies c.args.id.now) false) kept.0 ∙ c.requires.waits
 
-pub restore_in_place-requires-clause-fits : goal.restore_in_place-requires-clause-fits
-restore_in_place-requires-clause-fits c =
-    let kept = subst (λ m. WaitsForPlace m c.args.self.now c.args.works.now c.args.id.now c.args.len c.room_by.new.self c.room_by.new.works) c.in-Place.is c.in_ok-victims.ensures.place in
-    ap (λ (r : Row). fits_without r c.args.id.now c.args.len c.as_slice.result.now) kept.0 ∙ ap (fits_without c.args.self.now c.args.id.now c.args.len) c.as_slice.ensures ∙ kept.2
+pub restore_in_place-requires-clause-may_go : goal.restore_in_place-requires-clause-may_go
+restore_in_place-requires-clause-may_go c =
+    let kept = subst (λ m. WaitsForPlace m c.args.self.now c.args.works.now c.room_by.new.self c.room_by.new.works) c.in-Place.is c.in_ok-victims.ensures.place in
+    subst (λ (r : Row). MayGo r.copies c.as_slice.result.now) (sym kept.0) (subst (MayGo c.args.self.now.copies) (sym c.as_slice.ensures) kept.2)
 
 pub returns-in-Place-clause-ok : goal.returns-in-Place-clause-ok
-returns-in-Place-clause-ok c =
-    let v = some_at c.args.self.now.copies c.args.id.now Away c.requires.visible in
-    let w = waiting c.args.self.now.copies c.args.id.now c.args.len c.requires.waits in
-    let long : c.args.len ≡ v.k.copy.length = sym w.long ∙ ap (λ (y : Kept). y.copy.length) (some_value w.k v.k (sym w.found ∙ v.found)) in
-    each_ok c.restore_in_place.result (λ o told session hands bytes contents mine h is_plan.
-    let own = own_job c.args.id.now.job c.args.self.now.job mine in
-    let sized = sized_away c.args.self.now (beside_of c.args.works.now hands bytes c.args.self.now.job) contents h c.args.id.now v.k v.found v.is in
-    let some = subst (λ n. 0 < n) (sym long) sized.0 in
-    let small = subst (λ n. n ≤ longest_object) (sym long) sized.1 in
-    let kept = subst (λ m. WaitsForPlace m c.args.self.now c.args.works.now c.args.id.now c.args.len c.room_by.new.self c.room_by.new.works) c.in-Place.is c.in_ok-victims.ensures.place in
-    let makes = subst (λ m. IsMade m c.args.self.now (beside_of c.args.works.now hands bytes c.args.self.now.job) contents c.args.len c.room_by.new.self (beside_of c.room_by.new.works hands bytes c.args.self.now.job)) c.in-Place.is (c.in_ok-victims.ensures.ok hands bytes contents own h some small is_plan) in
-    subst (λ w. (c.args.id.now.job.0 == c.args.self.now.job) ≡ true → IsShown c.args.self.now (beside_of w hands bytes c.args.self.now.job) contents → MakesPlace (make_room c.args.self.now.order (shape_of c.args.self.now (beside_of w hands bytes c.args.self.now.job)) c.args.len) (shape_of c.args.self.now (beside_of w hands bytes c.args.self.now.job)) c.args.len c.as_slice.result.now
+returns-in-Place-clause-ok c = each_ok c.restore_in_place.result (λ o told session hands bytes contents own mine alive h is_plan.
+    let kept = subst (λ m. WaitsForPlace m c.args.self.now c.args.works.now c.room_by.new.self c.room_by.new.works) c.in-Place.is c.in_ok-victims.ensures.place in
+    let makes = subst (λ m. IsMade m c.args.self.now (beside_of c.args.works.now hands bytes c.args.self.now.job) contents c.args.len c.room_by.new.self (beside_of c.room_by.new.works hands bytes c.args.self.now.job)) c.in-Place.is (c.in_ok-victims.ensures.ok hands bytes contents own h is_plan) in
+    subst (λ w. c.args.job ≡ record { 0 = c.args.self.now.job } → (c.args.id.now.job.0 == c.args.self.now.job) ≡ true → is_remembered c.args.self.now.ended_tasks c.args.id.now.task ≡ false → IsShown c.args.self.now (beside_of w hands bytes c.args.self.now.job) contents
+    → MakesPlace (make_room c.args.self.now.order (shape_of c.args.self.now (beside_of w hands bytes c.args.self.now.job)) c.args.len) (shape_of c.args.self.now (beside_of w hands bytes c.args.self.now.job)) c.args.len c.as_slice.result.now
     → TakesStep c.args.node c.args.self.now (beside_of w hands bytes c.args.self.now.job) contents (input.Call session (command.Get c.args.id.now)) (given_of o) c.restore_in_place.new.self (beside_of c.restore_in_place.new.works hands bytes c.args.self.now.job)) kept.1
-    (subst (λ r. (c.args.id.now.job.0 == r.job) ≡ true → IsShown r (beside_of c.room_by.new.works hands bytes r.job) contents → MakesPlace (make_room r.order (shape_of r (beside_of c.room_by.new.works hands bytes r.job)) c.args.len) (shape_of r (beside_of c.room_by.new.works hands bytes r.job)) c.args.len c.as_slice.result.now
-    → TakesStep c.args.node r (beside_of c.room_by.new.works hands bytes r.job) contents (input.Call session (command.Get c.args.id.now)) (given_of o) c.restore_in_place.new.self (beside_of c.restore_in_place.new.works hands bytes r.job)) kept.0 (told session hands bytes contents)) mine h
+    (subst (λ r. c.args.job ≡ record { 0 = r.job } → (c.args.id.now.job.0 == r.job) ≡ true → is_remembered r.ended_tasks c.args.id.now.task ≡ false → IsShown r (beside_of c.room_by.new.works hands bytes r.job) contents
+    → MakesPlace (make_room r.order (shape_of r (beside_of c.room_by.new.works hands bytes r.job)) c.args.len) (shape_of r (beside_of c.room_by.new.works hands bytes r.job)) c.args.len c.as_slice.result.now
+    → TakesStep c.args.node r (beside_of c.room_by.new.works hands bytes r.job) contents (input.Call session (command.Get c.args.id.now)) (given_of o) c.restore_in_place.new.self (beside_of c.restore_in_place.new.works hands bytes r.job)) kept.0 (told session hands bytes contents)) own mine alive h
     (subst (MakesPlace (make_room c.args.self.now.order (shape_of c.args.self.now (beside_of c.args.works.now hands bytes c.args.self.now.job)) c.args.len) (shape_of c.args.self.now (beside_of c.args.works.now hands bytes c.args.self.now.job)) c.args.len) (sym c.as_slice.ensures) makes)) c.restore_in_place.ensures.ok
 
 pub returns-in-Told-clause-ok : goal.returns-in-Told-clause-ok
@@ -91,21 +77,20 @@ returns-in-Told-clause-ok c =
     let w = waiting c.args.self.now.copies c.args.id.now c.args.len c.requires.waits in
     let long : c.args.len ≡ v.k.copy.length = sym w.long ∙ ap (λ (y : Kept). y.copy.length) (some_value w.k v.k (sym w.found ∙ v.found)) in
     let sound = sym (ap (option_and_then (λ (k : Kept). k.copy.fault)) v.found) ∙ c.requires.sound in
-    each_ok c.told.result (λ o said session hands bytes contents mine h is_plan.
-    let own = own_job c.args.id.now.job c.args.self.now.job mine in
-    let sized = sized_away c.args.self.now (beside_of c.args.works.now hands bytes c.args.self.now.job) contents h c.args.id.now v.k v.found v.is in
-    let some = subst (λ n. 0 < n) (sym long) sized.0 in
-    let small = subst (λ n. n ≤ longest_object) (sym long) sized.1 in
-    let made = subst (λ m. IsMade m c.args.self.now (beside_of c.args.works.now hands bytes c.args.self.now.job) contents c.args.len c.room_by.new.self (beside_of c.room_by.new.works hands bytes c.args.self.now.job)) c.in-Told.is (c.in_ok-victims.ensures.ok hands bytes contents own h some small is_plan) in
+    each_ok c.told.result (λ o said session hands bytes contents own mine alive h is_plan.
+    let made = subst (λ m. IsMade m c.args.self.now (beside_of c.args.works.now hands bytes c.args.self.now.job) contents c.args.len c.room_by.new.self (beside_of c.room_by.new.works hands bytes c.args.self.now.job)) c.in-Told.is (c.in_ok-victims.ensures.ok hands bytes contents own h is_plan) in
     let tells = subst (λ n. TellsRoom c.args.self.now (beside_of c.args.works.now hands bytes c.args.self.now.job) contents n c.in-Told.refusal c.room_by.new.self (beside_of c.room_by.new.works hands bytes c.args.self.now.job)) long made in
     subst (λ t. TakesStep c.args.node c.args.self.now (beside_of c.args.works.now hands bytes c.args.self.now.job) contents (input.Call session (command.Get c.args.id.now)) t c.room_by.new.self (beside_of c.room_by.new.works hands bytes c.args.self.now.job)) (sym said)
-    (tells.tells c.args.node (input.Call session (command.Get c.args.id.now)) (f c.args.node c.args.self.now (beside_of c.args.works.now hands bytes c.args.self.now.job) contents session c.args.id.now mine c.requires.alive h v.k v.found v.stays v.is sound)
+    (tells.tells c.args.node (input.Call session (command.Get c.args.id.now)) (f c.args.node c.args.self.now (beside_of c.args.works.now hands bytes c.args.self.now.job) contents session c.args.id.now mine alive h v.k v.found v.stays v.is sound)
     (quiet_get c.args.node c.args.self.now (beside_of c.args.works.now hands bytes c.args.self.now.job) contents session c.args.id.now)
-    (by_no_room c.args.node c.args.self.now (beside_of c.args.works.now hands bytes c.args.self.now.job) contents session c.args.id.now mine c.requires.alive h v.k v.found v.stays v.is sound
-    (few_works c.args.works.now c.args.id.now.job c.args.self.now.job own c.requires.idle)))) c.told.ensures.ok
+    (by_no_room c.args.node c.args.self.now (beside_of c.args.works.now hands bytes c.args.self.now.job) contents session c.args.id.now mine alive h v.k v.found v.stays v.is sound
+    (few_works c.args.works.now c.args.job c.args.self.now.job own c.requires.idle)))) c.told.ensures.ok
 
 pub returns-in_err-victims-clause-late : goal.returns-in_err-victims-clause-late
 returns-in_err-victims-clause-late c = always_err c.from_residual.result c.in_err-victims.ensures.late
 
 pub returns-in-Place-clause-late : goal.returns-in-Place-clause-late
 returns-in-Place-clause-late c = always_err c.restore_in_place.result (placed_unrefused c.args.plan (c.in_ok-victims.ensures.made (ap is_told c.in-Place.is)))
+
+pub room_by-requires : goal.room_by-requires
+room_by-requires c = c.requires.asks

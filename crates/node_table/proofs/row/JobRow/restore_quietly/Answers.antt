@@ -1,30 +1,14 @@
 use Rattle.std.proofs.Common.{[], sym, ap, subst, ◌∙◌}
-use Rattle.std.proofs.lemmas.Bool.{eqb-true}
-use Rattle.obj_id.specs.declared.ids.JobNo.{JobNo}
 use Rattle.obj_id.specs.declared.messages.Arrival.TheVariants as arrival
 use Rattle.obj_id.specs.declared.messages.PeerMessage.TheVariants as peer
 use Rattle.obj_id.specs.declared.commands.Reply.TheVariants as reply
 use Rattle.private_store.specs.declared.inputs.Input.TheVariants as input
-use Rattle.private_store.specs.Kept.{is_remembered}
-use Rattle.private_store.proofs.Tests.{true_false}
 use Rattle.node_table.specs.Asked.{HasAsked}
 use Rattle.node_table.specs.Outcomes.{given_of}
 use Rattle.node_table.specs.Row.{beside_of}
 use Rattle.node_table.specs.Shown.{TakesStep}
 use Rattle.node_table.proofs.Serving.{own_restored, alive_restored, restored_done}
 use Rattle.node_table.proofs.row.JobRow.restore_quietly.Goals as goal
-
-pub returns-then-job-clause-ok : goal.returns-then-job-clause-ok
-returns-then-job-clause-ok c from number n digest indexes hands bytes contents e h =
-    let beside = beside_of c.args.works.now hands bytes c.args.self.now.job in
-    let own = eqb-true c.args.id.now.job.0 c.args.self.now.job (own_restored c.args.node c.args.self.now beside contents h from c.args.id.now number n digest indexes e) in
-    absurd (c.if-job.true (ap (λ (j : JobNo). j.0) c.job.ensures.value ∙ own ∙ sym (ap (λ (j : JobNo). j.0) c.job-2.ensures)))
-
-pub returns-then-has_ended-clause-ok : goal.returns-then-has_ended-clause-ok
-returns-then-has_ended-clause-ok c from number n digest indexes hands bytes contents e h =
-    let beside = beside_of c.args.works.now hands bytes c.args.self.now.job in
-    true_false (sym (alive_restored c.args.node c.args.self.now beside contents h from c.args.id.now number n digest indexes e)
-    ∙ ap (is_remembered c.args.self.now.ended_tasks) (sym c.task.ensures) ∙ sym c.has_ended.ensures ∙ c.if-has_ended.true)
 
 pub returns-clause-ok : goal.returns-clause-ok
 returns-clause-ok c from number n digest indexes hands bytes contents e h =
@@ -37,8 +21,8 @@ returns-clause-ok c from number n digest indexes hands bytes contents e h =
     (subst (λ row. TakesStep c.args.node old beside contents x (record { reply = reply.Ok; posts = told.posts; erased = [] }) row after)
     (sym (c.put_spill_failed.ensures ∙ ap (λ b. record c.restore.new.self { spill_failed = b }) c.spill_failed-spill_failed.ensures))
     (restored_done c.args.node old beside contents h from c.args.id.now number n digest indexes e 0 told c.restore.new.self after
-    (c.in_ok-outcome.ensures.ok 0 hands bytes contents (own_restored c.args.node old beside contents h from c.args.id.now number n digest indexes e) h)))
+    (c.in_ok-outcome.ensures.ok 0 hands bytes contents c.job-job.ensures (own_restored c.args.node old beside contents h from c.args.id.now number n digest indexes e)
+    (alive_restored c.args.node old beside contents h from c.args.id.now number n digest indexes e) h)))
 
 pub returns-clause-line : goal.returns-clause-line
-returns-clause-line c =
-    subst (λ j. HasAsked c.args.works.now j c.restore.new.works) (sym c.job.ensures.value ∙ (λ i. record { 0 = c.if-job.false i }) ∙ c.job-2.ensures) c.in_ok-outcome.ensures.line
+returns-clause-line c = subst (λ j. HasAsked c.args.works.now j c.restore.new.works) c.job-job.ensures c.in_ok-outcome.ensures.line

@@ -1,44 +1,53 @@
-use Rattle.std.proofs.Common.{sym, subst, ◌∙◌}
+use Rattle.std.proofs.Common.{◌≤◌, List, length, refl, sym, subst, ◌∙◌, arith}
+use Rattle.obj_id.specs.declared.ids.ObjectId.{ObjectId}
 use Rattle.private_store.specs.Room.{make_room}
+use Rattle.node_table.specs.Evicting.{MayGo}
 use Rattle.node_table.specs.Row.{beside_of, shape_of}
 use Rattle.node_table.specs.RoomPlans.{MakesPlace, AsksWrites}
 use Rattle.node_table.specs.declared.room.RoomPlan.TheVariants.{Fits, Evict, Ask, TellFailedSpill, Refuse}
+use Rattle.node_table.proofs.Asking.{may_ask_fewer}
 use Rattle.node_table.proofs.Getting.{each_ok}
 use Rattle.node_table.proofs.Planning.{planned_as}
 use Rattle.node_table.proofs.Rooms.{refusal_told, failure_told}
 use Rattle.node_table.proofs.row.JobRow.room_by.Goals as goal
 
 pub returns-in-Fits-clause-ok : goal.returns-in-Fits-clause-ok
-returns-in-Fits-clause-ok c = each_ok c.place_without.result (λ made placed hands bytes contents own h some small is.
+returns-in-Fits-clause-ok c hands bytes contents own h is =
     let beside = beside_of c.args.works.now hands bytes c.args.self.now.job in
-    placed beside contents h some small
-    (subst (MakesPlace (make_room c.args.self.now.order (shape_of c.args.self.now beside) c.args.len) (shape_of c.args.self.now beside) c.args.len) (sym c.new.ensures)
-    (planned_as c.args.self.now beside contents h c.args.len c.args.plan Fits is c.in-Fits.is))) c.place_without.ensures.ok
+    subst (MakesPlace (make_room c.args.self.now.order (shape_of c.args.self.now beside) c.args.len) (shape_of c.args.self.now beside) c.args.len) (sym c.new.ensures)
+    (planned_as c.args.self.now beside contents h c.args.len c.args.plan Fits is c.in-Fits.is)
+
+pub returns-in-Fits-clause-place : goal.returns-in-Fits-clause-place
+returns-in-Fits-clause-place c = (refl, refl, subst (MayGo c.args.self.now.copies) (sym c.new.ensures) (record { sealed = refl; few = omega arith }))
 
 pub returns-in_ok-victims-in-Evict-clause-ok : goal.returns-in_ok-victims-in-Evict-clause-ok
-returns-in_ok-victims-in-Evict-clause-ok c = each_ok c.place_without-in-Evict.result (λ made placed hands bytes contents own h some small is.
+returns-in_ok-victims-in-Evict-clause-ok c hands bytes contents own h is =
     let beside = beside_of c.args.works.now hands bytes c.args.self.now.job in
-    placed beside contents h some small
-    (subst (MakesPlace (make_room c.args.self.now.order (shape_of c.args.self.now beside) c.args.len) (shape_of c.args.self.now beside) c.args.len)
-    (sym (c.in_ok-victims-in-Evict.ensures c.args.works.now hands bytes contents h (sym is ∙ c.in-Evict.is)))
-    (planned_as c.args.self.now beside contents h c.args.len c.args.plan Evict is c.in-Evict.is))) c.place_without-in-Evict.ensures.ok
+    subst (MakesPlace (make_room c.args.self.now.order (shape_of c.args.self.now beside) c.args.len) (shape_of c.args.self.now beside) c.args.len)
+    (sym (c.in_ok-victims-in-Evict.ensures.victims c.args.works.now hands bytes contents h (sym is ∙ c.in-Evict.is)))
+    (planned_as c.args.self.now beside contents h c.args.len c.args.plan Evict is c.in-Evict.is)
 
 pub returns-in_ok-ids-in-Ask-clause-ok : goal.returns-in_ok-ids-in-Ask-clause-ok
-returns-in_ok-ids-in-Ask-clause-ok c = each_ok c.ask_writes.result (λ made asked hands bytes contents own h some small is.
+returns-in_ok-ids-in-Ask-clause-ok c = each_ok c.ask_writes.result (λ made asked hands bytes contents own h is.
     let beside = beside_of c.args.works.now hands bytes c.args.self.now.job in
-    asked hands bytes contents c.args.len (c.job.ensures.value ∙ own) h
+    asked hands bytes contents c.args.len own h
     (subst (AsksWrites (make_room c.args.self.now.order (shape_of c.args.self.now beside) c.args.len) (shape_of c.args.self.now beside))
-    (sym (c.as_slice.ensures ∙ c.in_ok-ids-in-Ask.ensures c.args.works.now hands bytes contents c.args.len h (sym is ∙ c.in-Ask.is)))
+    (sym (c.as_slice.ensures ∙ c.in_ok-ids-in-Ask.ensures.spillable c.args.works.now hands bytes contents c.args.len h (sym is ∙ c.in-Ask.is)))
     (planned_as c.args.self.now beside contents h c.args.len c.args.plan (Ask c.in-Ask.count) is c.in-Ask.is))) c.ask_writes.ensures.ok
 
 pub returns-in-TellFailedSpill-clause-ok : goal.returns-in-TellFailedSpill-clause-ok
-returns-in-TellFailedSpill-clause-ok c hands bytes contents own h some small is =
+returns-in-TellFailedSpill-clause-ok c hands bytes contents own h is =
     let beside = beside_of c.args.works.now hands bytes c.args.self.now.job in
     failure_told c.args.self.now beside contents h c.args.len
     (planned_as c.args.self.now beside contents h c.args.len c.args.plan TellFailedSpill is c.in-TellFailedSpill.is) c.forget_failed_spill.new.self c.forget_failed_spill.ensures
 
 pub returns-in-Refuse-clause-ok : goal.returns-in-Refuse-clause-ok
-returns-in-Refuse-clause-ok c hands bytes contents own h some small is =
+returns-in-Refuse-clause-ok c hands bytes contents own h is =
     let beside = beside_of c.args.works.now hands bytes c.args.self.now.job in
     refusal_told c.args.self.now beside contents h c.args.len c.in-Refuse.refusal
     (planned_as c.args.self.now beside contents h c.args.len c.args.plan (Refuse c.in-Refuse.refusal) is c.in-Refuse.is)
+
+pub ask_writes-requires : goal.ask_writes-requires
+ask_writes-requires c =
+    may_ask_fewer c.args.works.now c.args.job c.in-Ask.count (length c.as_slice.result.now) (subst (λ (ids : List ObjectId). length ids ≤ c.in-Ask.count) (sym c.as_slice.ensures) c.in_ok-ids-in-Ask.ensures.few)
+    (c.requires c.in-Ask.count c.in-Ask.is)

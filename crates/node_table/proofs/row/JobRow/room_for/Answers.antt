@@ -1,6 +1,4 @@
-use Rattle.std.proofs.Common.{◌≡◌, ◌<◌, ◌≤◌, sym, ap, subst, ◌∙◌}
-use Rattle.private_store.specs.Limits.{longest_object}
-use Rattle.node_table.specs.Kept.{is_sealed_at}
+use Rattle.std.proofs.Common.{◌≡◌, sym, ap, subst, ◌∙◌}
 use Rattle.node_table.specs.MadeRooms.{IsMade, WaitsForPlace}
 use Rattle.node_table.specs.RoomPlans.{planned_by, refuses}
 use Rattle.node_table.specs.Row.{Row, beside_of, shape_of}
@@ -9,26 +7,23 @@ use Rattle.node_table.proofs.Getting.{each_ok, each_err}
 use Rattle.node_table.proofs.Growing.{placed_unrefused}
 use Rattle.node_table.proofs.row.JobRow.room_for.Goals as goal
 
-pub room_by-requires : goal.room_by-requires
-room_by-requires c = ap (λ (r : Row). is_sealed_at r.copies c.args.id.now) c.plan_room-plan.ensures.same ∙ c.requires
-
 pub returns-clause-ok : goal.returns-clause-ok
-returns-clause-ok c = each_ok c.room_by.result (λ made told hands bytes contents own h some small.
-    subst (λ (r : Row). c.args.id.now.job ≡ record { 0 = r.job } → IsShown r (beside_of c.args.works.now hands bytes r.job) contents → 0 < c.args.len → c.args.len ≤ longest_object
+returns-clause-ok c = each_ok c.room_by.result (λ made told hands bytes contents own h.
+    subst (λ (r : Row). c.args.job ≡ record { 0 = r.job } → IsShown r (beside_of c.args.works.now hands bytes r.job) contents
     → c.plan_room-plan.result ≡ planned_by r.order (shape_of r (beside_of c.args.works.now hands bytes r.job)) c.args.len
     → IsMade made r (beside_of c.args.works.now hands bytes r.job) contents c.args.len c.room_by.new.self (beside_of c.room_by.new.works hands bytes r.job)) c.plan_room-plan.ensures.same
-    (told hands bytes contents) own h some small (c.plan_room-plan.ensures.plan hands bytes contents h)) c.room_by.ensures.ok
+    (told hands bytes contents) own h (c.plan_room-plan.ensures.plan hands bytes contents own h)) c.room_by.ensures.ok
 
 pub returns-clause-place : goal.returns-clause-place
 returns-clause-place c = each_ok c.room_by.result (λ made waits.
-    subst (λ (r : Row). WaitsForPlace made r c.args.works.now c.args.id.now c.args.len c.room_by.new.self c.room_by.new.works) c.plan_room-plan.ensures.same waits) c.room_by.ensures.place
+    subst (λ (r : Row). WaitsForPlace made r c.args.works.now c.room_by.new.self c.room_by.new.works) c.plan_room-plan.ensures.same waits) c.room_by.ensures.place
 
 pub returns-clause-made : goal.returns-clause-made
-returns-clause-made c = each_ok c.room_by.result (λ made makes untold hands bytes contents h.
-    ap refuses (sym (c.plan_room-plan.ensures.plan hands bytes contents h)) ∙ placed_unrefused c.plan_room-plan.result (makes untold)) c.room_by.ensures.made
+returns-clause-made c = each_ok c.room_by.result (λ made makes untold own hands bytes contents h.
+    ap refuses (sym (c.plan_room-plan.ensures.plan hands bytes contents own h)) ∙ placed_unrefused c.plan_room-plan.result (makes untold)) c.room_by.ensures.made
 
 pub returns-clause-late : goal.returns-clause-late
-returns-clause-late c = each_err c.room_by.result (λ may hands bytes contents h. ap refuses (sym (c.plan_room-plan.ensures.plan hands bytes contents h)) ∙ may) c.room_by.ensures.late
+returns-clause-late c = each_err c.room_by.result (λ may own hands bytes contents h. ap refuses (sym (c.plan_room-plan.ensures.plan hands bytes contents own h)) ∙ may) c.room_by.ensures.late
 
 pub returns-clause-err : goal.returns-clause-err
 returns-clause-err c = each_err c.room_by.result (λ same. same ∙ c.plan_room-plan.ensures.same) c.room_by.ensures.err

@@ -7,8 +7,8 @@ use Rattle.node_table.proofs.Getting.{each_ok}
 use Rattle.node_table.proofs.Planning.{of_copies, described_as, device_here, asks-kind}
 use Rattle.node_table.proofs.row.JobRow.spillable.Goals as goal
 
-pub returns : goal.returns
-returns c = each_ok c.spillable.result (λ ids found line hands bytes contents n h asks.
+pub returns-clause-spillable : goal.returns-clause-spillable
+returns-clause-spillable c = each_ok c.spillable.result (λ ids found line hands bytes contents n h asks.
     let row = c.args.self.now in
     let beside = beside_of line hands bytes row.job in
     let s = shape_of row beside in
@@ -18,4 +18,4 @@ returns c = each_ok c.spillable.result (λ ids found line hands bytes contents n
     (of_copies row beside contents h placed n row.copies refl c.use_order.result.now own c.use_order.ensures.standings)
     (described_as row beside contents h placed n row.window refl row.copies refl)
     (ap (λ o. kind_of (plan o s n)) own ∙ asks-kind s.works_asked s.spill_failed (kind_of (plan row.order s n)) c.args.count asks)
-    ∙ ap (λ o. listed (plan o s n)) own) c.spillable.ensures
+    ∙ ap (λ o. listed (plan o s n)) own) c.spillable.ensures.listed

@@ -1,13 +1,19 @@
-use Rattle.std.proofs.Common.{ap, ◌∙◌}
+use Rattle.std.proofs.Common.{false, option_map, sym, ap, ◌∙◌}
+use Rattle.std.specs.List.{list_all}
+use Rattle.std.specs.Option.{option_map_or}
 use Rattle.private_store.specs.Room.{plan}
+use Rattle.private_store.specs.Tables.{at}
+use Rattle.lru_evictor.specs.declared.facts.CopyFacts.{CopyFacts}
 use Rattle.lru_evictor.specs.Plans.{kind_of, listed}
+use Rattle.node_table.specs.RoomPlans.{facts_of}
 use Rattle.node_table.specs.Row.{beside_of, shape_of}
-use Rattle.node_table.proofs.Getting.{each_ok}
+use Rattle.node_table.proofs.Getting.{each_ok, ok_both}
 use Rattle.node_table.proofs.Planning.{of_copies, described_as, device_here, evicts-kind}
+use Rattle.node_table.proofs.Rooms.{may_go}
 use Rattle.node_table.proofs.row.JobRow.victims.Goals as goal
 
-pub returns : goal.returns
-returns c = each_ok c.victims.result (λ ids found line hands bytes contents h evicts.
+pub returns-clause-victims : goal.returns-clause-victims
+returns-clause-victims c = each_ok c.victims.result (λ ids found line hands bytes contents h evicts.
     let row = c.args.self.now in
     let beside = beside_of line hands bytes row.job in
     let s = shape_of row beside in
@@ -18,3 +24,8 @@ returns c = each_ok c.victims.result (λ ids found line hands bytes contents h e
     (described_as row beside contents h placed c.args.len c.window.result.now c.window.ensures c.copies.result.now c.copies.ensures.copies)
     (ap (λ o. kind_of (plan o s c.args.len)) own ∙ evicts-kind s.works_asked s.spill_failed (kind_of (plan row.order s c.args.len)) evicts)
     ∙ ap (λ o. listed (plan o s c.args.len)) own) c.victims.ensures.plan
+
+pub returns-clause-may_go : goal.returns-clause-may_go
+returns-clause-may_go c = ok_both c.victims.result (λ ids evictable once.
+    may_go c.args.self.now.copies ids
+    (ap (λ t. list_all (λ q. option_map_or (λ (f : CopyFacts). f.evictable) (option_map facts_of (at t q)) false) ids) (sym c.copies.ensures.copies) ∙ evictable) once) c.victims.ensures.evictable c.victims.ensures.once
