@@ -16,7 +16,7 @@ use Rattle.private_store.specs.declared.inputs.Input.{Input}
 use Rattle.private_store.specs.declared.inputs.Input.TheVariants as input
 use Rattle.private_store.specs.Tables.{ById, at, with_entry}
 use Rattle.private_store.specs.Shape.{Copy, Shape, Change, HandGiven}
-use Rattle.private_store.specs.Copies.{extent_of, is_held, is_granted, is_working, is_idle}
+use Rattle.private_store.specs.Copies.{is_held, is_granted, is_working, is_idle}
 use Rattle.private_store.specs.Room.{drop_copy}
 use Rattle.private_store.specs.Change.{done, erasing, settled, has_ended}
 use Rattle.private_store.specs.Commands.{is_sealed_primary, gives, grant}
@@ -39,7 +39,7 @@ use Rattle.lru_evictor.proofs.Reorders.{reordered-unused}
 use Rattle.spill_work.specs.Line.{WorkLine}
 use Rattle.node_table.specs.Dropping.{is_over, settled_row, keys_settled}
 use Rattle.node_table.specs.Granting.{grant_check, grant_check_of, hands_granted}
-use Rattle.node_table.specs.Kept.{Kept, marked}
+use Rattle.node_table.specs.Kept.{Kept, with_granted}
 use Rattle.node_table.specs.Notes.{beside_rest}
 use Rattle.node_table.specs.Row.{Row, Beside, beside_of, copies_of, shape_of, place_of, ArePlaced}
 use Rattle.node_table.specs.Scope.{with_copy}
@@ -66,16 +66,13 @@ with-same es id x sorted found =
     by q true same = sym (ap (at es) (same_id-equal q id same) ∙ found)
     by q false same = refl
 
-pub marked-place : (granted : Bool) (z : Kept) → extent_of (marked granted z).copy ≡ extent_of z.copy
-marked-place granted z = refl
-
 -- ---- a copy is marked as the hands say that stand beside it then
 
 module _ (node : ℕ) (row : Row) (beside : Beside) (contents : Contents) (h : IsShown row beside contents) (x : Input) (quiet : BringsNothing node (seen row beside contents) x)
     (id : ObjectId) (k : Kept) (found : at row.copies id ≡ Some k) (granted : Bool) (given : List HandGiven)
     (its : granted ≡ has_hand given id) (others : (q : ObjectId) → same_id q id ≡ false → has_hand given q ≡ has_hand beside.given q) where
   abbrev f : Kept → Kept
-  f = marked granted
+  f = with_granted granted
 
   abbrev row_marked : Row
   row_marked = with_copy f row id
@@ -212,14 +209,14 @@ module _ (node : ℕ) (line : WorkLine) (hands : List Hand) (bytes : ObjectId �
           subst (λ o. TakesStep node row beside contents asks (only (reply.Refused r)) row (beside_of line (hands_granted o hands id row.job target.0) bytes row.job)) (sym e)
           (stays node row beside contents h asks (reply.Refused r) (grant-is (Some r) e) refl refl refl)
 
-      pub grant_done : grant_check row id target.0 table ≡ None → TakesStep node row beside contents asks (only reply.Ok) (with_copy (marked true) row id)
+      pub grant_done : grant_check row id target.0 table ≡ None → TakesStep node row beside contents asks (only reply.Ok) (with_copy (with_granted true) row id)
           (beside_of line (hands_granted (grant_check row id target.0 table) hands id row.job target.0) bytes row.job)
       grant_done e =
           let alive = past (has_ended store id.task) Gone _ (past (is_no_taker id row.job target.0) BadId _ e).1 in
           let k = there (λ k. grant_check_of k table) Absent (at row.copies id) alive.1 in
           let passed = (past (not (is_sealed_primary k.0.copy)) NotResident table (past k.0.copy.doomed Absent _ k.2).1).1 in
-          subst (λ o. TakesStep node row beside contents asks (only reply.Ok) (with_copy (marked true) row id) (beside_of line (hands_granted o hands id row.job target.0) bytes row.job)) (sym e)
-          (subst (λ b. TakesStep node row beside contents asks (only reply.Ok) (with_copy (marked true) row id) b) (beside_granted (sym told ∙ passed))
+          subst (λ o. TakesStep node row beside contents asks (only reply.Ok) (with_copy (with_granted true) row id) (beside_of line (hands_granted o hands id row.job target.0) bytes row.job)) (sym e)
+          (subst (λ b. TakesStep node row beside contents asks (only reply.Ok) (with_copy (with_granted true) row id) b) (beside_granted (sym told ∙ passed))
           (marked_so node row beside contents h asks (record { bytes = refl; digest = refl; received = refl }) id k.0 k.1 true (store.given ++ hand ∷ [])
           (sym (list_any-append (λ g. same_id id g.id) store.given (hand ∷ []) ∙ or_right (has_hand store.given id) (same_id id id || false) (or_left (same_id id id) false (same_id-itself id))))
           others_granted (grant-is None e)))
@@ -330,10 +327,10 @@ module _ (node : ℕ) (line : WorkLine) (hands : List Hand) (bytes : ObjectId �
         (ap (list_all (is_well_hung row.job)) (ap (map as_given) (sym swapped) ∙ rest-is) ∙ all-filter (is_well_hung row.job) keeps whole.given h.kept.kept.shape.own_hands)
 
     pub withdraw_done : AreHands hands → (granted : Bool) → granted ≡ list_any (is_first id) (hands_left test hands)
-        → ArePlaced (with_copy (marked granted) row id).window.placed (place_of (with_copy (marked granted) row id).copies)
-        → TakesStep node row beside_all contents ending (record { reply = reply.Ok; posts = []; erased = keys_settled (with_copy (marked granted) row id) id }) (settled_row (with_copy (marked granted) row id) id)
+        → ArePlaced (with_copy (with_granted granted) row id).window.placed (place_of (with_copy (with_granted granted) row id).copies)
+        → TakesStep node row beside_all contents ending (record { reply = reply.Ok; posts = []; erased = keys_settled (with_copy (with_granted granted) row id) id }) (settled_row (with_copy (with_granted granted) row id) id)
         (beside_rest line test hands bytes row.job)
     withdraw_done are granted says placed =
-        subst (λ b. TakesStep node row beside_all contents ending (record { reply = reply.Ok; posts = []; erased = keys_settled (with_copy (marked granted) row id) id }) (settled_row (with_copy (marked granted) row id) id) b) beside_left
+        subst (λ b. TakesStep node row beside_all contents ending (record { reply = reply.Ok; posts = []; erased = keys_settled (with_copy (with_granted granted) row id) id }) (settled_row (with_copy (with_granted granted) row id) id) b) beside_left
         (settles_marked node row beside_all contents h ending (record { bytes = refl; digest = refl; received = refl }) id there_is.0 there_is.1 granted rest
         (says ∙ sym (its are)) others_left (withdraw-is None stands) placed)

@@ -17,6 +17,7 @@ pub mod Holding
 pub mod Settling
 pub mod Releasing
 pub mod Leaving
+pub mod MarkedPlaces
 pub mod LeavingEach
 pub mod Telling
 pub mod Totals

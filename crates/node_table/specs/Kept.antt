@@ -128,12 +128,12 @@ abbrev pub doomed : Kept → Kept
 doomed kept = record kept { copy = record kept.copy { doomed = true } }
 
 -- hands of it stand that the job gave, or none
-abbrev pub marked : Bool → Kept → Kept
-marked granted kept = record kept { granted = granted }
+abbrev pub with_granted : Bool → Kept → Kept
+with_granted granted kept = record kept { granted = granted }
 
 -- no hand of it stands any more
 abbrev pub ungranted : Kept → Kept
-ungranted kept = marked false kept
+ungranted kept = with_granted false kept
 
 -- it is doomed unless it is in scope
 abbrev pub scoped : Kept → Kept

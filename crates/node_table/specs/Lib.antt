@@ -19,6 +19,7 @@ pub mod Handed
 pub mod Quotas
 pub mod Late
 pub mod Arriving
+pub mod Marks
 pub mod Serving
 pub mod Ending
 pub mod EndingTasks

@@ -13,6 +13,7 @@ ghost use Rattle.node_table.specs.Outcomes.{given_of};
 ghost use Rattle.node_table.specs.Row.{Beside, copies_of};
 ghost use Rattle.node_table.specs.Shown.{IsShown, IsLent, TakesStep, only};
 
+use crate::marks::Mark;
 use crate::outcome::{Erase, Outcome};
 use crate::row::JobRow;
 use bytes::Bytes;
@@ -56,7 +57,7 @@ impl JobRow {
         let entry = self.location(node, id);
         let message = Message::ToDirectory(DirectoryMessage::AddLocation(*id, entry));
         let messages = Outcome::one_message(alloc, Place::Directory, message)?;
-        self.seal_copy(id, entry.digest);
+        self.apply(id, Mark::Sealed(entry.digest));
         self.freeze(id);
         Ok(Outcome {
             reply: Reply::Ok,

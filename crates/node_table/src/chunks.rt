@@ -17,6 +17,7 @@ ghost use Rattle.node_table.specs.Outcomes.{given_of};
 ghost use Rattle.node_table.specs.Row.{Beside, place_of};
 ghost use Rattle.node_table.specs.Shown.{seen, IsShown, TakesStep};
 
+use crate::marks::Mark;
 use crate::outcome::{Erase, Outcome};
 use crate::row::JobRow;
 use hashed_bytes::digest_by;
@@ -68,7 +69,15 @@ impl JobRow {
             return self.last_chunk(alloc, node, from, id, number, index, bytes);
         }
         self.put_chunk(id, index, bytes);
-        self.take_chunk(id, number, from, index, bytes.len());
+        self.apply(
+            id,
+            Mark::GapClosed {
+                number,
+                from,
+                index,
+                len: bytes.len(),
+            },
+        );
         Ok(ChunkTaken {
             outcome: Outcome::only(alloc, Reply::Ok),
             verdict: ChunkVerdict::Part,
@@ -117,7 +126,7 @@ impl JobRow {
                 verdict: ChunkVerdict::Damaged,
             });
         }
-        self.bring_copy(id);
+        self.apply(id, Mark::Brought);
         self.freeze(id);
         let outcome = Outcome {
             reply: Reply::Ok,

@@ -3,10 +3,10 @@ ghost use Rattle.std.specs.Option.{option_copied, option_map_or, option_and_then
 ghost use Rattle.std.specs.Borrow.{MutBor};
 ghost use Rattle.private_store.specs.Tables.{ById, at, with_entry, without_entry};
 ghost use Rattle.node_table.specs.Entries.{changed, all_changed, each_changed};
-ghost use Rattle.node_table.specs.Kept.{released, left, sealed, spilling_if, unpinned, borrowed, given_up, doomed, marked, Kept, fault_told, unplaced, placed_for, CanAwait, written, restored, lost};
-ghost use Rattle.private_store.specs.Copies.{is_created, in_scope};
+ghost use Rattle.node_table.specs.Kept.{released, left, spilling_if, borrowed, Kept};
+ghost use Rattle.node_table.specs.Marks.{marked_by, CanTake};
+ghost use Rattle.private_store.specs.Copies.{in_scope};
 ghost use Rattle.private_store.specs.Commands.{without_borrower};
-ghost use Rattle.private_store.specs.Kept.{is_restoring};
 ghost use Rattle.node_table.specs.Evicting.{has_secondary, evicted_one, all_evicted};
 ghost use Rattle.obj_id.specs.declared.refusals.Refusal.{Refusal};
 ghost use Rattle.obj_id.specs.declared.refusals.Refusal.TheVariants.{NoMemory};
@@ -18,19 +18,18 @@ ghost use Rattle.node_table.specs.Holding.{IsHeldAt, IsUnreadyAt, IsHoldRefusedA
 ghost use Rattle.std.specs.Prelude.{◌≡◌, ◌≢◌, ◌<◌, ◌^◌, [], true, false, Some, None, OnOk, OnErr, IsOk, IsErrOf, IfOk, IfErr, IfSome, IfNone, map, length, is_some, ◌&&◌, IsTrue};
 ghost use Rattle.std.specs.FinMap.{is_sorted};
 ghost use Rattle.obj_id.specs.Ids.{id_cmp};
-ghost use Rattle.node_table.specs.Usages.{item_of, total, is_spilling, window_bytes as window_bytes_lem, device_bytes as device_bytes_lem, doomed_one};
-ghost use Rattle.private_store.specs.Kept.{is_fetching};
+ghost use Rattle.node_table.specs.Usages.{item_of, total, window_bytes as window_bytes_lem, device_bytes as device_bytes_lem, doomed_one};
 ghost use Rattle.node_table.specs.Followed.{facts_in, AreFollowed, NoneIsGone, KeepPlaces};
 ghost use Rattle.lru_evictor.specs.Facts.{standing_at};
 ghost use Rattle.lru_evictor.specs.Orders.{ids_of};
-ghost use Rattle.node_table.specs.Arriving.{located, asks, fills, lacks_only, gap_closed, brought, unfetched};
+ghost use Rattle.node_table.specs.Arriving.{located, asks, fills, lacks_only};
 
-use crate::copy::{Awaited, Held, Released, RowCopy};
+use crate::copy::{Held, Released, RowCopy};
+use crate::marks::Mark;
 use crate::taken::{Taken, to_u64};
 use indexmap::IndexMap;
 use lru_evictor::{Standing, UseOrder};
-use obj_id::{Digest, DirectoryMessage, Items, Location, ObjectId, OwnItem, Refusal, TaskNo};
-use private_store::{Fault, FetchFault};
+use obj_id::{DirectoryMessage, Items, Location, ObjectId, OwnItem, Refusal, TaskNo};
 use std::alloc::{AllocError, Global};
 use std::marker::Model;
 
@@ -186,6 +185,14 @@ impl Copies {
         self.taken = self.taken.exchanged(before, after);
     }
 
+    /// This happens to the copy, if it is there. Takes no memory.
+    pub(crate) fn apply(&mut self, id: &ObjectId, mark: Mark)
+        requires { (k : Kept) → at self.old id.now ≡ Some k → CanTake mark k }
+        ensures { self.new ≡ changed (marked_by mark) self.old id.now }
+    {
+        self.update(id, move |copy| copy.apply(mark));
+    }
+
     /// Whether there is a copy of the id.
     pub fn has(&self, id: &ObjectId) -> bool
         ensures { result ≡ is_some (at self.now id.now) }
@@ -203,13 +210,6 @@ impl Copies {
         }
     }
 
-    /// The copy has no place in the window any more, if there is one.
-    fn give_up_place(&mut self, id: &ObjectId)
-        ensures { self.new ≡ changed unplaced self.old id.now }
-    {
-        self.update(id, |copy| copy.give_up_place());
-    }
-
     /// The copy is evicted, if there is one: a secondary is removed, and a primary stays without a place.
     fn evict(&mut self, id: &ObjectId)
         ensures { self.new ≡ evicted_one self.old id.now }
@@ -217,7 +217,7 @@ impl Copies {
         if self.has_secondary(id) {
             self.remove(id);
         } else {
-            self.give_up_place(id);
+            self.apply(id, Mark::Unplaced);
         }
     }
 
@@ -259,69 +259,14 @@ impl Copies {
         copy.release(session)
     }
 
-    /// No hold of the session on the copy. Takes no memory.
-    pub fn leave(&mut self, id: &ObjectId, session: u32)
-        ensures { self.new ≡ changed (left session) self.old id.now }
-    {
-        self.update(id, |copy| copy.leave(session));
-    }
-
     /// No hold of the session on any copy. Takes a walk over them, and no memory.
     pub fn leave_all(&mut self, session: u32)
         ensures { self.new ≡ all_changed (left session) self.old }
     {
         self.by_id.retain(|_, copy| {
-            copy.leave(session);
+            copy.apply(Mark::Left(session));
             true
         });
-    }
-
-    /// The copy is immutable from now on, with this digest of its bytes.
-    pub fn seal(&mut self, id: &ObjectId, digest: Digest)
-        requires { option_map_or (λ k. is_created k.copy.state) (at self.old id.now) true ≡ true }
-        ensures { self.new ≡ changed (sealed digest) self.old id.now }
-    {
-        self.update(id, |copy| copy.seal(digest));
-    }
-
-    /// The fault of the copy was told.
-    pub fn forget_fault(&mut self, id: &ObjectId)
-        ensures { self.new ≡ changed fault_told self.old id.now }
-    {
-        self.update(id, |copy| copy.forget_fault());
-    }
-
-    /// The write of the copy under this number ended: its bytes are on the device, unless that failed.
-    pub fn end_spill(&mut self, id: &ObjectId, number: u64, failed: bool)
-        requires { option_map_or is_spilling (at self.old id.now) true ≡ true }
-        ensures { self.new ≡ changed (written number failed) self.old id.now }
-    {
-        self.update(id, |copy| copy.end_spill(number, failed));
-    }
-
-    /// The read of the copy ended, and its bytes are in their place: it is sealed again.
-    pub fn end_restore(&mut self, id: &ObjectId)
-        requires { option_map_or (λ k. is_restoring k.copy.state) (at self.old id.now) true ≡ true }
-        ensures { self.new ≡ changed restored self.old id.now }
-    {
-        self.update(id, |copy| copy.end_restore());
-    }
-
-    /// The read of the copy ended without its bytes: it is away again, without a place, and the next Get is told the
-    /// fault.
-    pub fn lose(&mut self, id: &ObjectId, fault: Fault)
-        requires { option_map_or (λ k. is_restoring k.copy.state) (at self.old id.now) true ≡ true }
-        ensures { self.new ≡ changed (lost fault) self.old id.now }
-    {
-        self.update(id, |copy| copy.lose(fault));
-    }
-
-    /// The copy has a place at the offset, and waits for this there. Takes no memory.
-    pub fn take_place(&mut self, id: &ObjectId, offset: u64, awaited: Awaited)
-        requires { (k : Kept) → at self.old id.now ≡ Some k → CanAwait awaited k }
-        ensures { self.new ≡ changed (placed_for awaited offset) self.old id.now }
-    {
-        self.update(id, move |copy| copy.take_place(offset, awaited));
     }
 
     /// Whether the fetch of the copy has this number and asks this source; not if there is none.
@@ -369,36 +314,6 @@ impl Copies {
         self.update(id, |copy| copy.locate(node, number, entries));
     }
 
-    /// A chunk of `len` bytes came: the gap of the copy that it fills is closed.
-    pub fn take_chunk(&mut self, id: &ObjectId, number: u64, from: u32, index: u32, len: usize)
-        ensures { self.new ≡ changed (gap_closed number from index len) self.old id.now }
-    {
-        self.update(id, |copy| copy.take_chunk(number, from, index, len));
-    }
-
-    /// All bytes of the copy are there: it is sealed.
-    pub fn bring(&mut self, id: &ObjectId)
-        requires { option_map_or (λ k. is_fetching k.copy.state && is_some k.digest) (at self.old id.now) true ≡ true }
-        ensures { self.new ≡ changed brought self.old id.now }
-    {
-        self.update(id, |copy| copy.bring());
-    }
-
-    /// The fetch of the copy is over without it: it has no place, and the next Get is told why.
-    pub fn fail_fetch(&mut self, id: &ObjectId, fault: FetchFault)
-        requires { option_map_or (λ k. is_fetching k.copy.state) (at self.old id.now) true ≡ true }
-        ensures { self.new ≡ changed (unfetched fault) self.old id.now }
-    {
-        self.update(id, |copy| copy.fail_fetch(fault));
-    }
-
-    /// The owner task keeps the copy no longer: it is doomed unless a task borrows it. Takes no memory.
-    pub fn unpin(&mut self, id: &ObjectId)
-        ensures { self.new ≡ changed unpinned self.old id.now }
-    {
-        self.update(id, |copy| copy.unpin());
-    }
-
     /// The task borrows the copy, as the last one. `Absent`, also if it is doomed, `NotOwner`, `Exists`, `TooMany`,
     /// `NoMemory` last; a refusal changes nothing.
     pub fn borrow(&mut self, id: &ObjectId, task: TaskNo) -> Result<(), Refusal>
@@ -417,21 +332,6 @@ impl Copies {
         copy.borrow(task)
     }
 
-    /// The task borrows the copy no longer: it is doomed unless it is pinned or another task borrows it. Takes no
-    /// memory.
-    pub fn give_up(&mut self, id: &ObjectId, task: TaskNo)
-        ensures { self.new ≡ changed (given_up task) self.old id.now }
-    {
-        self.update(id, |copy| copy.give_up(task));
-    }
-
-    /// The copy is removed as soon as nothing keeps it. Takes no memory.
-    pub fn doom(&mut self, id: &ObjectId)
-        ensures { self.new ≡ changed doomed self.old id.now }
-    {
-        self.update(id, |copy| copy.doom());
-    }
-
     /// No hand stands any more of the copies of the task's objects. Takes a walk over the copies, and no memory.
     pub fn end_hands(&mut self, task: TaskNo)
         ensures { self.new ≡ hands_ended task self.old }
@@ -440,13 +340,6 @@ impl Copies {
             copy.end_hands(id, task);
             true
         });
-    }
-
-    /// Hands of the copy stand that the job gave, or none. Takes no memory.
-    pub fn mark_granted(&mut self, id: &ObjectId, granted: bool)
-        ensures { self.new ≡ changed (marked granted) self.old id.now }
-    {
-        self.update(id, |copy| copy.mark_granted(granted));
     }
 
     /// Whether the copy is doomed; not if there is none.
@@ -496,19 +389,12 @@ impl Copies {
         self.get(id)?.farewell(node, *id)
     }
 
-    /// A write of the copy is in flight, if one can be.
-    fn begin_spill(&mut self, id: &ObjectId)
-        ensures { self.new ≡ changed spilling_if self.old id.now }
-    {
-        self.update(id, |copy| copy.begin_spill_if());
-    }
-
     /// Writes of these copies are in flight, if they can be.
     pub fn begin_spills(&mut self, ids: &[ObjectId])
         ensures { self.new ≡ each_changed spilling_if self.old ids.now }
     {
         for id in ids {
-            self.begin_spill(id);
+            self.apply(id, Mark::SpillBegun);
         }
     }
 }

@@ -10,7 +10,8 @@ ghost use Rattle.private_store.specs.Copies.{extent_of, is_created, is_away, is_
 ghost use Rattle.private_store.specs.Commands.{holds_of as holds_of_lem, has_borrower, without_borrower};
 ghost use Rattle.private_store.specs.Extents.{rounded as rounded_lem};
 ghost use Rattle.node_table.specs.RoomPlans.{facts_of};
-ghost use Rattle.node_table.specs.Kept.{new_kept, fetched_kept, released, left, sealed, spilling, spilling_if, can_spill, unpinned, borrowed, given_up, doomed, marked, ungranted, scoped, fetch_of, fault_told, unplaced, is_unasked, pulled, restoring, placed_for, CanAwait, written, restored, lost};
+ghost use Rattle.node_table.specs.Kept.{new_kept, fetched_kept, released, spilling_if, unpinned, borrowed, given_up, ungranted, scoped, fetch_of, unplaced, is_unasked, pulled, restoring, placed_for, CanAwait, lost};
+ghost use Rattle.node_table.specs.Marks.{marked_by, CanTake};
 ghost use Rattle.node_table.specs.declared.copy.Awaited.TheVariants.{Chunks, Device};
 ghost use Rattle.private_store.specs.Kept.{is_restoring};
 ghost use Rattle.node_table.specs.Answering.{has_bytes as has_bytes_lem};
@@ -24,6 +25,7 @@ ghost use Rattle.private_store.specs.Kept.{is_fetching};
 ghost use Rattle.node_table.specs.Serving.{was_sealed_with as was_sealed_with_lem};
 ghost use Rattle.node_table.specs.Arriving.{awaits_source, located, asks, fills, lacks_only, gap_closed, brought, unfetched};
 
+use crate::marks::Mark;
 use fetch_core::{FetchIn, Stage};
 use hashed_bytes::{Hashed, digest_by};
 use lru_evictor::{CopyFacts, Standing};
@@ -191,13 +193,6 @@ impl RowCopy {
         self.marks.fault()
     }
 
-    /// Its fault was told.
-    pub fn forget_fault(&mut self)
-        ensures { self.new ≡ fault_told self.old }
-    {
-        self.marks.take_fault();
-    }
-
     /// Whether its bytes are on the device.
     pub fn is_backed(&self) -> bool
         ensures { result ≡ is_some self.now.copy.backed }
@@ -334,29 +329,6 @@ impl RowCopy {
         })
     }
 
-    /// No hold of the session. Takes no memory.
-    pub fn leave(&mut self, session: u32)
-        ensures { self.new ≡ left session self.old }
-    {
-        self.pins.leave(session);
-    }
-
-    /// It is immutable from now on, with this digest of its bytes.
-    pub fn seal(&mut self, digest: Digest)
-        requires { is_created self.old.copy.state ≡ true }
-        ensures { self.new ≡ sealed digest self.old }
-    {
-        let _ = self.marks.seal(digest);
-    }
-
-    /// The owner task keeps it no longer: it is doomed unless a task borrows it.
-    pub fn unpin(&mut self)
-        ensures { self.new ≡ unpinned self.old }
-    {
-        self.pins.remove_pin();
-        self.doom_out_of_scope();
-    }
-
     /// The task borrows it, as the last one. `NotOwner` for a secondary, `Exists` if the task borrows it already,
     /// `TooMany` at 64 borrowers, `NoMemory` last; a refusal changes nothing.
     pub fn borrow(&mut self, task: TaskNo) -> Result<(), Refusal>
@@ -369,14 +341,6 @@ impl RowCopy {
         self.pins.borrow(task)
     }
 
-    /// The task borrows it no longer: it is doomed unless it is pinned or another task borrows it.
-    pub fn give_up(&mut self, task: TaskNo)
-        ensures { self.new ≡ given_up task self.old }
-    {
-        self.pins.forget(task);
-        self.doom_out_of_scope();
-    }
-
     /// No hand stands any more of the copy of this id, if it is of the task.
     pub fn end_hands(&mut self, id: &ObjectId, task: TaskNo)
         ensures { self.new ≡ if same_task task id.now.task then ungranted self.old else self.old }
@@ -384,29 +348,6 @@ impl RowCopy {
         let own = task == id.task();
         if own {
             self.granted = false;
-        }
-    }
-
-    /// Hands of it stand that the job gave, or none.
-    pub fn mark_granted(&mut self, granted: bool)
-        ensures { self.new ≡ marked granted self.old }
-    {
-        self.granted = granted;
-    }
-
-    /// It is removed as soon as nothing keeps it.
-    pub fn doom(&mut self)
-        ensures { self.new ≡ doomed self.old }
-    {
-        self.marks.doom();
-    }
-
-    /// It is doomed unless it is in scope.
-    fn doom_out_of_scope(&mut self)
-        ensures { self.new ≡ scoped self.old }
-    {
-        if !self.pins.in_scope() {
-            self.doom();
         }
     }
 
@@ -424,42 +365,6 @@ impl RowCopy {
                 }
             }
         }
-    }
-
-    /// A write of it is in flight.
-    pub fn begin_spill(&mut self)
-        requires { can_spill self.old ≡ true }
-        ensures { self.new ≡ spilling self.old }
-    {
-        self.marks.begin_spill();
-    }
-
-    /// Its write under this number ended: its bytes are on the device, unless that failed.
-    pub fn end_spill(&mut self, number: u64, failed: bool)
-        requires { is_spilling_lem self.old ≡ true }
-        ensures { self.new ≡ written number failed self.old }
-    {
-        self.marks.end_spill(number, failed);
-    }
-
-    /// Its read ended, and its bytes are in their place: it is sealed again.
-    pub fn end_restore(&mut self)
-        requires { is_restoring self.old.copy.state ≡ true }
-        ensures { self.new ≡ restored self.old }
-    {
-        self.marks.end_restore(WorkVerdict::Fine);
-    }
-
-    /// Its read ended without its bytes: it is away again, without a place, and the next Get is told the fault.
-    pub fn lose(&mut self, fault: Fault)
-        requires { is_restoring self.old.copy.state ≡ true }
-        ensures { self.new ≡ lost fault self.old }
-    {
-        self.marks.end_restore(match fault {
-            Fault::DeviceFailed => WorkVerdict::Failed,
-            Fault::Damaged => WorkVerdict::Damaged,
-        });
-        self.offset = None;
     }
 
     /// Whether these are its bytes, by length and digest. Hashes them once if the length is right and the digest isn't known.
@@ -484,48 +389,6 @@ impl RowCopy {
             unreachable!()
         };
         self.length() == length && *digest == own
-    }
-
-    /// It has no place in the window any more, and is away if it is sealed and its bytes are on the device.
-    pub fn give_up_place(&mut self)
-        ensures { self.new ≡ unplaced self.old }
-    {
-        if self.marks.can_go_away() {
-            self.marks.mark_away();
-        }
-        self.offset = None;
-    }
-
-    /// It has a place at the offset, and waits for this there.
-    pub fn take_place(&mut self, offset: u64, awaited: Awaited)
-        requires { CanAwait awaited self.old }
-        ensures { self.new ≡ placed_for awaited offset self.old }
-    {
-        match awaited {
-            Awaited::Chunks(missing) => self.begin_pull(offset, missing),
-            Awaited::Device => self.begin_restore(offset),
-        }
-    }
-
-    /// It has a place at the offset, and all chunks of its bytes are missing.
-    fn begin_pull(&mut self, offset: u64, missing: Vec<u32>)
-        requires { CanAwait (Chunks missing) self.old }
-        ensures { self.new ≡ pulled offset self.old }
-    {
-        let Some(fetch) = self.fetch.as_mut() else {
-            unreachable!()
-        };
-        fetch.begin_with(missing);
-        self.offset = Some(offset);
-    }
-
-    /// It has a place at the offset again, and the read of its bytes is in flight.
-    fn begin_restore(&mut self, offset: u64)
-        requires { CanAwait Device self.old }
-        ensures { self.new ≡ restoring offset self.old }
-    {
-        self.marks.begin_restore();
-        self.offset = Some(offset);
     }
 
     /// Whether the directory's answer of this number is of its fetch, whose source isn't known.
@@ -592,8 +455,137 @@ impl RowCopy {
         are_all(fetch.missing(), index)
     }
 
+    /// Whether it is on its way.
+    fn is_fetching(&self) -> bool
+        ensures { result ≡ is_fetching self.now.copy.state }
+    {
+        matches!(self.state(), CopyState::Fetching)
+    }
+
+    /// This happens to it. Takes no memory.
+    pub(crate) fn apply(&mut self, mark: Mark)
+        requires { CanTake mark self.old }
+        ensures { self.new ≡ marked_by mark self.old }
+    {
+        match mark {
+            Mark::Left(session) => self.pins.leave(session),
+            Mark::Sealed(digest) => {
+                let _ = self.marks.seal(digest);
+            }
+            Mark::Unpinned => self.unpin(),
+            Mark::GivenUp(task) => self.give_up(task),
+            Mark::Doomed => self.marks.doom(),
+            Mark::Granted(granted) => self.granted = granted,
+            Mark::FaultTold => {
+                self.marks.take_fault();
+            }
+            Mark::SpillBegun => self.begin_spill(),
+            Mark::Written { number, failed } => self.marks.end_spill(number, failed),
+            Mark::Restored => self.marks.end_restore(WorkVerdict::Fine),
+            Mark::Lost(fault) => self.lose(fault),
+            Mark::Placed { offset, awaited } => self.take_place(offset, awaited),
+            Mark::Unplaced => self.give_up_place(),
+            Mark::GapClosed {
+                number,
+                from,
+                index,
+                len,
+            } => self.take_chunk(number, from, index, len),
+            Mark::Brought => self.bring(),
+            Mark::FetchFailed(fault) => self.fail_fetch(fault),
+        }
+    }
+
+    /// The owner task keeps it no longer: it is doomed unless a task borrows it.
+    fn unpin(&mut self)
+        ensures { self.new ≡ unpinned self.old }
+    {
+        self.pins.remove_pin();
+        self.doom_out_of_scope();
+    }
+
+    /// The task borrows it no longer: it is doomed unless it is pinned or another task borrows it.
+    fn give_up(&mut self, task: TaskNo)
+        ensures { self.new ≡ given_up task self.old }
+    {
+        self.pins.forget(task);
+        self.doom_out_of_scope();
+    }
+
+    /// It is doomed unless it is in scope.
+    fn doom_out_of_scope(&mut self)
+        ensures { self.new ≡ scoped self.old }
+    {
+        if !self.pins.in_scope() {
+            self.marks.doom();
+        }
+    }
+
+    /// A write of it is in flight, if one can be.
+    fn begin_spill(&mut self)
+        ensures { self.new ≡ spilling_if self.old }
+    {
+        if self.marks.can_spill() {
+            self.marks.begin_spill();
+        }
+    }
+
+    /// Its read ended without its bytes: it is away again, without a place, and the next Get is told the fault.
+    fn lose(&mut self, fault: Fault)
+        requires { is_restoring self.old.copy.state ≡ true }
+        ensures { self.new ≡ lost fault self.old }
+    {
+        self.marks.end_restore(match fault {
+            Fault::DeviceFailed => WorkVerdict::Failed,
+            Fault::Damaged => WorkVerdict::Damaged,
+        });
+        self.offset = None;
+    }
+
+    /// It has no place in the window any more, and is away if it is sealed and its bytes are on the device.
+    fn give_up_place(&mut self)
+        ensures { self.new ≡ unplaced self.old }
+    {
+        if self.marks.can_go_away() {
+            self.marks.mark_away();
+        }
+        self.offset = None;
+    }
+
+    /// It has a place at the offset, and waits for this there.
+    fn take_place(&mut self, offset: u64, awaited: Awaited)
+        requires { CanAwait awaited self.old }
+        ensures { self.new ≡ placed_for awaited offset self.old }
+    {
+        match awaited {
+            Awaited::Chunks(missing) => self.begin_pull(offset, missing),
+            Awaited::Device => self.begin_restore(offset),
+        }
+    }
+
+    /// It has a place at the offset, and all chunks of its bytes are missing.
+    fn begin_pull(&mut self, offset: u64, missing: Vec<u32>)
+        requires { CanAwait (Chunks missing) self.old }
+        ensures { self.new ≡ pulled offset self.old }
+    {
+        let Some(fetch) = self.fetch.as_mut() else {
+            unreachable!()
+        };
+        fetch.begin_with(missing);
+        self.offset = Some(offset);
+    }
+
+    /// It has a place at the offset again, and the read of its bytes is in flight.
+    fn begin_restore(&mut self, offset: u64)
+        requires { CanAwait Device self.old }
+        ensures { self.new ≡ restoring offset self.old }
+    {
+        self.marks.begin_restore();
+        self.offset = Some(offset);
+    }
+
     /// A chunk of `len` bytes came: the gap that it fills is closed.
-    pub fn take_chunk(&mut self, number: u64, from: u32, index: u32, len: usize)
+    fn take_chunk(&mut self, number: u64, from: u32, index: u32, len: usize)
         ensures { self.new ≡ gap_closed number from index len self.old }
     {
         if let Some(fetch) = self.fetch.as_mut() {
@@ -602,7 +594,7 @@ impl RowCopy {
     }
 
     /// All its bytes are there: it is sealed.
-    pub fn bring(&mut self)
+    fn bring(&mut self)
         requires { is_fetching self.old.copy.state && is_some self.old.digest ≡ true }
         ensures { self.new ≡ brought self.old }
     {
@@ -611,7 +603,7 @@ impl RowCopy {
     }
 
     /// Its fetch is over without it: it has no place, and the next Get is told why.
-    pub fn fail_fetch(&mut self, fault: FetchFault)
+    fn fail_fetch(&mut self, fault: FetchFault)
         requires { is_fetching self.old.copy.state ≡ true }
         ensures { self.new ≡ unfetched fault self.old }
     {
@@ -620,24 +612,6 @@ impl RowCopy {
         }
         self.marks.fetch_failed();
         self.offset = None;
-    }
-
-    /// Whether it is on its way.
-    fn is_fetching(&self) -> bool
-        ensures { result ≡ is_fetching self.now.copy.state }
-    {
-        matches!(self.state(), CopyState::Fetching)
-    }
-
-    /// A write of it is in flight, if it is a sealed primary that isn't on the device and has no work.
-    pub fn begin_spill_if(&mut self)
-        ensures { self.new ≡ spilling_if self.old }
-    {
-        let is_primary = self.kind().is_primary();
-        let is_sealed = matches!(self.state(), CopyState::Sealed);
-        if is_sealed && is_primary && !self.is_backed() && !self.is_working() {
-            self.begin_spill();
-        }
     }
 }
 

@@ -14,6 +14,7 @@ ghost use Rattle.node_table.specs.Scope.{posted, farewell_at};
 ghost use Rattle.node_table.specs.Shown.{IsShown, TakesStep};
 
 use crate::hold_commands::push_key;
+use crate::marks::Mark;
 use crate::outcome::{Erase, Outcome};
 use crate::row::JobRow;
 use obj_id::{
@@ -163,7 +164,7 @@ impl JobRow {
             messages,
             self.last_words(node, id, !self.copies().is_doomed(id)),
         );
-        self.doom_copy(id);
+        self.apply(id, Mark::Doomed);
         self.settle(id);
     }
 
@@ -183,7 +184,7 @@ impl JobRow {
         ensures capacity { vec_capacity messages.old ≤ vec_capacity messages.new }
     {
         if self.copies().is_doomed(id) {
-            self.give_up_copy(id, task);
+            self.apply(id, Mark::GivenUp(task));
             return;
         }
         if !self.copies().borrows(id, task) {
@@ -191,7 +192,7 @@ impl JobRow {
         }
         let stays = self.copies().in_scope_without(id, task);
         push_message(messages, self.last_words(node, id, !stays));
-        self.give_up_copy(id, task);
+        self.apply(id, Mark::GivenUp(task));
         self.settle(id);
     }
 

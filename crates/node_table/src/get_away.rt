@@ -17,6 +17,7 @@ ghost use Rattle.node_table.specs.Row.{beside_of};
 ghost use Rattle.node_table.specs.Shown.{IsShown, TakesStep};
 
 use crate::get_command::told;
+use crate::marks::Mark;
 use crate::outcome::Outcome;
 use crate::row::JobRow;
 use obj_id::ObjectId;
@@ -46,7 +47,7 @@ impl JobRow {
     {
         match self.copies().fault(id) {
             Some(fault) => {
-                self.forget_fault(id);
+                self.apply(id, Mark::FaultTold);
                 told(alloc, fault.refusal())
             }
             None => self.restore(alloc, node, works, id.job(), id),

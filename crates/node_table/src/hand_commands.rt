@@ -18,6 +18,7 @@ ghost use Rattle.node_table.specs.Row.{beside_of};
 ghost use Rattle.node_table.specs.Shown.{IsShown, TakesStep};
 
 use crate::lent::Lent;
+use crate::marks::Mark;
 use crate::outcome::Outcome;
 use crate::row::JobRow;
 use obj_id::{Items, JobNo, ObjectId, Refusal, Reply};
@@ -67,7 +68,7 @@ impl JobRow {
         if let Some(refusal) = self.grant_check(id, target, table) {
             return Outcome::only(alloc, Reply::Refused(refusal));
         }
-        self.mark_granted(id, true);
+        self.apply(id, Mark::Granted(true));
         Outcome::only(alloc, Reply::Ok)
     }
 
@@ -89,7 +90,7 @@ impl JobRow {
         ensures reply { result.reply ≡ reply.Ok }
         ensures silent { result.messages ≡ [] }
     {
-        self.mark_granted(id, granted);
+        self.apply(id, Mark::Granted(granted));
         self.settle_after(id, Items::new(alloc))
     }
 

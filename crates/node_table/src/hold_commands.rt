@@ -9,6 +9,7 @@ ghost use Rattle.node_table.specs.Outcomes.{given_of};
 ghost use Rattle.node_table.specs.Usages.{total, doomed_one};
 ghost use Rattle.node_table.specs.Shown.{IsShown, TakesStep};
 
+use crate::marks::Mark;
 use crate::outcome::{Erase, Outcome};
 use crate::row::JobRow;
 use obj_id::{DeviceKey, Items, ObjectId, OwnItem, Reply};
@@ -66,7 +67,7 @@ impl JobRow {
     {
         let mut keys = Vec::with_capacity(alloc, items.len())?;
         for item in items {
-            self.leave_copy(&item.id, session);
+            self.apply(&item.id, Mark::Left(session));
             push_key(&mut keys, self.settle(&item.id));
         }
         Ok(Items::from_vec(keys))

@@ -22,6 +22,7 @@ mod hold_commands;
 pub mod laws;
 mod lent;
 mod listing;
+mod marks;
 mod outcome;
 mod prepared;
 mod preparing;

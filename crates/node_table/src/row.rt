@@ -10,9 +10,7 @@ ghost use Rattle.private_store.specs.Copies.{extent_of};
 ghost use Rattle.private_store.specs.Contents.{digest_of, overwritten};
 ghost use Rattle.job_region.specs.Region.{bytes_at as placed_bytes, resize_check};
 ghost use Rattle.std.specs.Option.{option_map_or};
-ghost use Rattle.private_store.specs.Copies.{is_created};
-ghost use Rattle.private_store.specs.Kept.{is_remembered, is_restoring};
-ghost use Rattle.node_table.specs.Usages.{is_spilling};
+ghost use Rattle.private_store.specs.Kept.{is_remembered};
 ghost use Rattle.node_table.specs.Answering.{written_row, refilled, lost_row};
 ghost use Rattle.lru_evictor.specs.Orders.{last_used, ids_of};
 ghost use Rattle.node_table.specs.Followed.{AreFollowed, AreListed, facts_in};
@@ -21,22 +19,24 @@ ghost use Rattle.private_store.specs.Room.{plan as room_plan};
 ghost use Rattle.lru_evictor.specs.Plans.{IsDescribed, kind_of};
 ghost use Rattle.lru_evictor.specs.declared.facts.Plan.TheVariants as plan_kind;
 ghost use Rattle.node_table.specs.Entries.{changed, all_changed, each_changed};
-ghost use Rattle.node_table.specs.Kept.{Kept, sealed, released, left, spilling_if, fetched_kept, unpinned, borrowed, given_up, doomed, marked, fault_told, new_kept, waits_for_place, placed_for, CanAwait};
+ghost use Rattle.node_table.specs.Kept.{Kept, released, left, spilling_if, fetched_kept, borrowed, new_kept, waits_for_place, placed_for, CanAwait};
+ghost use Rattle.node_table.specs.Marks.{marked_by, CanTake, lies_still};
+ghost use Rattle.node_table.specs.declared.marks.Mark.TheVariants.{FetchFailed, Written, Restored, Lost};
 ghost use Rattle.node_table.specs.Checks.{release_check, borrow_check};
 ghost use Rattle.node_table.specs.Quotas.{requoted};
 ghost use Rattle.node_table.specs.Scope.{with_copy};
 ghost use Rattle.node_table.specs.Row.{Row, new_row, place_of, ArePlaced};
 ghost use Rattle.node_table.specs.EndingTasks.{task_row};
-ghost use Rattle.node_table.specs.Dropping.{dropped, is_over_at, settled_row, keys_settled, unheld_row};
+ghost use Rattle.node_table.specs.Dropping.{dropped, is_over_at, settled_row, keys_settled};
 ghost use Rattle.node_table.specs.Holding.{IsUnreadyAt, IsHoldRefusedAt, IsRowHeld};
 ghost use Rattle.node_table.specs.Evicting.{has_place, IsReplaced};
-ghost use Rattle.private_store.specs.Kept.{is_fetching};
-ghost use Rattle.node_table.specs.Arriving.{located, gap_closed, brought, unfetched_row};
+ghost use Rattle.node_table.specs.Arriving.{located, unfetched_row};
 
 use crate::copies::Copies;
 use crate::copy::{Awaited, RowCopy};
 use crate::following::{evict_for, follow, follow_each};
 use crate::lent::Lent;
+use crate::marks::Mark;
 use crate::prepared::Prepared;
 use bytes::Bytes;
 use extent_tree::Room;
@@ -316,20 +316,13 @@ impl JobRow {
         }
     }
 
-    /// The copy is immutable from now on, with this digest of its bytes.
-    pub(crate) fn seal_copy(&mut self, id: &ObjectId, digest: Digest)
-        requires { option_map_or (λ k. is_created k.copy.state) (at self.old.copies id.now) true ≡ true }
-        ensures { self.new ≡ record self.old { copies = changed (sealed digest) self.old.copies id.now } }
+    /// This happens to the copy, if it is there, and it lies where it lay. Takes no memory.
+    pub(crate) fn apply(&mut self, id: &ObjectId, mark: Mark)
+        requires lies { lies_still mark ≡ true }
+        requires can { (k : Kept) → at self.old.copies id.now ≡ Some k → CanTake mark k }
+        ensures { self.new ≡ with_copy (marked_by mark) self.old id.now }
     {
-        self.copies.seal(id, digest);
-        follow(&mut self.order, &self.copies, id);
-    }
-
-    /// The fault of the copy was told.
-    pub(crate) fn forget_fault(&mut self, id: &ObjectId)
-        ensures { self.new ≡ record self.old { copies = changed fault_told self.old.copies id.now } }
-    {
-        self.copies.forget_fault(id);
+        self.copies.apply(id, mark);
         follow(&mut self.order, &self.copies, id);
     }
 
@@ -510,7 +503,8 @@ impl JobRow {
         match self.window.replace(alloc, &gone, len) {
             Err(refusal) => no_place(refusal),
             Ok(extent) => {
-                self.copies.take_place(id, extent.offset, awaited);
+                let offset = extent.offset;
+                self.copies.apply(id, Mark::Placed { offset, awaited });
                 evict_for(&mut self.order, &mut self.copies, victims, id, room, extent);
                 Ok(Some(extent))
             }
@@ -532,39 +526,15 @@ impl JobRow {
         follow(&mut self.order, &self.copies, id);
     }
 
-    /// A chunk of `len` bytes came: the gap of the copy that it fills is closed. Takes no memory.
-    pub(crate) fn take_chunk(
-        &mut self,
-        id: &ObjectId,
-        number: u64,
-        from: u32,
-        index: u32,
-        len: usize,
-    )
-        ensures { self.new ≡ with_copy (gap_closed number from index len) self.old id.now }
-    {
-        self.copies.take_chunk(id, number, from, index, len);
-        follow(&mut self.order, &self.copies, id);
-    }
-
-    /// All bytes of the copy are there: it is sealed. Takes no memory.
-    pub(crate) fn bring_copy(&mut self, id: &ObjectId)
-        requires { option_map_or (λ k. is_fetching k.copy.state && is_some k.digest) (at self.old.copies id.now) true ≡ true }
-        ensures { self.new ≡ with_copy brought self.old id.now }
-    {
-        self.copies.bring(id);
-        follow(&mut self.order, &self.copies, id);
-    }
-
     /// The fetch of the copy is over without it: its place is free, and the next Get is told why. Takes no memory.
     pub(crate) fn fail_fetch(&mut self, id: &ObjectId, fault: FetchFault)
-        requires { option_map_or (λ k. is_fetching k.copy.state) (at self.old.copies id.now) true ≡ true }
+        requires { (k : Kept) → at self.old.copies id.now ≡ Some k → CanTake (FetchFailed fault) k }
         ensures row { self.new ≡ unfetched_row fault self.old id.now }
         ensures placed { ArePlaced self.old.window.placed (place_of self.old.copies) }
     {
         let gone = self.place(id);
         self.window.give_back_all(gone.as_slice());
-        self.copies.fail_fetch(id, fault);
+        self.copies.apply(id, Mark::FetchFailed(fault));
         follow(&mut self.order, &self.copies, id);
     }
 
@@ -579,34 +549,32 @@ impl JobRow {
     /// The write of the copy under this number ended: its bytes are on the device; or it failed, and the next one that
     /// waits for room by spilling is told so. Takes no memory.
     pub(crate) fn end_spill(&mut self, id: &ObjectId, number: u64, failed: bool)
-        requires { option_map_or is_spilling (at self.old.copies id.now) true ≡ true }
+        requires { (k : Kept) → at self.old.copies id.now ≡ Some k → CanTake (Written number failed) k }
         ensures { self.new ≡ written_row number failed self.old id.now }
     {
-        self.copies.end_spill(id, number, failed);
-        follow(&mut self.order, &self.copies, id);
         self.spill_failed = failed || self.spill_failed;
+        self.apply(id, Mark::Written { number, failed });
     }
 
     /// The read of the copy ended, and brought these bytes: it is sealed again, with the bytes in its place. Takes no
     /// memory.
     pub(crate) fn end_restore(&mut self, id: &ObjectId, bytes: &Bytes)
-        requires { option_map_or (λ k. is_restoring k.copy.state) (at self.old.copies id.now) true ≡ true }
+        requires { (k : Kept) → at self.old.copies id.now ≡ Some k → CanTake Restored k }
         ensures { (e : Extent) → place_of self.old.copies id.now ≡ Some e → length bytes.now ≤ e.length → self.new ≡ refilled e bytes.now self.old id.now }
     {
         self.put_all_bytes(id, bytes);
-        self.copies.end_restore(id);
-        follow(&mut self.order, &self.copies, id);
+        self.apply(id, Mark::Restored);
     }
 
     /// The read of the copy ended without its bytes: it is away again with this fault, and its place is free. Takes no
     /// memory.
     pub(crate) fn lose(&mut self, id: &ObjectId, fault: Fault)
-        requires { option_map_or (λ k. is_restoring k.copy.state) (at self.old.copies id.now) true ≡ true }
+        requires { (k : Kept) → at self.old.copies id.now ≡ Some k → CanTake (Lost fault) k }
         ensures { self.new ≡ lost_row fault self.old id.now }
     {
         let gone = self.place(id);
         self.window.give_back_all(gone.as_slice());
-        self.copies.lose(id, fault);
+        self.copies.apply(id, Mark::Lost(fault));
         follow(&mut self.order, &self.copies, id);
     }
 
@@ -655,14 +623,6 @@ impl JobRow {
         })
     }
 
-    /// The owner task keeps the copy no longer: it is doomed unless a task borrows it. Takes no memory.
-    pub(crate) fn unpin_copy(&mut self, id: &ObjectId)
-        ensures { self.new ≡ with_copy unpinned self.old id.now }
-    {
-        self.copies.unpin(id);
-        follow(&mut self.order, &self.copies, id);
-    }
-
     /// The task borrows the copy, as the last one. `Absent`, also if it is doomed, `NotOwner`, `Exists`, `TooMany`,
     /// `NoMemory` last; a refusal changes nothing.
     pub(crate) fn borrow_copy(&mut self, id: &ObjectId, task: TaskNo) -> Result<(), Refusal>
@@ -675,39 +635,6 @@ impl JobRow {
         self.copies.borrow(id, task)?;
         follow(&mut self.order, &self.copies, id);
         Ok(())
-    }
-
-    /// The task borrows the copy no longer: it is doomed unless it is pinned or another task borrows it. Takes no
-    /// memory.
-    pub(crate) fn give_up_copy(&mut self, id: &ObjectId, task: TaskNo)
-        ensures { self.new ≡ with_copy (given_up task) self.old id.now }
-    {
-        self.copies.give_up(id, task);
-        follow(&mut self.order, &self.copies, id);
-    }
-
-    /// The copy is removed as soon as nothing keeps it. Takes no memory.
-    pub(crate) fn doom_copy(&mut self, id: &ObjectId)
-        ensures { self.new ≡ with_copy doomed self.old id.now }
-    {
-        self.copies.doom(id);
-        follow(&mut self.order, &self.copies, id);
-    }
-
-    /// Hands of the copy stand that the job gave, or none. Takes no memory.
-    pub(crate) fn mark_granted(&mut self, id: &ObjectId, granted: bool)
-        ensures { self.new ≡ with_copy (marked granted) self.old id.now }
-    {
-        self.copies.mark_granted(id, granted);
-        follow(&mut self.order, &self.copies, id);
-    }
-
-    /// No hold of the session on the copy. Takes no memory.
-    pub(crate) fn leave_copy(&mut self, id: &ObjectId, session: u32)
-        ensures { self.new ≡ unheld_row session self.old id.now }
-    {
-        self.copies.leave(id, session);
-        follow(&mut self.order, &self.copies, id);
     }
 
     /// No hold of the session on any copy. Takes no memory.

@@ -12,6 +12,7 @@ ghost use Rattle.node_table.specs.Row.{Beside, place_of, ArePlaced};
 ghost use Rattle.node_table.specs.Scope.{farewell_at, posted};
 ghost use Rattle.node_table.specs.Shown.{IsShown, TakesStep};
 
+use crate::marks::Mark;
 use crate::outcome::{Erase, Outcome};
 use crate::row::JobRow;
 use obj_id::{Items, Message, ObjectId, Place, Refusal, Reply, TaskNo};
@@ -40,7 +41,7 @@ impl JobRow {
         }
         let stays = self.copies().in_scope_unpinned(id);
         let messages = self.farewell(alloc, node, id, !stays)?;
-        self.unpin_copy(id);
+        self.apply(id, Mark::Unpinned);
         Ok(self.settle_after(id, messages))
     }
 
@@ -92,7 +93,7 @@ impl JobRow {
         }
         let stays = self.copies().in_scope_without(id, task);
         let messages = self.farewell(alloc, node, id, !stays)?;
-        self.give_up_copy(id, task);
+        self.apply(id, Mark::GivenUp(task));
         Ok(self.settle_after(id, messages))
     }
 
@@ -115,7 +116,7 @@ impl JobRow {
             return Ok(Outcome::only(alloc, Reply::Refused(refusal)));
         }
         let messages = self.farewell(alloc, node, id, true)?;
-        self.doom_copy(id);
+        self.apply(id, Mark::Doomed);
         Ok(self.settle_after(id, messages))
     }
 

@@ -25,9 +25,9 @@ returns-clause-ok c beside contents h =
     (in_place c.args.node c.args.self.now beside contents h c.args.id.now c.args.number c.args.from c.args.index c.args.bytes.now a)
     (small c.args.node c.args.self.now beside contents h c.args.id.now c.args.number c.args.from c.args.index c.args.bytes.now a)
     (in_extent c.args.node c.args.self.now beside contents h c.args.id.now c.args.number c.args.from c.args.index c.args.bytes.now a) in
-    subst (λ g. TakesStep c.args.node c.args.self.now beside contents (input.Arrive (arrival.FromPeer c.args.from (peer.Chunk c.args.id.now c.args.number c.args.index c.args.bytes.now))) g c.take_chunk.new.self beside) (sym c.only-2.ensures)
+    subst (λ g. TakesStep c.args.node c.args.self.now beside contents (input.Arrive (arrival.FromPeer c.args.from (peer.Chunk c.args.id.now c.args.number c.args.index c.args.bytes.now))) g c.apply.new.self beside) (sym c.only-2.ensures)
     (subst (λ r. TakesStep c.args.node c.args.self.now beside contents (input.Arrive (arrival.FromPeer c.args.from (peer.Chunk c.args.id.now c.args.number c.args.index c.args.bytes.now))) (only reply.Ok) r beside)
-    (sym (c.take_chunk.ensures ∙ ap (λ r. with_copy (gap_closed c.args.number c.args.from c.args.index (length c.args.bytes.now)) r c.args.id.now) put))
+    (sym (c.apply.ensures ∙ ap (λ r. with_copy (gap_closed c.args.number c.args.from c.args.index (length c.args.bytes.now)) r c.args.id.now) put))
     (part_done c.args.node c.args.self.now beside contents h c.args.id.now c.args.number c.args.from c.args.index c.args.bytes.now a c.copies.ensures.placed
     (ap (λ t. option_map_or (lacks_only c.args.index) (at t c.args.id.now) false) (sym c.copies-2.ensures.copies) ∙ sym c.lacks_only.ensures ∙ c.if-lacks_only.false)))
 

@@ -20,9 +20,9 @@ returns-in-Some-clause-ok c beside contents mine h =
 pub returns-clause-ok : goal.returns-clause-ok
 returns-clause-ok c beside contents mine h =
     subst (λ g. TakesStep c.args.node c.args.self.now beside contents (input.Call c.args.session (command.Delete c.args.id.now)) g c.settle_after.new.self beside)
-    (sym (c.settle_after.ensures.given ∙ ap (λ r. record { reply = reply.Ok; posts = c.in_ok-messages.messages; erased = keys_settled r c.args.id.now }) c.doom_copy.ensures))
+    (sym (c.settle_after.ensures.given ∙ ap (λ r. record { reply = reply.Ok; posts = c.in_ok-messages.messages; erased = keys_settled r c.args.id.now }) c.apply.ensures))
     (subst (λ r. TakesStep c.args.node c.args.self.now beside contents (input.Call c.args.session (command.Delete c.args.id.now)) (record { reply = reply.Ok; posts = c.in_ok-messages.messages; erased = keys_settled (with_copy doomed c.args.self.now c.args.id.now) c.args.id.now }) r beside)
-    (sym (c.settle_after.ensures.row ∙ ap (λ r. settled_row r c.args.id.now) c.doom_copy.ensures))
+    (sym (c.settle_after.ensures.row ∙ ap (λ r. settled_row r c.args.id.now) c.apply.ensures))
     (delete_done_so c.args.node c.args.self.now beside contents c.args.session c.args.id.now mine h
     (ap (λ t. delete_check t c.args.id.now) (sym c.copies.ensures.copies) ∙ sym c.delete_check.ensures ∙ c.in_default.is)
-    c.in_ok-messages.messages c.in_ok-messages.ensures (subst (λ r. ArePlaced r.window.placed (place_of r.copies)) c.doom_copy.ensures c.settle_after.ensures.placed)))
+    c.in_ok-messages.messages c.in_ok-messages.ensures (subst (λ r. ArePlaced r.window.placed (place_of r.copies)) c.apply.ensures c.settle_after.ensures.placed)))

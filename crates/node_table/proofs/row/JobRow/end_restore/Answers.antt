@@ -1,11 +1,11 @@
-use Rattle.std.proofs.Common.{refl}
+use Rattle.std.proofs.Common.{sym, ap, ◌∙◌}
+use Rattle.private_store.specs.Tables.{at}
 use Rattle.node_table.specs.Kept.{restored}
-use Rattle.node_table.proofs.Places.{now_placed}
-use Rattle.node_table.proofs.FollowsCopies.{one_stays}
+use Rattle.node_table.specs.Scope.{with_copy}
 use Rattle.node_table.proofs.row.JobRow.end_restore.Goals as goal
 
-pub invariant_of-self : goal.invariant_of-self
-invariant_of-self c = (
-  now_placed c.self.inside.window.placed c.self.inside.copies c.self.invariant.0 restored (λ z. refl) c.args.id.now c.end_restore.new.self c.end_restore.ensures,
-  one_stays restored c.args.id.now c.self.inside.copies c.end_restore.new.self c.end_restore.ensures c.self.inside.order c.follow.new.order c.follow.ensures.standings (λ z. refl) c.self.invariant.1,
-)
+pub apply-requires-clause-can : goal.apply-requires-clause-can
+apply-requires-clause-can c k found = c.requires k (ap (λ t. at t c.args.id.now) (sym c.put_all_bytes.ensures.copies) ∙ found)
+
+pub returns : goal.returns
+returns c e lies fits = c.apply.ensures ∙ ap (λ r. with_copy restored r c.args.id.now) (c.put_all_bytes.ensures.row e lies fits)

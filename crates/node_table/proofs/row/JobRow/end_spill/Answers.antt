@@ -1,11 +1,26 @@
-use Rattle.std.proofs.Common.{refl}
+use Rattle.std.proofs.Common.{◌≡◌, ◌||◌, Bool, sym, ap, ◌∙◌}
+use Rattle.private_store.specs.Tables.{at}
+use Rattle.lru_evictor.specs.Orders.{ids_of}
+use Rattle.node_table.specs.Answering.{written_row}
 use Rattle.node_table.specs.Kept.{written}
-use Rattle.node_table.proofs.Places.{now_placed}
-use Rattle.node_table.proofs.FollowsCopies.{one_stays}
+use Rattle.node_table.specs.Row.{Row}
+use Rattle.node_table.specs.Scope.{with_copy}
 use Rattle.node_table.proofs.row.JobRow.end_spill.Goals as goal
+use Rattle.node_table.proofs.row.JobRow.end_spill.Goals.{then-failed, else-failed}
 
-pub invariant_of-self : goal.invariant_of-self
-invariant_of-self c = (
-  now_placed c.self.inside.window.placed c.self.inside.copies c.self.invariant.0 (written c.args.number c.args.failed) (λ z. refl) c.args.id.now c.end_spill.new.self c.end_spill.ensures,
-  one_stays (written c.args.number c.args.failed) c.args.id.now c.self.inside.copies c.end_spill.new.self c.end_spill.ensures c.self.inside.order c.follow.new.order c.follow.ensures.standings (λ z. refl) c.self.invariant.1,
-)
+pub apply-requires-clause-can : goal.apply-requires-clause-can
+apply-requires-clause-can c k found = c.requires k (ap (λ (r : Row). at r.copies c.args.id.now) (sym c.self.view_is) ∙ found)
+
+pub returns : goal.returns
+returns c =
+    let failed : c.if-failed.self ≡ (c.args.failed || c.self.inside.spill_failed) = elim c.if-failed.branch [
+      | then-failed w ↦ w.self-is ∙ w.if-failed.true ∙ sym (ap (λ b. b || c.self.inside.spill_failed) w.if-failed.true)
+      | else-failed w ↦ w.self-is ∙ sym (ap (λ b. b || c.self.inside.spill_failed) w.if-failed.false)
+    ] in
+    c.apply.ensures ∙ ap row_with failed ∙ ap (λ r. written_row c.args.number c.args.failed r c.args.id.now) c.self.view_is
+  where
+    row_with : Bool → Row
+    row_with b =
+        with_copy (written c.args.number c.args.failed)
+        (record { job = c.self.inside.job.0; window = c.self.inside.window; device = c.self.inside.device; copies = c.self.inside.copies; order = ids_of c.self.inside.order; fetches_begun = c.self.inside.fetches_begun; spill_failed = b; ended_tasks = c.self.inside.ended_tasks.keys })
+        c.args.id.now

@@ -20,8 +20,8 @@ returns-in-Some-clause-ok c =
     let faulty = sym (ap (option_and_then (λ (k : Kept). k.copy.fault)) v.found) ∙ ap (λ t. fault_at t c.args.id.now) (sym c.copies.ensures.copies) ∙ sym c.fault.ensures ∙ c.in-Some.is in
     each_ok c.told.result (λ o said session hands bytes contents mine h.
     let beside = beside_of c.args.works.now hands bytes c.args.self.now.job in
-    subst (λ g. TakesStep c.args.node c.args.self.now beside contents (input.Call session (command.Get c.args.id.now)) g c.forget_fault.new.self beside) (sym (said ∙ ap (λ r. only (reply.Refused r)) c.refusal.ensures))
-    (subst (λ row. TakesStep c.args.node c.args.self.now beside contents (input.Call session (command.Get c.args.id.now)) (only (reply.Refused (refusal_of c.in-Some.fault))) row beside) (sym c.forget_fault.ensures)
+    subst (λ g. TakesStep c.args.node c.args.self.now beside contents (input.Call session (command.Get c.args.id.now)) g c.apply.new.self beside) (sym (said ∙ ap (λ r. only (reply.Refused r)) c.refusal.ensures))
+    (subst (λ row. TakesStep c.args.node c.args.self.now beside contents (input.Call session (command.Get c.args.id.now)) (only (reply.Refused (refusal_of c.in-Some.fault))) row beside) (sym c.apply.ensures)
     (told_once c.args.node c.args.self.now beside contents session c.args.id.now mine c.requires.alive h v.k v.found v.stays v.is c.in-Some.fault faulty))) c.told.ensures.ok
 
 pub returns-in-None-clause-ok : goal.returns-in-None-clause-ok

@@ -18,5 +18,5 @@ returns-clause-ok c beside contents mine h =
     let passed = ap (λ t. seal_check t c.args.id.now) (sym c.copies.ensures.copies) ∙ sym c.seal_check.ensures ∙ c.in_default.is in
     let entry = c.location-entry.result in
     let digest = seal_digest c.args.node c.args.self.now beside contents c.args.session c.args.id.now mine h passed entry.digest entry.digest refl c.location-entry.ensures.digest in
-    subst (λ r. TakesStep c.args.node c.args.self.now beside contents (input.Call c.args.session (command.Seal c.args.id.now)) (record { reply = reply.Ok; posts = c.in_ok-messages.messages; erased = [] }) r beside) (sym (c.freeze.ensures ∙ c.seal_copy.ensures))
+    subst (λ r. TakesStep c.args.node c.args.self.now beside contents (input.Call c.args.session (command.Seal c.args.id.now)) (record { reply = reply.Ok; posts = c.in_ok-messages.messages; erased = [] }) r beside) (sym (c.freeze.ensures ∙ c.apply.ensures))
     (seal_done_so c.args.node c.args.self.now beside contents c.args.session c.args.id.now mine h passed entry.digest digest c.in_ok-messages.messages entry c.location-entry.ensures.node c.location-entry.ensures.length refl c.in_ok-messages.ensures)

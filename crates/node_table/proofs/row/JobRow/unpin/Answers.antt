@@ -23,10 +23,10 @@ returns-in-Some-clause-ok c beside contents mine h =
 pub returns-clause-ok : goal.returns-clause-ok
 returns-clause-ok c beside contents mine h =
     subst (λ g. TakesStep c.args.node c.args.self.now beside contents (input.Call c.args.session (command.Unpin c.args.id.now c.args.task)) g c.settle_after.new.self beside)
-    (sym (c.settle_after.ensures.given ∙ ap (λ r. record { reply = reply.Ok; posts = c.in_ok-messages.messages; erased = keys_settled r c.args.id.now }) c.unpin_copy.ensures))
+    (sym (c.settle_after.ensures.given ∙ ap (λ r. record { reply = reply.Ok; posts = c.in_ok-messages.messages; erased = keys_settled r c.args.id.now }) c.apply.ensures))
     (subst (λ r. TakesStep c.args.node c.args.self.now beside contents (input.Call c.args.session (command.Unpin c.args.id.now c.args.task)) (record { reply = reply.Ok; posts = c.in_ok-messages.messages; erased = keys_settled (with_copy unpinned c.args.self.now c.args.id.now) c.args.id.now }) r beside)
-    (sym (c.settle_after.ensures.row ∙ ap (λ r. settled_row r c.args.id.now) c.unpin_copy.ensures))
+    (sym (c.settle_after.ensures.row ∙ ap (λ r. settled_row r c.args.id.now) c.apply.ensures))
     (unpin_done_so c.args.node c.args.self.now beside contents c.args.session c.args.id.now mine h c.args.task
     (ap (λ t. unpin_check t c.args.id.now c.args.task) (sym c.copies.ensures.copies) ∙ sym c.unpin_check.ensures ∙ c.in_default.is)
     c.in_scope_unpinned-stays.result (c.in_scope_unpinned-stays.ensures ∙ ap (λ t. option_map_or (λ (k : Kept). in_scope (record k.copy { pinned = false })) (at t c.args.id.now) false) c.copies-2.ensures.copies)
-    c.in_ok-messages.messages c.in_ok-messages.ensures (subst (λ r. ArePlaced r.window.placed (place_of r.copies)) c.unpin_copy.ensures c.settle_after.ensures.placed)))
+    c.in_ok-messages.messages c.in_ok-messages.ensures (subst (λ r. ArePlaced r.window.placed (place_of r.copies)) c.apply.ensures c.settle_after.ensures.placed)))

@@ -4,7 +4,7 @@ use Rattle.obj_id.specs.declared.commands.Reply.TheVariants as reply
 use Rattle.private_store.specs.declared.inputs.Input.TheVariants as input
 use Rattle.private_store.specs.Hands.{is_withdrawn}
 use Rattle.node_table.specs.Dropping.{settled_row, keys_settled}
-use Rattle.node_table.specs.Kept.{marked}
+use Rattle.node_table.specs.Kept.{with_granted}
 use Rattle.node_table.specs.Notes.{beside_rest}
 use Rattle.node_table.specs.Row.{beside_of, place_of, ArePlaced}
 use Rattle.node_table.specs.Scope.{with_copy}
@@ -20,10 +20,10 @@ returns-clause-step c node line hands bytes contents are mine stands says h =
     let before = beside_of line hands bytes row.job in
     let x = input.Call c.args.session (command.Withdraw id target) in
     let after = beside_rest line (is_withdrawn row.job id target.0) hands bytes row.job in
-    let row_marked = with_copy (marked c.args.granted) row id in
+    let row_marked = with_copy (with_granted c.args.granted) row id in
     subst (λ g. TakesStep node row before contents x g c.settle_after.new.self after)
-    (sym (c.settle_after.ensures.given ∙ (λ i. record { reply = reply.Ok; posts = c.new.ensures i; erased = keys_settled (c.mark_granted.ensures i) id })))
+    (sym (c.settle_after.ensures.given ∙ (λ i. record { reply = reply.Ok; posts = c.new.ensures i; erased = keys_settled (c.apply.ensures i) id })))
     (subst (λ r. TakesStep node row before contents x (record { reply = reply.Ok; posts = []; erased = keys_settled row_marked id }) r after)
-    (sym (c.settle_after.ensures.row ∙ ap (λ r. settled_row r id) c.mark_granted.ensures))
+    (sym (c.settle_after.ensures.row ∙ ap (λ r. settled_row r id) c.apply.ensures))
     (withdraw_done node line hands bytes row contents c.args.session id target h mine stands are c.args.granted says
-    (subst (λ r. ArePlaced r.window.placed (place_of r.copies)) c.mark_granted.ensures c.settle_after.ensures.placed)))
+    (subst (λ r. ArePlaced r.window.placed (place_of r.copies)) c.apply.ensures c.settle_after.ensures.placed)))

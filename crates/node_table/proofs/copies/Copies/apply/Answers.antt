@@ -1,0 +1,9 @@
+use Rattle.std.proofs.Common.{rules}
+use Rattle.node_table.specs.Marks.{marked_by}
+use Rattle.node_table.proofs.copies.Copies.apply.Goals as goal
+
+pub update-requires : goal.update-requires
+update-requires c = λ p here. let ready = c.requires p.now here in search rules
+
+pub returns : goal.returns
+returns c = c.update.ensures (marked_by c.args.mark) (λ p q post. search rules)
