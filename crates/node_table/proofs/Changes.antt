@@ -1,5 +1,5 @@
 -- A change written through what a map of copies lends.
-use Rattle.std.proofs.Common.{◌≡◌, Bool, true, not, cond, List, [], ◌∷◌, Option, Some, None, refl, sym, ap, ◌∙◌}
+use Rattle.std.proofs.Common.{◌≡◌, true, not, cond, List, [], ◌∷◌, Option, Some, None, refl, sym, ap, ◌∙◌}
 use Rattle.std.specs.Prelude.{false, is_err, OnOk, OnErr, Ok, Err}
 use Rattle.std.specs.declared.result.Result.{Result}
 use Rattle.std.specs.Option.{option_map_or}
@@ -51,10 +51,6 @@ module _ {X : Type 0} (f : X → X) (id : ObjectId) (es : List (ObjectId × X)) 
   on_err (Ok v) new x y found is set = tt
   on_err (Err e) new x y found is set = unwritten new x y found is set
 
--- what every entry of the id passes, the one that is there passes
-pub passes : {X : Type 0} (test : X → Bool) (o : Option X) (x : X) → o ≡ Some x → option_map_or test o true ≡ true → test x ≡ true
-passes test o x found h = ap (λ o. option_map_or test o true) (sym found) ∙ h
-
 -- an entry put where there was none, and taken out again
 pub put_back : {X : Type 0} (id : ObjectId) (es : ById X) (x : X) → at es id ≡ None → without_entry (with_entry es id x) id ≡ es
 put_back id [] x none = ap (λ b. cond (not b) ((id, x) ∷ []) []) (same_id-itself id)
@@ -74,6 +70,15 @@ checked_there check id es now x seen found = ap check (ap (λ t. at t id) (sym s
 
 pub checked_absent : {X P : Type 0} (check : Option X → P) (id : ObjectId) (es : List (ObjectId × X)) (now : ById X) → by_rising_id es ≡ now → lookup (id_eq id) es ≡ None → check (at now id) ≡ check None
 checked_absent check id es now seen none = ap check (ap (λ t. at t id) (sym seen) ∙ at-rising es id ∙ none)
+
+-- and of the table after a write
+pub checked_unwritten : {X P : Type 0} (check : Option X → P) (id : ObjectId) (es new : List (ObjectId × X)) → lookup (id_eq id) es ≡ None → new ≡ es → check (at (by_rising_id new) id) ≡ check None
+checked_unwritten check id es new none same = ap (λ t. check (at (by_rising_id t) id)) same ∙ ap check (at-rising es id ∙ none)
+
+pub checked_written : {X P : Type 0} (check : Option X → P) (id : ObjectId) (es new : List (ObjectId × X)) (x y : X) → lookup (id_eq id) es ≡ Some x → new ≡ set_value (id_eq id) es y → check (at (by_rising_id new) id) ≡ check (Some y)
+checked_written check id es new x y found set =
+    ap (λ t. check (at t id)) (written (λ old. y) id es (by_rising_id es) refl new x y found refl set)
+    ∙ ap check (at-changed_here (λ old. y) id (by_rising_id es) x (at-rising es id ∙ found))
 
 -- what is so of a refusal, where there was one
 pub of_err : {T E P : Type 0} (r : Result T E) → OnErr r P → is_err r ≡ true → P

@@ -116,7 +116,7 @@ is_followed-itself copies id s is = ap (λ t. same_standing t (standing_at (fact
 same_followed : (before after : ById Kept) (x : ObjectId) (s : Standing) → at after x ≡ at before x → is_followed before x s ≡ true → is_followed after x s ≡ true
 same_followed before after x s same h = ap (λ o. same_standing s (option_map_or standing_of (option_map facts_of o) nowhere)) same ∙ h
 
-extent_there : (copies : ById Kept) (id : ObjectId) → (standing_at (facts_in copies) id).extent ≡ place_of copies id
+pub extent_there : (copies : ById Kept) (id : ObjectId) → (standing_at (facts_in copies) id).extent ≡ place_of copies id
 extent_there copies id = by (at copies id)
   where
     by : (o : Option Kept) → (option_map_or standing_of (option_map facts_of o) nowhere).extent ≡ option_and_then (λ kept. extent_of kept.copy) o
@@ -272,11 +272,11 @@ pub told_alone : (id : ObjectId) (before after : ById Kept) (s : Standing) (orde
 told_alone id before after s order new is tells same keep h =
     told id [] [] after s is order new tells (waits (id ∷ []) [] before after (λ x apart. same x (more (same_id x id) false apart).0) keep order h)
 
--- an order that follows any change of one copy follows this one
-module _ (f : Kept → Kept) (id : ObjectId) (before after : ById Kept) (is : after ≡ changed f before id) (order new : List (ObjectId × Standing))
-    (follows : (copies : ById Kept) → SameBut id copies after → KeepPlaces copies after → AreFollowed copies order → AreFollowed after new) where
+-- an order that is told what one copy is after a change
+module _ (f : Kept → Kept) (id : ObjectId) (before after : ById Kept) (is : after ≡ changed f before id) (s : Standing) (stands : s ≡ standing_at (facts_in after) id) (order new : List (ObjectId × Standing))
+    (tells : Tells id order (stood (standing_in id order) s) new) where
   pub one_changed : KeepsPlace f → AreFollowed before order → AreFollowed after new
-  one_changed keeps h = follows before (changed_but f before after id is) (changed_keep f keeps before after id is) h
+  one_changed keeps h = told_alone id before after s order new stands tells (changed_but f before after id is) (changed_keep f keeps before after id is) h
 
   pub one_stays : ((z : Kept) → extent_of (f z).copy ≡ extent_of z.copy) → AreFollowed before order → AreFollowed after new
   one_stays same h = one_changed (lies_keeps f same) h

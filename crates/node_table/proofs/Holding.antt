@@ -11,9 +11,9 @@ use Rattle.private_store.specs.Tables.{ById, at}
 use Rattle.lru_evictor.specs.Facts.{standing_at}
 use Rattle.node_table.specs.Entries.{by_rising_id, changed}
 use Rattle.node_table.specs.declared.copy.Held.{Held}
-use Rattle.node_table.specs.declared.copy.Released.{Released}
-use Rattle.node_table.specs.Kept.{Kept, is_ready, held, released}
-use Rattle.node_table.specs.Dropping.{is_over, is_over_at, released_of}
+use Rattle.node_table.specs.declared.copy.AfterChange.{AfterChange}
+use Rattle.node_table.specs.Kept.{Kept, is_ready, held}
+use Rattle.node_table.specs.Dropping.{is_over, is_over_at, after_change}
 use Rattle.node_table.specs.Counted.{taken_by}
 use Rattle.node_table.specs.Followed.{facts_in}
 use Rattle.node_table.specs.Holding.{IsHeld, IsUnready, IsHoldRefused, IsHeldAt, IsUnreadyAt, IsHoldRefusedAt}
@@ -51,13 +51,13 @@ taken-held session x y (Err e) some none refused = ap taken_by refused.same
 pub none_at : (id : ObjectId) (es : List (ObjectId × Kept)) (now : ById Kept) (new : List (ObjectId × Kept)) → by_rising_id es ≡ now → lookup (id_eq id) es ≡ None → new ≡ es → IsUnreadyAt now id (by_rising_id new)
 none_at id es now new seen none same = record { unready = checked_absent (λ (o : Option Kept). option_map_or (λ k. is_ready k.copy) o false) id es now seen none; same = ap by_rising_id same ∙ seen }
 
--- ---- a hold that was given up
+-- ---- a change that may be refused
 
-module _ (session : ℕ) (id : ObjectId) (now : ById Kept) (x : Kept) (found : at now id ≡ Some x) where
-  pub standing_after : (r : Result Released Refusal) → IfOk r (λ a. a ≡ released_of (released session x)) → IfOk r (λ a. a.standing ≡ standing_at (facts_in (changed (released session) now id)) id)
-  standing_after (Ok a) h = ap (λ a. a.standing) h ∙ sym (standing_found (changed (released session) now id) id (released session x) (at-changed_here (released session) id now x found))
+module _ (f : Kept → Kept) (id : ObjectId) (now : ById Kept) (x : Kept) (found : at now id ≡ Some x) where
+  pub standing_after : (r : Result AfterChange Refusal) → IfOk r (λ a. a ≡ after_change (f x)) → IfOk r (λ a. a.standing ≡ standing_at (facts_in (changed f now id)) id)
+  standing_after (Ok a) h = ap (λ a. a.standing) h ∙ sym (standing_found (changed f now id) id (f x) (at-changed_here f id now x found))
   standing_after (Err e) h = tt
 
-  pub over_after : (r : Result Released Refusal) → IfOk r (λ a. a ≡ released_of (released session x)) → IfOk r (λ a. a.over ≡ is_over_at (changed (released session) now id) id)
-  over_after (Ok a) h = ap (λ a. a.over) h ∙ sym (ap (λ o. option_map_or is_over o false) (at-changed_here (released session) id now x found))
+  pub over_after : (r : Result AfterChange Refusal) → IfOk r (λ a. a ≡ after_change (f x)) → IfOk r (λ a. a.over ≡ is_over_at (changed f now id) id)
+  over_after (Ok a) h = ap (λ a. a.over) h ∙ sym (ap (λ o. option_map_or is_over o false) (at-changed_here f id now x found))
   over_after (Err e) h = tt

@@ -8,7 +8,7 @@ use Rattle.private_store.specs.Private.{key_of}
 use Rattle.job_region.specs.Region.{without}
 use Rattle.lru_evictor.specs.Facts.{standing_of}
 use Rattle.lru_evictor.specs.Orders.{without_id}
-use Rattle.node_table.specs.declared.copy.Released.{Released}
+use Rattle.node_table.specs.declared.copy.AfterChange.{AfterChange}
 use Rattle.node_table.specs.Entries.{changed}
 use Rattle.node_table.specs.Kept.{Kept, left}
 use Rattle.node_table.specs.RoomPlans.{is_idle, facts_of}
@@ -31,9 +31,9 @@ is_over kept = kept.copy.doomed && is_idle kept
 abbrev pub is_over_at : ById Kept → ObjectId → Bool
 is_over_at copies id = option_map_or is_over (at copies id) false
 
--- what is told of a copy once a hold of it was given up
-abbrev pub released_of : Kept → Released
-released_of kept = record { standing = standing_of (facts_of kept); over = is_over kept }
+-- what is told of a copy after a change of it
+abbrev pub after_change : Kept → AfterChange
+after_change kept = record { standing = standing_of (facts_of kept); over = is_over kept }
 
 -- the row after the copy was looked at
 abbrev pub settled_row : Row → ObjectId → Row

@@ -1,11 +1,11 @@
 -- A copy that goes out of scope: what the directory is told of it.
-use Rattle.std.specs.Prelude.{ℕ, Bool, if◌then◌else◌, List, [], Option, Some, None}
+use Rattle.std.specs.Prelude.{ℕ, Bool, false, if◌then◌else◌, List, [], Option, Some, None}
 use Rattle.std.specs.Option.{option_map_or, option_and_then}
 use Rattle.obj_id.specs.declared.ids.ObjectId.{ObjectId}
 use Rattle.obj_id.specs.declared.messages.DirectoryMessage.{DirectoryMessage}
 use Rattle.obj_id.specs.declared.messages.DirectoryMessage.TheVariants.{RemoveLocation, Free}
 use Rattle.obj_id.specs.Kinds.{is_primary}
-use Rattle.private_store.specs.Copies.{was_sealed}
+use Rattle.private_store.specs.Copies.{in_scope, was_sealed}
 use Rattle.private_store.specs.Private.{Post, to_directory}
 use Rattle.private_store.specs.Tables.{ById, at}
 use Rattle.node_table.specs.Entries.{changed}
@@ -20,6 +20,10 @@ farewell node id kept =
 -- the same of the copy of the id, where it is doomed or isn't
 abbrev pub farewell_at : ℕ → ById Kept → ObjectId → Bool → Option DirectoryMessage
 farewell_at node copies id dooms = if dooms then option_and_then (farewell node id) (at copies id) else None
+
+-- whether the copy of the id is in scope if its owner task keeps it no longer
+abbrev pub stays_unpinned : ById Kept → ObjectId → Bool
+stays_unpinned copies id = option_map_or (λ kept. in_scope (record kept.copy { pinned = false })) (at copies id) false
 
 abbrev pub posted : Option DirectoryMessage → List Post
 posted o = option_map_or to_directory o []

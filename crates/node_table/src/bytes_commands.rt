@@ -1,5 +1,5 @@
 //! The commands that move bytes, Write, Seal and Read; and bytes that are lent.
-ghost use Rattle.std.specs.Prelude.{◌≡◌, ◌≤◌, length, ◌==◌, ℕ, true, Some, None, take, drop, IfOk, IfErr, OnErr};
+ghost use Rattle.std.specs.Prelude.{◌≡◌, ◌≤◌, length, ◌==◌, ℕ, true, Some, None, take, IfOk, IfErr, IsOk, OnErr};
 ghost use Rattle.obj_id.specs.declared.works.Extent.{Extent};
 ghost use Rattle.private_store.specs.Tables.{at};
 ghost use Rattle.private_store.specs.Copies.{extent_of};
@@ -51,14 +51,14 @@ impl JobRow {
         ensures late { OnErr result (seal_check_lem self.old.copies id.now ≡ None) }
         ensures err { OnErr result (self.new ≡ self.old) }
     {
-        if let Some(refusal) = self.copies().seal_check(id) {
-            return Ok(Outcome::only(alloc, Reply::Refused(refusal)));
-        }
-        let entry = self.location(node, id);
+        let entry = match self.sealing(node, id) {
+            Err(refusal) => return Ok(Outcome::only(alloc, Reply::Refused(refusal))),
+            Ok(entry) => entry,
+        };
         let message = Message::ToDirectory(DirectoryMessage::AddLocation(*id, entry));
         let messages = Outcome::one_message(alloc, Place::Directory, message)?;
-        self.apply(id, Mark::Sealed(entry.digest));
-        self.freeze(id);
+        let after = self.apply(id, Mark::Sealed(entry.digest));
+        self.freeze_at(after.standing.extent);
         Ok(Outcome {
             reply: Reply::Ok,
             messages,
@@ -101,21 +101,25 @@ impl JobRow {
 }
 
 impl JobRow {
-    /// The copy as the directory is to know it.
-    fn location(&self, node: u32, id: &ObjectId) -> Location
-        ensures node { result.node ≡ node }
-        ensures length { (k : Kept) → at self.now.copies id.now ≡ Some k → result.length ≡ k.copy.length }
-        ensures digest { (k : Kept) (e : Extent) → at self.now.copies id.now ≡ Some k → extent_of k.copy ≡ Some e
-            → result.digest ≡ digest_of (take k.copy.length (placed_bytes e self.now.window.placed)) }
+    /// The copy as the directory is to know it once it is sealed. `Absent`, `AlreadySealed` if it can't be.
+    fn sealing(&self, node: u32, id: &ObjectId) -> Result<Location, Refusal>
+        ensures node { IfOk result (λ entry. entry.node ≡ node) }
+        ensures length { IfOk result (λ entry. (k : Kept) → at self.now.copies id.now ≡ Some k → entry.length ≡ k.copy.length) }
+        ensures digest { IfOk result (λ entry. (k : Kept) (e : Extent) → at self.now.copies id.now ≡ Some k → extent_of k.copy ≡ Some e
+            → entry.digest ≡ digest_of (take k.copy.length (placed_bytes e self.now.window.placed))) }
+        ensures passed { IsOk result → seal_check_lem self.now.copies id.now ≡ None }
+        ensures refused { IfErr result (λ refusal. seal_check_lem self.now.copies id.now ≡ Some refusal) }
     {
-        let length = match self.copies().get(id) {
-            Some(copy) => copy.length(),
-            None => 0,
+        let Some(copy) = self.copies().get(id) else {
+            return Err(Refusal::Absent);
         };
-        Location {
-            node,
-            length,
-            digest: self.digest(id),
+        if let Some(refusal) = copy.seal_check() {
+            return Err(refusal);
         }
+        Ok(Location {
+            node,
+            length: copy.length(),
+            digest: self.digest(copy),
+        })
     }
 }

@@ -1,16 +1,18 @@
 //! Why a command can't be carried out.
-ghost use Rattle.std.specs.Prelude.{◌≡◌, if◌then◌else◌, Some, None, option_map};
+ghost use Rattle.std.specs.Prelude.{◌≡◌, if◌then◌else◌, not, true, Some, None, IfOk, IfErr, IsOk};
 ghost use Rattle.obj_id.specs.declared.refusals.Refusal.TheVariants.{Absent, Granted};
-ghost use Rattle.node_table.specs.Checks.{write_check_of, write_check as write_check_lem, seal_check_of, seal_check as seal_check_lem, read_check_of, read_check as read_check_lem, lend_check_of, lend_check as lend_check_lem, fetch_check as fetch_check_lem, create_check as create_check_lem, end_task_check as end_task_check_lem, unpin_check_of, unpin_check as unpin_check_lem, give_up_check_of, give_up_check as give_up_check_lem, delete_check as delete_check_lem, visible_state as visible_state_lem, fault_at};
+ghost use Rattle.node_table.specs.Checks.{write_check_of, write_check as write_check_lem, seal_check_of, read_check_of, read_check as read_check_lem, lend_check_of, lend_check as lend_check_lem, fetch_check as fetch_check_lem, create_check as create_check_lem, end_task_check as end_task_check_lem, unpin_check_of, unpin_check as unpin_check_lem, give_up_check_of, give_up_check as give_up_check_lem, delete_check as delete_check_lem, visible_state as visible_state_lem, fault_at};
+ghost use Rattle.node_table.specs.EndingTasks.{stays_at};
 ghost use Rattle.node_table.specs.Granting.{grant_check_of};
 ghost use Rattle.private_store.specs.Tables.{at};
 ghost use Rattle.node_table.specs.Row.{copies_of};
+ghost use Rattle.node_table.specs.Scope.{farewell_at, stays_unpinned};
 
 use crate::copies::Copies;
 use crate::copy::RowCopy;
 use crate::row::JobRow;
 use obj_id::limits::{MOST_BYTES, MOST_COPIES, MOST_ENDED_TASKS};
-use obj_id::{CopyState, ObjectId, Refusal, TaskNo};
+use obj_id::{CopyState, DirectoryMessage, ObjectId, Refusal, TaskNo};
 use private_store::Fault;
 
 impl RowCopy {
@@ -31,7 +33,7 @@ impl RowCopy {
     }
 
     /// Why it can't be sealed: `Absent`, `AlreadySealed`.
-    fn seal_check(&self) -> Option<Refusal>
+    pub(crate) fn seal_check(&self) -> Option<Refusal>
         ensures { result ≡ seal_check_of self.now }
     {
         if self.doomed() {
@@ -132,44 +134,65 @@ impl Copies {
         }
     }
 
-    /// Why the copy can't be sealed: `Absent`, `AlreadySealed`, or nothing.
-    pub fn seal_check(&self, id: &ObjectId) -> Option<Refusal>
-        ensures { result ≡ seal_check_lem self.now id.now }
+    /// What the directory is told if the task unpins the copy: nothing if it stays in scope then, or wasn't sealed. `Absent`,
+    /// `NotOwner`, `NotHeld` if the task can't.
+    pub fn unpin_farewell(
+        &self,
+        node: u32,
+        id: &ObjectId,
+        task: TaskNo,
+    ) -> Result<Option<DirectoryMessage>, Refusal>
+        ensures ok { IfOk result (λ message. message ≡ farewell_at node self.now id.now (not (stays_unpinned self.now id.now))) }
+        ensures passed { IsOk result → unpin_check_lem self.now id.now task ≡ None }
+        ensures refused { IfErr result (λ refusal. unpin_check_lem self.now id.now task ≡ Some refusal) }
     {
-        match self.get(id) {
-            None => Some(Refusal::Absent),
-            Some(copy) => copy.seal_check(),
+        let Some(copy) = self.get(id) else {
+            return Err(Refusal::Absent);
+        };
+        if let Some(refusal) = copy.unpin_check(task == id.task()) {
+            return Err(refusal);
         }
+        Ok(copy.farewell(node, *id, !copy.in_scope_unpinned()))
     }
 
-    /// Why the task can't unpin the copy: `Absent`, `NotOwner`, `NotHeld`, or nothing.
-    pub fn unpin_check(&self, id: &ObjectId, task: TaskNo) -> Option<Refusal>
-        ensures { result ≡ unpin_check_lem self.now id.now task }
+    /// What the directory is told if the task gives the copy up: nothing if it stays in scope then, or wasn't sealed.
+    /// `Absent`, also if the task doesn't borrow it, `NotOwner` if it can't.
+    pub fn give_up_farewell(
+        &self,
+        node: u32,
+        id: &ObjectId,
+        task: TaskNo,
+    ) -> Result<Option<DirectoryMessage>, Refusal>
+        ensures ok { IfOk result (λ message. message ≡ farewell_at node self.now id.now (not (stays_at task self.now id.now))) }
+        ensures passed { IsOk result → give_up_check_lem self.now id.now task ≡ None }
+        ensures refused { IfErr result (λ refusal. give_up_check_lem self.now id.now task ≡ Some refusal) }
     {
-        match self.get(id) {
-            None => Some(Refusal::Absent),
-            Some(copy) => copy.unpin_check(task == id.task()),
+        let Some(copy) = self.get(id) else {
+            return Err(Refusal::Absent);
+        };
+        if let Some(refusal) = copy.give_up_check(task) {
+            return Err(refusal);
         }
+        Ok(copy.farewell(node, *id, !copy.in_scope_without(task)))
     }
 
-    /// Why the task can't give the copy up: `Absent`, also if it doesn't borrow it, `NotOwner`, or nothing.
-    pub fn give_up_check(&self, id: &ObjectId, task: TaskNo) -> Option<Refusal>
-        ensures { result ≡ give_up_check_lem self.now id.now task }
+    /// What the directory is told if the copy is deleted: nothing unless it was sealed. `Absent`, `Granted` if it can't be.
+    pub fn delete_farewell(
+        &self,
+        node: u32,
+        id: &ObjectId,
+    ) -> Result<Option<DirectoryMessage>, Refusal>
+        ensures ok { IfOk result (λ message. message ≡ farewell_at node self.now id.now true) }
+        ensures passed { IsOk result → delete_check_lem self.now id.now ≡ None }
+        ensures refused { IfErr result (λ refusal. delete_check_lem self.now id.now ≡ Some refusal) }
     {
-        match self.get(id) {
-            None => Some(Refusal::Absent),
-            Some(copy) => copy.give_up_check(task),
+        let Some(copy) = self.get(id) else {
+            return Err(Refusal::Absent);
+        };
+        if let Some(refusal) = copy.delete_check() {
+            return Err(refusal);
         }
-    }
-
-    /// Why the copy can't be deleted: `Absent`, `Granted`, or nothing.
-    pub fn delete_check(&self, id: &ObjectId) -> Option<Refusal>
-        ensures { result ≡ delete_check_lem self.now id.now }
-    {
-        match self.get(id) {
-            None => Some(Refusal::Absent),
-            Some(copy) => copy.delete_check(),
-        }
+        Ok(copy.farewell(node, *id, true))
     }
 
     /// Why the session can't read `len` bytes of the copy: `BadSize`, `Absent`, `NotSealed`, `NotHeld`,

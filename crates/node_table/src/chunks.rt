@@ -56,16 +56,16 @@ impl JobRow {
         ensures few { IfOk result (λ t. length t.outcome.messages ≤ 1) }
         ensures err { OnErr result (self.new ≡ self.old) }
     {
-        let fills = self
+        let fit = self
             .copies()
-            .is_filled_by(id, number, from, index, bytes.len());
-        if !fills {
+            .chunk_fit(id, number, from, index, bytes.len());
+        if !fit.fills {
             return Ok(ChunkTaken {
                 outcome: Outcome::only(alloc, Reply::Ok),
                 verdict: ChunkVerdict::Ignored,
             });
         }
-        if self.copies().lacks_only(id, index) {
+        if fit.last {
             return self.last_chunk(alloc, node, from, id, number, index, bytes);
         }
         self.put_chunk(id, index, bytes);
@@ -126,8 +126,8 @@ impl JobRow {
                 verdict: ChunkVerdict::Damaged,
             });
         }
-        self.apply(id, Mark::Brought);
-        self.freeze(id);
+        let after = self.apply(id, Mark::Brought);
+        self.freeze_at(after.standing.extent);
         let outcome = Outcome {
             reply: Reply::Ok,
             messages,

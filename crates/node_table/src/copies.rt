@@ -1,5 +1,5 @@
 //! The copies of a job, by their ids.
-ghost use Rattle.std.specs.Option.{option_copied, option_map_or, option_and_then};
+ghost use Rattle.std.specs.Option.{option_copied, option_map_or};
 ghost use Rattle.std.specs.Borrow.{MutBor};
 ghost use Rattle.private_store.specs.Tables.{ById, at, with_entry, without_entry};
 ghost use Rattle.node_table.specs.Entries.{changed, all_changed, each_changed};
@@ -12,10 +12,10 @@ ghost use Rattle.obj_id.specs.declared.refusals.Refusal.{Refusal};
 ghost use Rattle.obj_id.specs.declared.refusals.Refusal.TheVariants.{NoMemory};
 ghost use Rattle.node_table.specs.Checks.{release_check, borrow_check};
 ghost use Rattle.node_table.specs.Dropping.{is_over_at};
-ghost use Rattle.node_table.specs.Scope.{farewell as farewell_of};
+ghost use Rattle.node_table.specs.Scope.{farewell_at};
 ghost use Rattle.node_table.specs.EndingTasks.{hands_ended, is_doomed_at, borrows_at};
 ghost use Rattle.node_table.specs.Holding.{IsHeldAt, IsUnreadyAt, IsHoldRefusedAt};
-ghost use Rattle.std.specs.Prelude.{◌≡◌, ◌≢◌, ◌<◌, ◌^◌, [], true, false, Some, None, OnOk, OnErr, IsOk, IsErrOf, IfOk, IfErr, IfSome, IfNone, map, length, is_some, ◌&&◌, IsTrue};
+ghost use Rattle.std.specs.Prelude.{◌≡◌, ◌≢◌, ◌<◌, ◌^◌, [], true, false, Some, None, OnOk, OnErr, IsOk, IsErrOf, IfOk, IfErr, IfSome, IfNone, map, length, is_some, IsTrue};
 ghost use Rattle.std.specs.FinMap.{is_sorted};
 ghost use Rattle.obj_id.specs.Ids.{id_cmp};
 ghost use Rattle.node_table.specs.Usages.{item_of, total, window_bytes as window_bytes_lem, device_bytes as device_bytes_lem, doomed_one};
@@ -24,7 +24,7 @@ ghost use Rattle.lru_evictor.specs.Facts.{standing_at};
 ghost use Rattle.lru_evictor.specs.Orders.{ids_of};
 ghost use Rattle.node_table.specs.Arriving.{located, asks, fills, lacks_only};
 
-use crate::copy::{Held, Released, RowCopy};
+use crate::copy::{AfterChange, ChunkFit, Held, RowCopy};
 use crate::marks::Mark;
 use crate::taken::{Taken, to_u64};
 use indexmap::IndexMap;
@@ -154,7 +154,8 @@ impl Copies {
         // so many copies take no more than 128 bits have room for
         let _count = self.by_id.len();
         let after = Taken::by(&copy);
-        let before = Taken::by_any(self.by_id.insert(id, copy)?);
+        let replaced = self.by_id.insert(id, copy)?;
+        let before = Taken::by_any(replaced.as_ref());
         self.taken = self.taken.exchanged(before, after);
         Ok(())
     }
@@ -163,34 +164,54 @@ impl Copies {
     pub fn remove(&mut self, id: &ObjectId)
         ensures { self.new ≡ without_entry self.old id.now }
     {
-        // as for `insert`
-        let _count = self.by_id.len();
-        let before = Taken::by_any(self.by_id.swap_remove(id));
-        self.taken = self.taken.exchanged(before, Taken::nothing());
+        self.take(id);
     }
 
-    /// Does this to the copy, if it is there, and counts what it takes anew.
-    fn update<F: FnOnce(&mut RowCopy)>(&mut self, id: &ObjectId, change: F)
+    /// The copy of the id is removed and given, if there is one. Takes no memory.
+    pub fn take(&mut self, id: &ObjectId) -> Option<RowCopy>
+        ensures copies { self.new ≡ without_entry self.old id.now }
+        ensures taken { result ≡ at self.old id.now }
+    {
+        // as for `insert`
+        let _count = self.by_id.len();
+        let copy = self.by_id.swap_remove(id);
+        let before = Taken::by_any(copy.as_ref());
+        self.taken = self.taken.exchanged(before, Taken::nothing());
+        copy
+    }
+
+    /// Does this to the copy, if it is there, and counts what it takes anew. Answers what the copy is then: where there is
+    /// none, it lies nowhere.
+    fn update<F: FnOnce(&mut RowCopy)>(&mut self, id: &ObjectId, change: F) -> AfterChange
         requires { (p : MutBor Kept) → at self.old id.now ≡ Some p.now → F.pre change p }
-        ensures { (f : Kept → Kept) → ((p q : MutBor Kept) → F.post change p tt q → q.now ≡ f p.now) → self.new ≡ changed f self.old id.now }
+        ensures copies { (f : Kept → Kept) → ((p q : MutBor Kept) → F.post change p tt q → q.now ≡ f p.now) → self.new ≡ changed f self.old id.now }
+        ensures standing { result.standing ≡ standing_at (facts_in self.new) id.now }
+        ensures over { result.over ≡ is_over_at self.new id.now }
     {
         // as for `insert`
         let _count = self.by_id.len();
         let Some(copy) = self.by_id.get_mut(id) else {
-            return;
+            return AfterChange {
+                standing: Standing::nowhere(),
+                over: false,
+            };
         };
         let before = Taken::by(copy);
         change(copy);
         let after = Taken::by(copy);
+        let told = copy.after_change();
         self.taken = self.taken.exchanged(before, after);
+        told
     }
 
-    /// This happens to the copy, if it is there. Takes no memory.
-    pub(crate) fn apply(&mut self, id: &ObjectId, mark: Mark)
+    /// This happens to the copy, if it is there. Answers what the copy is then. Takes no memory.
+    pub(crate) fn apply(&mut self, id: &ObjectId, mark: Mark) -> AfterChange
         requires { (k : Kept) → at self.old id.now ≡ Some k → CanTake mark k }
-        ensures { self.new ≡ changed (marked_by mark) self.old id.now }
+        ensures copies { self.new ≡ changed (marked_by mark) self.old id.now }
+        ensures standing { result.standing ≡ standing_at (facts_in self.new) id.now }
+        ensures over { result.over ≡ is_over_at self.new id.now }
     {
-        self.update(id, move |copy| copy.apply(mark));
+        self.update(id, move |copy| copy.apply(mark))
     }
 
     /// Whether there is a copy of the id.
@@ -198,6 +219,16 @@ impl Copies {
         ensures { result ≡ is_some (at self.now id.now) }
     {
         self.get(id).is_some()
+    }
+
+    /// Whether the copy is removed as soon as it is looked at; not if there is none.
+    pub fn is_over(&self, id: &ObjectId) -> bool
+        ensures { result ≡ is_over_at self.now id.now }
+    {
+        let Some(copy) = self.get(id) else {
+            return false;
+        };
+        copy.is_over()
     }
 
     /// Whether there is a copy of the id that a transfer made.
@@ -245,7 +276,7 @@ impl Copies {
 
     /// One hold of the session on the copy less, and what the copy is then. `Absent`, `NotHeld` if it has none; a refusal
     /// changes nothing. Takes no memory.
-    pub fn release(&mut self, id: &ObjectId, session: u32) -> Result<Released, Refusal>
+    pub fn release(&mut self, id: &ObjectId, session: u32) -> Result<AfterChange, Refusal>
         ensures ok { OnOk result (self.new ≡ changed (released session) self.old id.now) }
         ensures standing { IfOk result (λ r. r.standing ≡ standing_at (facts_in (changed (released session) self.old id.now)) id.now) }
         ensures over { IfOk result (λ r. r.over ≡ is_over_at (changed (released session) self.old id.now) id.now) }
@@ -279,45 +310,52 @@ impl Copies {
         copy.asks(number, from)
     }
 
-    /// Whether a chunk of `len` bytes fills a gap of the copy; not if there is none.
-    pub fn is_filled_by(
+    /// What a chunk of `len` bytes is to the copy: nothing if there is none.
+    pub fn chunk_fit(
         &self,
         id: &ObjectId,
         number: u64,
         from: u32,
         index: u32,
         len: usize,
-    ) -> bool
-        ensures { result ≡ option_map_or (fills number from index len) (at self.now id.now) false }
+    ) -> ChunkFit
+        ensures fills { result.fills ≡ option_map_or (fills number from index len) (at self.now id.now) false }
+        ensures last { result.last ≡ option_map_or (lacks_only index) (at self.now id.now) false }
     {
         let Some(copy) = self.get(id) else {
-            return false;
+            return ChunkFit {
+                fills: false,
+                last: false,
+            };
         };
-        copy.is_filled_by(number, from, index, len)
-    }
-
-    /// Whether no chunk of the copy but this one is missing; not if there is no fetch of it.
-    pub fn lacks_only(&self, id: &ObjectId, index: u32) -> bool
-        ensures { result ≡ option_map_or (lacks_only index) (at self.now id.now) false }
-    {
-        let Some(copy) = self.get(id) else {
-            return false;
-        };
-        copy.lacks_only(index)
+        ChunkFit {
+            fills: copy.is_filled_by(number, from, index, len),
+            last: copy.lacks_only(index),
+        }
     }
 
     /// The directory's answer at this node, which counts for the copy's fetch of this number while its source isn't
-    /// known.
-    pub fn locate(&mut self, id: &ObjectId, node: u32, number: u64, entries: &[Location])
-        ensures { self.new ≡ changed (located node number entries.now) self.old id.now }
+    /// known. Answers what the copy is then.
+    pub fn locate(
+        &mut self,
+        id: &ObjectId,
+        node: u32,
+        number: u64,
+        entries: &[Location],
+    ) -> AfterChange
+        ensures copies { self.new ≡ changed (located node number entries.now) self.old id.now }
+        ensures standing { result.standing ≡ standing_at (facts_in self.new) id.now }
+        ensures over { result.over ≡ is_over_at self.new id.now }
     {
-        self.update(id, |copy| copy.locate(node, number, entries));
+        self.update(id, |copy| copy.locate(node, number, entries))
     }
 
-    /// The task borrows the copy, as the last one. `Absent`, also if it is doomed, `NotOwner`, `Exists`, `TooMany`,
+    /// The task borrows the copy, as the last one, and what the copy is then. `Absent`, also if it is doomed, `NotOwner`, `Exists`, `TooMany`,
     /// `NoMemory` last; a refusal changes nothing.
-    pub fn borrow(&mut self, id: &ObjectId, task: TaskNo) -> Result<(), Refusal>
+    pub fn borrow(&mut self, id: &ObjectId, task: TaskNo) -> Result<AfterChange, Refusal>
         ensures ok { OnOk result (self.new ≡ changed (borrowed task) self.old id.now) }
+        ensures standing { IfOk result (λ after. after.standing ≡ standing_at (facts_in (changed (borrowed task) self.old id.now)) id.now) }
+        ensures over { IfOk result (λ after. after.over ≡ is_over_at (changed (borrowed task) self.old id.now) id.now) }
         ensures passed { IsOk result → borrow_check self.old id.now task ≡ None }
         ensures refused { (r : Refusal) → r ≢ NoMemory → IsErrOf result r → borrow_check self.old id.now task ≡ Some r }
         ensures memory { IsErrOf result NoMemory → borrow_check self.old id.now task ≡ None }
@@ -362,16 +400,6 @@ impl Copies {
         copy.borrows(task)
     }
 
-    /// Whether the copy would be in scope if its owner task kept it no longer; not if there is none.
-    pub fn in_scope_unpinned(&self, id: &ObjectId) -> bool
-        ensures { result ≡ option_map_or (λ k. in_scope (record k.copy { pinned = false })) (at self.now id.now) false }
-    {
-        let Some(copy) = self.get(id) else {
-            return false;
-        };
-        copy.in_scope_unpinned()
-    }
-
     /// Whether the copy would be in scope if the task borrowed it no longer; not if there is none.
     pub fn in_scope_without(&self, id: &ObjectId, task: TaskNo) -> bool
         ensures { result ≡ option_map_or (λ k. in_scope (without_borrower k.copy task)) (at self.now id.now) false }
@@ -382,11 +410,11 @@ impl Copies {
         copy.in_scope_without(task)
     }
 
-    /// What the directory is told of the copy once it is doomed: nothing, unless it was sealed.
-    pub fn farewell(&self, node: u32, id: &ObjectId) -> Option<DirectoryMessage>
-        ensures { result ≡ option_and_then (farewell_of node id.now) (at self.now id.now) }
+    /// What the directory is told of the copy if it is doomed now: nothing, unless it was sealed.
+    pub fn farewell(&self, node: u32, id: &ObjectId, dooms: bool) -> Option<DirectoryMessage>
+        ensures { result ≡ farewell_at node self.now id.now dooms }
     {
-        self.get(id)?.farewell(node, *id)
+        self.get(id)?.farewell(node, *id, dooms)
     }
 
     /// Writes of these copies are in flight, if they can be.

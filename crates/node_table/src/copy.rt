@@ -1,12 +1,12 @@
 //! One copy of a row.
-ghost use Rattle.std.specs.Prelude.{◌≡◌, ◌≢◌, ◌+◌, ◌&&◌, ◌==◌, nat_le, if◌then◌else◌, true, false, Some, None, IfOk, IfErr, IfSome, IfNone, OnOk, OnErr, IsErrOf, IsOk, is_some, option_map};
+ghost use Rattle.std.specs.Prelude.{◌≡◌, ◌≢◌, ◌&&◌, ◌==◌, if◌then◌else◌, true, false, Some, None, IfOk, IfErr, IfSome, IfNone, OnOk, OnErr, IsErrOf, IsOk, is_some, option_map};
 ghost use Rattle.std.specs.List.{list_all};
 ghost use Rattle.std.specs.Option.{option_copied, option_map_or};
 ghost use Rattle.obj_id.specs.declared.refusals.Refusal.{Refusal};
 ghost use Rattle.obj_id.specs.declared.refusals.Refusal.TheVariants.{NoMemory};
 ghost use Rattle.obj_id.specs.Ids.{same_task};
 ghost use Rattle.obj_id.specs.Kinds.{is_primary};
-ghost use Rattle.private_store.specs.Copies.{extent_of, is_created, is_away, is_held, in_scope, was_sealed};
+ghost use Rattle.private_store.specs.Copies.{extent_of, is_away, is_held, in_scope, was_sealed};
 ghost use Rattle.private_store.specs.Commands.{holds_of as holds_of_lem, has_borrower, without_borrower};
 ghost use Rattle.private_store.specs.Extents.{rounded as rounded_lem};
 ghost use Rattle.node_table.specs.RoomPlans.{facts_of};
@@ -20,7 +20,7 @@ ghost use Rattle.node_table.specs.Scope.{farewell as farewell_of};
 ghost use Rattle.private_store.specs.Contents.{is_sized};
 ghost use Rattle.node_table.specs.Holding.{IsHeld, IsUnready, IsHoldRefused};
 ghost use Rattle.node_table.specs.Usages.{is_spilling as is_spilling_lem};
-ghost use Rattle.node_table.specs.Dropping.{is_over as is_over_lem, released_of};
+ghost use Rattle.node_table.specs.Dropping.{is_over as is_over_lem, after_change as after_change_lem};
 ghost use Rattle.private_store.specs.Kept.{is_fetching};
 ghost use Rattle.node_table.specs.Serving.{was_sealed_with as was_sealed_with_lem};
 ghost use Rattle.node_table.specs.Arriving.{awaits_source, located, asks, fills, lacks_only, gap_closed, brought, unfetched};
@@ -80,13 +80,22 @@ pub struct Held {
     pub standing: Standing,
 }
 
-/// A copy after a hold of it was given up.
+/// A copy after a change of it.
 #[derive(Clone, Copy, Drop)]
-pub struct Released {
+pub struct AfterChange {
     /// Where it lies, and the walks for room that choose it now.
     pub standing: Standing,
     /// Whether nothing keeps it any more: it is doomed, and neither held nor granted nor working.
     pub over: bool,
+}
+
+/// What a chunk that came is to a copy.
+#[derive(Clone, Copy, Drop)]
+pub struct ChunkFit {
+    /// Whether it fills a gap.
+    pub fills: bool,
+    /// Whether no other chunk is missing.
+    pub last: bool,
 }
 
 impl RowCopy {
@@ -315,30 +324,39 @@ impl RowCopy {
 
     /// One hold of the session less, and what the copy is then. `NotHeld` if it has none, and then nothing changes. Takes
     /// no memory.
-    pub fn release(&mut self, session: u32) -> Result<Released, Refusal>
+    pub fn release(&mut self, session: u32) -> Result<AfterChange, Refusal>
         ensures ok { OnOk result (self.new ≡ released session self.old) }
-        ensures after { IfOk result (λ r. r ≡ released_of (released session self.old)) }
+        ensures after { IfOk result (λ after. after ≡ after_change_lem (released session self.old)) }
         ensures passed { IsOk result → release_check self.old session ≡ None }
         ensures refused { (r : Refusal) → IsErrOf result r → release_check self.old session ≡ Some r }
         ensures err { OnErr result (self.new ≡ self.old) }
     {
         self.pins.release(session)?;
-        Ok(Released {
-            standing: self.facts().standing(),
-            over: self.is_over(),
-        })
+        Ok(self.after_change())
     }
 
-    /// The task borrows it, as the last one. `NotOwner` for a secondary, `Exists` if the task borrows it already,
+    /// What it is after a change.
+    pub(crate) fn after_change(&self) -> AfterChange
+        ensures { result ≡ after_change_lem self.now }
+    {
+        AfterChange {
+            standing: self.facts().standing(),
+            over: self.is_over(),
+        }
+    }
+
+    /// The task borrows it, as the last one, and what it is then. `NotOwner` for a secondary, `Exists` if the task borrows it already,
     /// `TooMany` at 64 borrowers, `NoMemory` last; a refusal changes nothing.
-    pub fn borrow(&mut self, task: TaskNo) -> Result<(), Refusal>
+    pub fn borrow(&mut self, task: TaskNo) -> Result<AfterChange, Refusal>
         ensures ok { OnOk result (self.new ≡ borrowed task self.old) }
+        ensures after { IfOk result (λ after. after ≡ after_change_lem (borrowed task self.old)) }
         ensures passed { IsOk result → borrow_check_of self.old task ≡ None }
         ensures refused { (r : Refusal) → r ≢ NoMemory → IsErrOf result r → borrow_check_of self.old task ≡ Some r }
         ensures memory { IsErrOf result NoMemory → borrow_check_of self.old task ≡ None }
         ensures err { OnErr result (self.new ≡ self.old) }
     {
-        self.pins.borrow(task)
+        self.pins.borrow(task)?;
+        Ok(self.after_change())
     }
 
     /// No hand stands any more of the copy of this id, if it is of the task.
@@ -351,10 +369,13 @@ impl RowCopy {
         }
     }
 
-    /// What the directory is told of it once it is doomed: nothing, unless it was sealed.
-    pub fn farewell(&self, node: u32, id: ObjectId) -> Option<DirectoryMessage>
-        ensures { result ≡ farewell_of node id self.now }
+    /// What the directory is told of it if it is doomed now: nothing, unless it was sealed.
+    pub fn farewell(&self, node: u32, id: ObjectId, dooms: bool) -> Option<DirectoryMessage>
+        ensures { result ≡ if dooms then farewell_of node id self.now else None }
     {
+        if !dooms {
+            return None;
+        }
         match self.state() {
             CopyState::Created | CopyState::Fetching => None,
             CopyState::Sealed | CopyState::Restoring | CopyState::Away => {

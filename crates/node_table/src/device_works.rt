@@ -69,11 +69,8 @@ impl JobRow {
             },
             Ok(asked) => {
                 let verdict = self.end_work(&asked, answer);
-                let outcome = Outcome {
-                    reply: Reply::Ok,
-                    messages: Items::new(alloc),
-                    erase: Erase::of(self.settle(&asked.id)),
-                };
+                let over = self.copies().is_over(&asked.id);
+                let outcome = self.settle_after(&asked.id, over, Items::new(alloc));
                 Answered { outcome, verdict }
             }
         }

@@ -1,5 +1,5 @@
 //! EndTask: a task of the job ends.
-ghost use Rattle.std.specs.Prelude.{◌≡◌, ◌==◌, ℕ, [], true, None, map, fold, length, IfOk, OnOk, OnErr, ◌++◌, ◌+◌, ◌*◌, ◌≤◌, ◌<◌, vec_len, vec_capacity, option_to_list, option_map};
+ghost use Rattle.std.specs.Prelude.{◌≡◌, ◌==◌, None, map, fold, length, IfOk, OnErr, ◌++◌, ◌+◌, ◌*◌, ◌≤◌, ◌<◌, vec_len, vec_capacity, option_to_list, option_map};
 ghost use Rattle.std.specs.Option.{option_map_or};
 ghost use Rattle.obj_id.specs.declared.commands.Command.TheVariants as command;
 ghost use Rattle.obj_id.specs.declared.commands.Reply.TheVariants as reply;
@@ -9,8 +9,8 @@ ghost use Rattle.node_table.specs.Checks.{end_task_check as end_task_check_lem};
 ghost use Rattle.node_table.specs.EndingTasks.{beside_after, doomed_row, doom_posts, given_up_row, give_up_posts, told_each, keys_of_copies, gone_key, gone_keys as gone_keys_lem};
 ghost use Rattle.node_table.specs.Ending.{key_at};
 ghost use Rattle.node_table.specs.Outcomes.{given_of};
-ghost use Rattle.node_table.specs.Row.{Beside, place_of, ArePlaced};
-ghost use Rattle.node_table.specs.Scope.{posted, farewell_at};
+ghost use Rattle.node_table.specs.Row.{Beside};
+ghost use Rattle.node_table.specs.Scope.{posted};
 ghost use Rattle.node_table.specs.Shown.{IsShown, TakesStep};
 
 use crate::hold_commands::push_key;
@@ -160,12 +160,10 @@ impl JobRow {
         if !own {
             return;
         }
-        push_message(
-            messages,
-            self.last_words(node, id, !self.copies().is_doomed(id)),
-        );
-        self.apply(id, Mark::Doomed);
-        self.settle(id);
+        let copies = self.copies();
+        push_message(messages, copies.farewell(node, id, !copies.is_doomed(id)));
+        let after = self.apply(id, Mark::Doomed);
+        self.settle(id, after.over);
     }
 
     /// The task's borrow of the copy is given up, if it has one: a copy that isn't in scope then is doomed, and removed
@@ -191,19 +189,9 @@ impl JobRow {
             return;
         }
         let stays = self.copies().in_scope_without(id, task);
-        push_message(messages, self.last_words(node, id, !stays));
-        self.apply(id, Mark::GivenUp(task));
-        self.settle(id);
-    }
-
-    /// What the directory is told of the copy if it is doomed now: nothing, unless it was sealed.
-    fn last_words(&self, node: u32, id: &ObjectId, dooms: bool) -> Option<DirectoryMessage>
-        ensures { result ≡ farewell_at node self.now.copies id.now dooms }
-    {
-        if !dooms {
-            return None;
-        }
-        self.copies().farewell(node, id)
+        push_message(messages, self.copies().farewell(node, id, !stays));
+        let after = self.apply(id, Mark::GivenUp(task));
+        self.settle(id, after.over);
     }
 }
 

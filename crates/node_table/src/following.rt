@@ -5,20 +5,12 @@ ghost use Rattle.private_store.specs.Tables.{ById};
 ghost use Rattle.lru_evictor.specs.Orders.{ids_of};
 ghost use Rattle.node_table.specs.Evicting.{all_evicted, without_missing};
 ghost use Rattle.node_table.specs.Kept.{Kept};
-ghost use Rattle.node_table.specs.Followed.{AreFollowed, AreFollowedBut, SameBut, SameButThese, KeepPlaces, LiesAlone};
+ghost use Rattle.node_table.specs.Followed.{AreFollowed, AreFollowedBut, SameButThese, KeepPlaces, LiesAlone};
 
 use crate::copies::Copies;
 use extent_tree::{Resident, Room};
 use lru_evictor::UseOrder;
 use obj_id::{Extent, ObjectId};
-
-/// After a change of one copy at most, which lies where it lay, or nowhere any more. Takes no memory.
-pub(crate) fn follow(order: &mut UseOrder, copies: &Copies, id: &ObjectId)
-    ensures ids { ids_of order.new ≡ ids_of order.old }
-    ensures standings { (before : ById Kept) → SameBut id.now before copies.now → KeepPlaces before copies.now → AreFollowed before order.old → AreFollowed copies.now order.new }
-{
-    order.choose(id, copies.standing(id));
-}
 
 /// After changes of these copies at most, each of which lies where it lay, or nowhere any more. Copies that lie nowhere as far as
 /// the order knows may be spared. Takes no memory.

@@ -90,8 +90,8 @@ impl JobRow {
         ensures reply { result.reply ≡ reply.Ok }
         ensures silent { result.messages ≡ [] }
     {
-        self.apply(id, Mark::Granted(granted));
-        self.settle_after(id, Items::new(alloc))
+        let after = self.apply(id, Mark::Granted(granted));
+        self.settle_after(id, after.over, Items::new(alloc))
     }
 
     /// The bytes of an object that the job granted, all of them, lent without a copy: none if it has no place.

@@ -24,8 +24,7 @@ impl JobRow {
         ensures silent { result.messages ≡ [] }
     {
         match self.release_copy(id, session) {
-            Ok(true) => self.settle_after(id, Items::new(alloc)),
-            Ok(false) => Outcome::only(alloc, Reply::Ok),
+            Ok(over) => self.settle_after(id, over, Items::new(alloc)),
             Err(refusal) => Outcome::only(alloc, Reply::Refused(refusal)),
         }
     }
@@ -67,8 +66,8 @@ impl JobRow {
     {
         let mut keys = Vec::with_capacity(alloc, items.len())?;
         for item in items {
-            self.apply(&item.id, Mark::Left(session));
-            push_key(&mut keys, self.settle(&item.id));
+            let after = self.apply(&item.id, Mark::Left(session));
+            push_key(&mut keys, self.settle(&item.id, after.over));
         }
         Ok(Items::from_vec(keys))
     }

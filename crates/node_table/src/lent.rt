@@ -1,5 +1,5 @@
 //! Bytes of a copy that are lent, and may be shared.
-ghost use Rattle.std.specs.Prelude.{◌≡◌, ◌≤◌, length, take, drop, [], None, IfOk, IfSome};
+ghost use Rattle.std.specs.Prelude.{◌≡◌, take, drop, [], None, IfOk, IfSome};
 
 use bytes::Bytes;
 use std::alloc::{AllocError, Global};

@@ -1,5 +1,5 @@
 //! The row of one job.
-ghost use Rattle.std.specs.Prelude.{◌≡◌, ◌≢◌, ◌↔◌, ℕ, ◌+◌, ◌^◌, ◌≤◌, ◌<◌, nat_eq, take, length, true, false, Some, None, IfOk, IfErr, IfSome, IfNone, OnOk, OnErr, IsOk, IsErr, IsErrOf, option_to_list, option_map, ◌&&◌, is_some};
+ghost use Rattle.std.specs.Prelude.{◌≡◌, ◌≢◌, ◌↔◌, ℕ, ◌+◌, ◌^◌, ◌≤◌, ◌<◌, nat_eq, take, length, true, false, Some, None, IfOk, IfErr, IfSome, IfNone, OnOk, OnErr, IsOk, IsErr, IsErrOf, option_to_list, option_map};
 ghost use Rattle.std.specs.Map.{set_value};
 ghost use Rattle.obj_id.specs.declared.works.Extent.{Extent};
 ghost use Rattle.obj_id.specs.declared.refusals.Refusal.{Refusal};
@@ -8,8 +8,8 @@ ghost use Rattle.private_store.specs.Limits.{is_window, most_works};
 ghost use Rattle.private_store.specs.Tables.{at, with_entry, is_among};
 ghost use Rattle.private_store.specs.Copies.{extent_of};
 ghost use Rattle.private_store.specs.Contents.{digest_of, overwritten};
-ghost use Rattle.job_region.specs.Region.{bytes_at as placed_bytes, resize_check};
-ghost use Rattle.std.specs.Option.{option_map_or};
+ghost use Rattle.job_region.specs.Region.{IsAt, bytes_at as placed_bytes, resize_check};
+ghost use Rattle.std.specs.Option.{option_map_or, option_and_then, option_copied};
 ghost use Rattle.private_store.specs.Kept.{is_remembered};
 ghost use Rattle.node_table.specs.Answering.{written_row, refilled, lost_row};
 ghost use Rattle.lru_evictor.specs.Orders.{last_used, ids_of};
@@ -33,8 +33,8 @@ ghost use Rattle.node_table.specs.Evicting.{has_place, IsReplaced};
 ghost use Rattle.node_table.specs.Arriving.{located, unfetched_row};
 
 use crate::copies::Copies;
-use crate::copy::{Awaited, RowCopy};
-use crate::following::{evict_for, follow, follow_each};
+use crate::copy::{AfterChange, Awaited, RowCopy};
+use crate::following::{evict_for, follow_each};
 use crate::lent::Lent;
 use crate::marks::Mark;
 use crate::prepared::Prepared;
@@ -260,14 +260,22 @@ impl JobRow {
         }
     }
 
-    /// The digest of the bytes of a copy; of none if it isn't resident. It is known if bytes that were taken for it were all compared.
-    pub(crate) fn digest(&self, id: &ObjectId) -> Digest
-        ensures { (k : Kept) (e : Extent) → at self.now.copies id.now ≡ Some k → extent_of k.copy ≡ Some e
-            → result ≡ digest_of (take k.copy.length (placed_bytes e self.now.window.placed)) }
+    /// The same of the bytes of a copy that lies there, if it is resident.
+    pub(crate) fn freeze_at(&mut self, place: Option<Extent>)
+        requires { (e : Extent) → place ≡ Some e → IsAt e self.old.window.placed }
+        ensures { self.new ≡ self.old }
     {
-        let Some(copy) = self.copies.get(id) else {
-            return digest_by(&[], None);
-        };
+        if let Some(extent) = place {
+            self.window.freeze(&extent);
+        }
+    }
+
+    /// The digest of the bytes of one of its copies; of none if that isn't resident. It is known if bytes that were taken for it were all
+    /// compared.
+    pub(crate) fn digest(&self, copy: &RowCopy) -> Digest
+        requires { (e : Extent) → extent_of copy.now.copy ≡ Some e → IsAt e self.now.window.placed }
+        ensures { (e : Extent) → extent_of copy.now.copy ≡ Some e → result ≡ digest_of (take copy.now.copy.length (placed_bytes e self.now.window.placed)) }
+    {
         let Some(extent) = copy.extent() else {
             return digest_by(&[], None);
         };
@@ -316,14 +324,19 @@ impl JobRow {
         }
     }
 
-    /// This happens to the copy, if it is there, and it lies where it lay. Takes no memory.
-    pub(crate) fn apply(&mut self, id: &ObjectId, mark: Mark)
+    /// This happens to the copy, if it is there, and it lies where it lay. Answers what the copy is then. Looks the copy up once, and takes
+    /// no memory.
+    pub(crate) fn apply(&mut self, id: &ObjectId, mark: Mark) -> AfterChange
         requires lies { lies_still mark ≡ true }
         requires can { (k : Kept) → at self.old.copies id.now ≡ Some k → CanTake mark k }
-        ensures { self.new ≡ with_copy (marked_by mark) self.old id.now }
+        ensures row { self.new ≡ with_copy (marked_by mark) self.old id.now }
+        ensures place { result.standing.extent ≡ place_of self.new.copies id.now }
+        ensures over { result.over ≡ is_over_at self.new.copies id.now }
+        ensures placed { ArePlaced self.new.window.placed (place_of self.new.copies) }
     {
-        self.copies.apply(id, mark);
-        follow(&mut self.order, &self.copies, id);
+        let after = self.copies.apply(id, mark);
+        self.order.choose(id, after.standing);
+        after
     }
 
     /// One more hold of the session on the copy, if it is there, sealed and not doomed, which is the most recently used
@@ -522,8 +535,8 @@ impl JobRow {
     )
         ensures { self.new ≡ with_copy (located node number entries.now) self.old id.now }
     {
-        self.copies.locate(id, node, number, entries);
-        follow(&mut self.order, &self.copies, id);
+        let after = self.copies.locate(id, node, number, entries);
+        self.order.choose(id, after.standing);
     }
 
     /// The fetch of the copy is over without it: its place is free, and the next Get is told why. Takes no memory.
@@ -534,8 +547,8 @@ impl JobRow {
     {
         let gone = self.place(id);
         self.window.give_back_all(gone.as_slice());
-        self.copies.apply(id, Mark::FetchFailed(fault));
-        follow(&mut self.order, &self.copies, id);
+        let after = self.copies.apply(id, Mark::FetchFailed(fault));
+        self.order.choose(id, after.standing);
     }
 
     /// Writes of these copies are in flight, if they can be. Takes no memory.
@@ -574,8 +587,8 @@ impl JobRow {
     {
         let gone = self.place(id);
         self.window.give_back_all(gone.as_slice());
-        self.copies.apply(id, Mark::Lost(fault));
-        follow(&mut self.order, &self.copies, id);
+        let after = self.copies.apply(id, Mark::Lost(fault));
+        self.order.choose(id, after.standing);
     }
 
     /// One hold of the session on the copy less, and whether nothing keeps the copy any more. `Absent`, `NotHeld` if it has
@@ -593,34 +606,33 @@ impl JobRow {
         Ok(released.over)
     }
 
-    /// The copy is removed, and its place is free. Takes no memory.
-    pub(crate) fn drop_copy(&mut self, id: &ObjectId)
+    /// The copy is removed, and its place is free. Answers the copy, if there was one. Looks it up once, and takes no memory.
+    pub(crate) fn drop_copy(&mut self, id: &ObjectId) -> Option<RowCopy>
+        ensures copy { result ≡ at self.old.copies id.now }
         ensures row { self.new ≡ dropped self.old id.now }
         ensures placed { ArePlaced self.old.window.placed (place_of self.old.copies) }
     {
-        let gone = self.place(id);
+        let copy = self.copies.take(id);
+        let gone = extent_of_any(copy.as_ref());
         self.window.give_back_all(gone.as_slice());
-        self.copies.remove(id);
         self.order.forget(*id);
+        copy
     }
 
-    /// The copy is removed if it is doomed and nothing keeps it any more. Answers the device key that is then to be
-    /// erased, if it has one. Takes no memory.
-    pub(crate) fn settle(&mut self, id: &ObjectId) -> Option<DeviceKey>
+    /// The copy is removed if it is doomed and nothing keeps it any more, which the caller knows. Answers the device key
+    /// that is then to be erased, if it has one. Takes no memory, and no look-up unless the copy is removed.
+    pub(crate) fn settle(&mut self, id: &ObjectId, over: bool) -> Option<DeviceKey>
+        requires { over ≡ is_over_at self.old.copies id.now }
         ensures row { self.new ≡ settled_row self.old id.now }
         ensures keys { option_to_list result ≡ keys_settled self.old id.now }
         ensures placed { ArePlaced self.old.window.placed (place_of self.old.copies) }
     {
-        let copy = self.copies.get(id)?;
-        if !copy.is_over() {
+        let job = self.job;
+        if !over {
             return None;
         }
-        let backed = copy.backed();
-        self.drop_copy(id);
-        Some(DeviceKey {
-            job: self.job,
-            number: backed?,
-        })
+        let number = self.drop_copy(id)?.backed()?;
+        Some(DeviceKey { job, number })
     }
 
     /// The task borrows the copy, as the last one. `Absent`, also if it is doomed, `NotOwner`, `Exists`, `TooMany`,
@@ -632,8 +644,8 @@ impl JobRow {
         ensures memory { IsErrOf result NoMemory → borrow_check self.old.copies id.now task ≡ None }
         ensures err { OnErr result (self.new ≡ self.old) }
     {
-        self.copies.borrow(id, task)?;
-        follow(&mut self.order, &self.copies, id);
+        let after = self.copies.borrow(id, task)?;
+        self.order.choose(id, after.standing);
         Ok(())
     }
 
@@ -682,6 +694,13 @@ fn no_place(refusal: Refusal) -> Result<Option<Extent>, AllocError>
         Refusal::NoMemory => Err(AllocError),
         _ => Ok(None),
     }
+}
+
+/// Where the copy lies in the window, if there is one and it is resident.
+fn extent_of_any(copy: Option<&RowCopy>) -> Option<Extent>
+    ensures { result ≡ option_and_then (λ k. extent_of k.copy) (option_copied copy.entry) }
+{
+    copy?.extent()
 }
 
 /// What lies in an extent once these bytes are written into it from its first byte on: shared, if they fill it, or what was prepared

@@ -6,10 +6,9 @@ ghost use Rattle.private_store.specs.declared.inputs.Input.TheVariants as input;
 ghost use Rattle.private_store.specs.Contents.{Contents};
 ghost use Rattle.private_store.specs.Kept.{is_remembered};
 ghost use Rattle.node_table.specs.Checks.{unpin_check as unpin_check_lem, row_borrow_check, give_up_check as give_up_check_lem, delete_check as delete_check_lem};
-ghost use Rattle.node_table.specs.Dropping.{settled_row, keys_settled};
+ghost use Rattle.node_table.specs.Dropping.{is_over_at, settled_row, keys_settled};
 ghost use Rattle.node_table.specs.Outcomes.{given_of};
 ghost use Rattle.node_table.specs.Row.{Beside, place_of, ArePlaced};
-ghost use Rattle.node_table.specs.Scope.{farewell_at, posted};
 ghost use Rattle.node_table.specs.Shown.{IsShown, TakesStep};
 
 use crate::marks::Mark;
@@ -36,13 +35,13 @@ impl JobRow {
         ensures late { OnErr result (unpin_check_lem self.old.copies id.now task ≡ None) }
         ensures err { OnErr result (self.new ≡ self.old) }
     {
-        if let Some(refusal) = self.copies().unpin_check(id, task) {
-            return Ok(Outcome::only(alloc, Reply::Refused(refusal)));
-        }
-        let stays = self.copies().in_scope_unpinned(id);
-        let messages = self.farewell(alloc, node, id, !stays)?;
-        self.apply(id, Mark::Unpinned);
-        Ok(self.settle_after(id, messages))
+        let message = match self.copies().unpin_farewell(node, id, task) {
+            Err(refusal) => return Ok(Outcome::only(alloc, Reply::Refused(refusal))),
+            Ok(message) => message,
+        };
+        let messages = Outcome::to_directory(alloc, message)?;
+        let after = self.apply(id, Mark::Unpinned);
+        Ok(self.settle_after(id, after.over, messages))
     }
 
     /// Borrow: the task refers to the object, and keeps its primary. `Gone` if the object's task or this one has ended,
@@ -88,13 +87,13 @@ impl JobRow {
         ensures late { OnErr result (give_up_check_lem self.old.copies id.now task ≡ None) }
         ensures err { OnErr result (self.new ≡ self.old) }
     {
-        if let Some(refusal) = self.copies().give_up_check(id, task) {
-            return Ok(Outcome::only(alloc, Reply::Refused(refusal)));
-        }
-        let stays = self.copies().in_scope_without(id, task);
-        let messages = self.farewell(alloc, node, id, !stays)?;
-        self.apply(id, Mark::GivenUp(task));
-        Ok(self.settle_after(id, messages))
+        let message = match self.copies().give_up_farewell(node, id, task) {
+            Err(refusal) => return Ok(Outcome::only(alloc, Reply::Refused(refusal))),
+            Ok(message) => message,
+        };
+        let messages = Outcome::to_directory(alloc, message)?;
+        let after = self.apply(id, Mark::GivenUp(task));
+        Ok(self.settle_after(id, after.over, messages))
     }
 
     /// Delete: the copy is doomed, whoever refers to it, and removed once nothing keeps it. `Absent`, `Granted` if a
@@ -112,12 +111,13 @@ impl JobRow {
         ensures late { OnErr result (delete_check_lem self.old.copies id.now ≡ None) }
         ensures err { OnErr result (self.new ≡ self.old) }
     {
-        if let Some(refusal) = self.copies().delete_check(id) {
-            return Ok(Outcome::only(alloc, Reply::Refused(refusal)));
-        }
-        let messages = self.farewell(alloc, node, id, true)?;
-        self.apply(id, Mark::Doomed);
-        Ok(self.settle_after(id, messages))
+        let message = match self.copies().delete_farewell(node, id) {
+            Err(refusal) => return Ok(Outcome::only(alloc, Reply::Refused(refusal))),
+            Ok(message) => message,
+        };
+        let messages = Outcome::to_directory(alloc, message)?;
+        let after = self.apply(id, Mark::Doomed);
+        Ok(self.settle_after(id, after.over, messages))
     }
 
     /// Whether one of these tasks has ended here.
@@ -127,28 +127,14 @@ impl JobRow {
         self.has_ended(one) || self.has_ended(other)
     }
 
-    /// What the directory is told of the copy if it is doomed now: nothing, unless it was sealed.
-    fn farewell(
-        &self,
-        alloc: Global,
-        node: u32,
-        id: &ObjectId,
-        dooms: bool,
-    ) -> Result<Items<(Place, Message)>, AllocError>
-        ensures { IfOk result (λ messages. messages ≡ posted (farewell_at node self.now.copies id.now dooms)) }
-    {
-        if !dooms {
-            return Ok(Items::new(alloc));
-        }
-        Outcome::to_directory(alloc, self.copies().farewell(node, id))
-    }
-
-    /// The answer Ok with these messages, and the copy is removed if it is over.
+    /// The answer Ok with these messages, and the copy is removed if it is over, which the caller knows.
     pub(crate) fn settle_after(
         &mut self,
         id: &ObjectId,
+        over: bool,
         messages: Items<(Place, Message)>,
     ) -> Outcome
+        requires { over ≡ is_over_at self.old.copies id.now }
         ensures row { self.new ≡ settled_row self.old id.now }
         ensures given { given_of result ≡ record { reply = reply.Ok; posts = messages; erased = keys_settled self.old id.now } }
         ensures placed { ArePlaced self.old.window.placed (place_of self.old.copies) }
@@ -156,7 +142,7 @@ impl JobRow {
         Outcome {
             reply: Reply::Ok,
             messages,
-            erase: Erase::of(self.settle(id)),
+            erase: Erase::of(self.settle(id, over)),
         }
     }
 }

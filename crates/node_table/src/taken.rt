@@ -1,6 +1,6 @@
 //! What copies take of the window and of the device.
 ghost use Rattle.std.specs.Prelude.{◌≡◌};
-ghost use Rattle.std.specs.Option.{option_map_or};
+ghost use Rattle.std.specs.Option.{option_copied, option_map_or};
 ghost use Rattle.node_table.specs.Counted.{capped, nothing as nothing_lem, taken_by, exchanged as exchanged_lem, CanExchange};
 
 use crate::copy::RowCopy;
@@ -34,11 +34,11 @@ impl Taken {
     }
 
     /// What the copy took, if there was one.
-    pub(crate) fn by_any(copy: Option<RowCopy>) -> Taken
-        ensures { result ≡ option_map_or taken_by copy nothing_lem }
+    pub(crate) fn by_any(copy: Option<&RowCopy>) -> Taken
+        ensures { result ≡ option_map_or taken_by (option_copied copy.entry) nothing_lem }
     {
         match copy {
-            Some(copy) => Taken::by(&copy),
+            Some(copy) => Taken::by(copy),
             None => Taken::nothing(),
         }
     }

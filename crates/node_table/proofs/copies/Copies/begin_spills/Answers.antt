@@ -11,7 +11,7 @@ loop-id-init c = refl
 pub loop-id-preserved : goal.loop-id-preserved
 loop-id-preserved c =
     let next = drop_more c.args.ids.now c.loop-id.id-index c.id-item.result c.loop-id-test.true ∙ ap (λ x. x ∷ drop (c.loop-id.id-index + 1) c.args.ids.now) (sym c.id-item.is) in
-    changed-next spilling_if c.args.ids.now _ _ c.loop-id.id-index c.id-item.result next c.apply.ensures ∙ c.loop-id.invariant
+    changed-next spilling_if c.args.ids.now _ _ c.loop-id.id-index c.id-item.result next c.apply.ensures.copies ∙ c.loop-id.invariant
 
 pub returns : goal.returns
 returns c = ap (each_changed spilling_if _) (sym (drop_all c.loop-id.id-index c.args.ids.now c.loop-id-test.false)) ∙ c.loop-id.invariant

@@ -7,7 +7,8 @@ use Rattle.obj_id.specs.Ids.{id_eq}
 use Rattle.node_table.specs.Checks.{borrow_check_of}
 use Rattle.node_table.specs.Kept.{Kept, borrowed}
 use Rattle.node_table.specs.Counted.{taken_of}
-use Rattle.node_table.proofs.Changes.{unwritten, on_ok, on_err, checked_there, checked_absent}
+use Rattle.node_table.proofs.Changes.{unwritten, on_ok, on_err, checked_there, checked_absent, found_rising}
+use Rattle.node_table.proofs.Holding.{standing_after, over_after}
 use Rattle.node_table.proofs.Sums.{taken-same, taken-either}
 use Rattle.node_table.proofs.copies.Copies.borrow.Goals as goal
 
@@ -66,3 +67,11 @@ returns-clause-memory c e =
 pub returns-clause-err : goal.returns-clause-err
 returns-clause-err c =
     on_err (borrowed c.args.task) c.args.id.now c.self.inside.by_id.entries c.args.self.now c.self.view_is c.borrow.result _ c.in-Some.copy.now c.borrow.new.self (sym c.get_mut.ensures.value ∙ ap option_copied_mut c.in-Some.is) c.borrow.ensures.err (c.get_mut.follows.holds c.borrow.new.self).0
+
+pub returns-clause-standing : goal.returns-clause-standing
+returns-clause-standing c =
+    standing_after (borrowed c.args.task) c.args.id.now c.args.self.now c.in-Some.copy.now (found_rising c.args.id.now c.self.inside.by_id.entries c.args.self.now c.self.view_is c.in-Some.copy.now (sym c.get_mut.ensures.value ∙ ap option_copied_mut c.in-Some.is)) c.borrow.result c.borrow.ensures.after
+
+pub returns-clause-over : goal.returns-clause-over
+returns-clause-over c =
+    over_after (borrowed c.args.task) c.args.id.now c.args.self.now c.in-Some.copy.now (found_rising c.args.id.now c.self.inside.by_id.entries c.args.self.now c.self.view_is c.in-Some.copy.now (sym c.get_mut.ensures.value ∙ ap option_copied_mut c.in-Some.is)) c.borrow.result c.borrow.ensures.after

@@ -9,16 +9,16 @@ use Rattle.node_table.proofs.copies.Copies.insert.Goals as goal
 pub exchanged-self-inside-requires : goal.exchanged-self-inside-requires
 exchanged-self-inside-requires c =
     can_exchange (id_eq c.args.id) c.self.inside.by_id.entries c.self.inside.taken c.by_any-before.result c.by-after.result c.self.invariant
-    (c.by_any-before.ensures ∙ ap taken_any c.in_ok-insert.ensures.old) (subst IsSmall (sym c.by-after.ensures) (small_by c.args.copy)) (omega (arith, c.len-count.ensures.len, c.len-count.ensures.small))
+    (c.by_any-before.ensures ∙ ap taken_any (c.as_ref.ensures.value ∙ c.in_ok-replaced.ensures.old)) (subst IsSmall (sym c.by-after.ensures) (small_by c.args.copy)) (omega (arith, c.len-count.ensures.len, c.len-count.ensures.small))
 
 pub invariant_of-self : goal.invariant_of-self
-invariant_of-self c = c.self.invariant ∙ sym (ap taken_of c.in_err-insert.ensures.err)
+invariant_of-self c = c.self.invariant ∙ sym (ap taken_of c.in_err-replaced.ensures.err)
 
 pub invariant_of-self-2 : goal.invariant_of-self-2
 invariant_of-self-2 c =
     taken-insert (id_eq c.args.id) c.self.inside.by_id.entries c.self.inside.taken c.by_any-before.result c.by-after.result c.self.invariant
-    (c.by_any-before.ensures ∙ ap taken_any c.in_ok-insert.ensures.old) c.exchanged-self-inside.result c.exchanged-self-inside.ensures _ id_eq c.args.id refl c.args.copy c.by-after.ensures c.in_ok-insert.ensures.entries
+    (c.by_any-before.ensures ∙ ap taken_any (c.as_ref.ensures.value ∙ c.in_ok-replaced.ensures.old)) c.exchanged-self-inside.result c.exchanged-self-inside.ensures _ id_eq c.args.id refl c.args.copy c.by-after.ensures c.in_ok-replaced.ensures.entries
 
 pub returns-clause-ok : goal.returns-clause-ok
 returns-clause-ok c =
-    with-rising c.args.id c.self.inside.by_id.entries _ c.args.copy c.in_ok-insert.ensures.updates.0 ∙ ap (λ t. with_entry t c.args.id c.args.copy) c.self.view_is
+    with-rising c.args.id c.self.inside.by_id.entries _ c.args.copy c.in_ok-replaced.ensures.updates.0 ∙ ap (λ t. with_entry t c.args.id c.args.copy) c.self.view_is

@@ -43,8 +43,8 @@ returns-clause-err c =
 
 pub returns-clause-standing : goal.returns-clause-standing
 returns-clause-standing c =
-    standing_after c.args.session c.args.id.now c.args.self.now c.in-Some.copy.now (found_rising c.args.id.now c.self.inside.by_id.entries c.args.self.now c.self.view_is c.in-Some.copy.now (sym c.get_mut.ensures.value ∙ ap option_copied_mut c.in-Some.is)) c.release.result c.release.ensures.after
+    standing_after (released c.args.session) c.args.id.now c.args.self.now c.in-Some.copy.now (found_rising c.args.id.now c.self.inside.by_id.entries c.args.self.now c.self.view_is c.in-Some.copy.now (sym c.get_mut.ensures.value ∙ ap option_copied_mut c.in-Some.is)) c.release.result c.release.ensures.after
 
 pub returns-clause-over : goal.returns-clause-over
 returns-clause-over c =
-    over_after c.args.session c.args.id.now c.args.self.now c.in-Some.copy.now (found_rising c.args.id.now c.self.inside.by_id.entries c.args.self.now c.self.view_is c.in-Some.copy.now (sym c.get_mut.ensures.value ∙ ap option_copied_mut c.in-Some.is)) c.release.result c.release.ensures.after
+    over_after (released c.args.session) c.args.id.now c.args.self.now c.in-Some.copy.now (found_rising c.args.id.now c.self.inside.by_id.entries c.args.self.now c.self.view_is c.in-Some.copy.now (sym c.get_mut.ensures.value ∙ ap option_copied_mut c.in-Some.is)) c.release.result c.release.ensures.after

@@ -1,13 +1,34 @@
-use Rattle.std.proofs.Common.{sym, ap, subst, ◌∙◌, arith}
-use Rattle.std.specs.Option.{option_copied_mut}
+use Rattle.std.proofs.Common.{Bool, false, Option, sym, ap, subst, ◌∙◌, arith}
+use Rattle.std.specs.Option.{option_copied_mut, option_map, option_map_or}
+use Rattle.lru_evictor.specs.declared.facts.Standing.{Standing}
+use Rattle.lru_evictor.specs.Facts.{standing_of, nowhere}
 use Rattle.obj_id.specs.Ids.{id_eq}
 use Rattle.node_table.specs.Counted.{taken_of}
-use Rattle.node_table.proofs.Changes.{not_written, written, found_rising}
+use Rattle.node_table.specs.Dropping.{is_over}
+use Rattle.node_table.specs.Kept.{Kept}
+use Rattle.node_table.specs.RoomPlans.{facts_of}
+use Rattle.node_table.proofs.Changes.{not_written, written, found_rising, checked_unwritten, checked_written}
 use Rattle.node_table.proofs.Sums.{IsSmall, taken_any, small_by, can_exchange, taken-set}
 use Rattle.node_table.proofs.copies.Copies.update.Goals as goal
 
-pub returns-in_default : goal.returns-in_default
-returns-in_default g c f same = not_written f c.args.id.now c.self.inside.by_id.entries c.args.self.now c.self.view_is _ (sym c.get_mut.ensures.value ∙ ap option_copied_mut c.in_default.is) (ap (λ m. m.entries) c.get_mut.follows.holds-at-none)
+-- what is told of the copy that is there, or isn't
+abbrev standing_told : Option Kept → Standing
+standing_told o = option_map_or standing_of (option_map facts_of o) nowhere
+
+abbrev over_told : Option Kept → Bool
+over_told o = option_map_or is_over o false
+
+pub returns-in_default-clause-copies : goal.returns-in_default-clause-copies
+returns-in_default-clause-copies g c f same = not_written f c.args.id.now c.self.inside.by_id.entries c.args.self.now c.self.view_is _ (sym c.get_mut.ensures.value ∙ ap option_copied_mut c.in_default.is) (ap (λ m. m.entries) c.get_mut.follows.holds-at-none)
+
+pub returns-in_default-clause-standing : goal.returns-in_default-clause-standing
+returns-in_default-clause-standing g c =
+    c.nowhere.ensures
+    ∙ sym (checked_unwritten standing_told c.args.id.now c.self.inside.by_id.entries _ (sym c.get_mut.ensures.value ∙ ap option_copied_mut c.in_default.is) (ap (λ m. m.entries) c.get_mut.follows.holds-at-none))
+
+pub returns-in_default-clause-over : goal.returns-in_default-clause-over
+returns-in_default-clause-over g c =
+    sym (checked_unwritten over_told c.args.id.now c.self.inside.by_id.entries _ (sym c.get_mut.ensures.value ∙ ap option_copied_mut c.in_default.is) (ap (λ m. m.entries) c.get_mut.follows.holds-at-none))
 
 pub change-requires : goal.change-requires
 change-requires g c = c.requires _ (found_rising c.args.id.now c.self.inside.by_id.entries c.args.self.now c.self.view_is c.in-Some.copy.now (sym c.get_mut.ensures.value ∙ ap option_copied_mut c.in-Some.is))
@@ -26,7 +47,17 @@ invariant_of-self-2 g c =
     (c.by-before.ensures ∙ ap taken_any (ap option_copied_mut (sym c.in-Some.is) ∙ c.get_mut.ensures.value)) c.exchanged-self-inside.result c.exchanged-self-inside.ensures _ c.in-Some.copy.now c.change.new.arg2
     (sym c.get_mut.ensures.value ∙ ap option_copied_mut c.in-Some.is) c.by-after.ensures (c.get_mut.follows.holds c.change.new.arg2).0
 
-pub returns : goal.returns
-returns g c f same =
+pub returns-clause-copies : goal.returns-clause-copies
+returns-clause-copies g c f same =
     written f c.args.id.now c.self.inside.by_id.entries c.args.self.now c.self.view_is _ c.in-Some.copy.now c.change.new.arg2 (sym c.get_mut.ensures.value ∙ ap option_copied_mut c.in-Some.is)
     (same _ _ c.change.ensures) (c.get_mut.follows.holds c.change.new.arg2).0
+
+pub returns-clause-standing : goal.returns-clause-standing
+returns-clause-standing g c =
+    ap (λ a. a.standing) c.after_change-told.ensures
+    ∙ sym (checked_written standing_told c.args.id.now c.self.inside.by_id.entries _ c.in-Some.copy.now c.change.new.arg2 (sym c.get_mut.ensures.value ∙ ap option_copied_mut c.in-Some.is) (c.get_mut.follows.holds c.change.new.arg2).0)
+
+pub returns-clause-over : goal.returns-clause-over
+returns-clause-over g c =
+    ap (λ a. a.over) c.after_change-told.ensures
+    ∙ sym (checked_written over_told c.args.id.now c.self.inside.by_id.entries _ c.in-Some.copy.now c.change.new.arg2 (sym c.get_mut.ensures.value ∙ ap option_copied_mut c.in-Some.is) (c.get_mut.follows.holds c.change.new.arg2).0)

@@ -2,17 +2,25 @@ use Rattle.std.proofs.Common.{sym, ap, ◌∙◌}
 use Rattle.private_store.specs.Tables.{at}
 use Rattle.node_table.specs.Marks.{marked_by}
 use Rattle.node_table.specs.Row.{Row}
-use Rattle.node_table.proofs.FollowsCopies.{one_stays}
+use Rattle.node_table.proofs.FollowsCopies.{extent_there, one_stays}
 use Rattle.node_table.proofs.MarkedPlaces.{marked_lies}
 use Rattle.node_table.proofs.Places.{now_placed}
 use Rattle.node_table.proofs.row.JobRow.apply.Goals as goal
 
-pub apply-requires : goal.apply-requires
-apply-requires c k found = c.requires.can k (ap (λ (r : Row). at r.copies c.args.id.now) (sym c.self.view_is) ∙ found)
+pub apply-after-requires : goal.apply-after-requires
+apply-after-requires c k found = c.requires.can k (ap (λ (r : Row). at r.copies c.args.id.now) (sym c.self.view_is) ∙ found)
 
 pub invariant_of-self : goal.invariant_of-self
 invariant_of-self c =
     let lies = marked_lies c.args.mark c.requires.lies in (
-      now_placed c.self.inside.window.placed c.self.inside.copies c.self.invariant.0 (marked_by c.args.mark) lies c.args.id.now c.apply.new.self c.apply.ensures,
-      one_stays (marked_by c.args.mark) c.args.id.now c.self.inside.copies c.apply.new.self c.apply.ensures c.self.inside.order c.follow.new.order c.follow.ensures.standings lies c.self.invariant.1,
+      now_placed c.self.inside.window.placed c.self.inside.copies c.self.invariant.0 (marked_by c.args.mark) lies c.args.id.now c.apply-after.new.self c.apply-after.ensures.copies,
+      one_stays (marked_by c.args.mark) c.args.id.now c.self.inside.copies c.apply-after.new.self c.apply-after.ensures.copies c.apply-after.result.standing c.apply-after.ensures.standing
+          c.self.inside.order c.choose.new.self c.choose.ensures.standings lies c.self.invariant.1,
     )
+
+pub returns-clause-place : goal.returns-clause-place
+returns-clause-place c = ap (λ s. s.extent) c.apply-after.ensures.standing ∙ extent_there c.apply-after.new.self c.args.id.now
+
+pub returns-clause-placed : goal.returns-clause-placed
+returns-clause-placed c =
+    now_placed c.self.inside.window.placed c.self.inside.copies c.self.invariant.0 (marked_by c.args.mark) (marked_lies c.args.mark c.requires.lies) c.args.id.now c.apply-after.new.self c.apply-after.ensures.copies

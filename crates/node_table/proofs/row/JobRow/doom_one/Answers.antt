@@ -28,7 +28,7 @@ pub returns-clause-row : goal.returns-clause-row
 returns-clause-row c =
     let r = c.args.self.now in
     let id = c.args.id.now in
-    c.settle.ensures.row ∙ ap (λ t. settled_row t id) c.apply.ensures
+    c.settle.ensures.row ∙ ap (λ t. settled_row t id) c.apply-after.ensures.row
     ∙ sym (ap (λ b. cond b (settled_row (with_copy doomed r id) id) r) (own c.args.task c.args.id.now.task c.eq-own.result (c.eq-own.ensures ∙ ap (λ t. task_eq c.args.task t) c.task.ensures) ∙ c.if-not-own.false))
 
 pub returns-clause-told : goal.returns-clause-told
@@ -36,5 +36,5 @@ returns-clause-told c =
     let r = c.args.self.now in
     let id = c.args.id.now in
     c.push_message.ensures.items
-    ∙ ap (λ o. c.args.messages.now.items ++ posted o) (c.last_words.ensures ∙ ap (λ b. farewell_at c.args.node r.copies id (not b)) (c.is_doomed.ensures ∙ ap (λ t. is_doomed_at t id) c.copies.ensures.copies))
+    ∙ ap (λ o. c.args.messages.now.items ++ posted o) (c.farewell.ensures ∙ ap (λ b. farewell_at c.args.node c.copies-copies.result.now id (not b)) c.is_doomed.ensures ∙ ap (λ t. farewell_at c.args.node t id (not (is_doomed_at t id))) c.copies-copies.ensures.copies)
     ∙ sym (ap (λ b. c.args.messages.now.items ++ posted (farewell_at c.args.node r.copies id (b && not (is_doomed_at r.copies id)))) (own c.args.task c.args.id.now.task c.eq-own.result (c.eq-own.ensures ∙ ap (λ t. task_eq c.args.task t) c.task.ensures) ∙ c.if-not-own.false))

@@ -8,4 +8,4 @@ pub apply-requires-clause-can : goal.apply-requires-clause-can
 apply-requires-clause-can c k found = c.requires k (ap (λ t. at t c.args.id.now) (sym c.put_all_bytes.ensures.copies) ∙ found)
 
 pub returns : goal.returns
-returns c e lies fits = c.apply.ensures ∙ ap (λ r. with_copy restored r c.args.id.now) (c.put_all_bytes.ensures.row e lies fits)
+returns c e lies fits = c.apply.ensures.row ∙ ap (λ r. with_copy restored r c.args.id.now) (c.put_all_bytes.ensures.row e lies fits)

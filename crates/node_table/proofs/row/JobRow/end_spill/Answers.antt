@@ -17,7 +17,7 @@ returns c =
       | then-failed w ↦ w.self-is ∙ w.if-failed.true ∙ sym (ap (λ b. b || c.self.inside.spill_failed) w.if-failed.true)
       | else-failed w ↦ w.self-is ∙ sym (ap (λ b. b || c.self.inside.spill_failed) w.if-failed.false)
     ] in
-    c.apply.ensures ∙ ap row_with failed ∙ ap (λ r. written_row c.args.number c.args.failed r c.args.id.now) c.self.view_is
+    c.apply.ensures.row ∙ ap row_with failed ∙ ap (λ r. written_row c.args.number c.args.failed r c.args.id.now) c.self.view_is
   where
     row_with : Bool → Row
     row_with b =

@@ -1,4 +1,4 @@
-use Rattle.std.proofs.Common.{[], sym, subst, ◌∙◌}
+use Rattle.std.proofs.Common.{[], sym, ap, subst, ◌∙◌}
 use Rattle.obj_id.specs.declared.commands.Reply.TheVariants as reply
 use Rattle.private_store.specs.declared.inputs.Input.TheVariants as input
 use Rattle.spill_work.specs.Line.{Finishes}
@@ -12,10 +12,10 @@ pub returns-in-Ok-clause-step : goal.returns-in-Ok-clause-step
 returns-in-Ok-clause-step c passed node hands bytes contents h =
     let before = beside_of c.args.works.now hands bytes c.args.self.now.job in
     let after = beside_of c.finish.new.self hands bytes c.args.self.now.job in
-    subst (λ g. TakesStep node c.args.self.now before contents (input.Answer c.args.number c.args.answer.now) g c.settle.new.self after)
-    (sym (λ i. record { reply = reply.Ok; posts = c.new.ensures i; erased = (c.of.ensures ∙ c.settle.ensures.keys) i }))
+    subst (λ g. TakesStep node c.args.self.now before contents (input.Answer c.args.number c.args.answer.now) g c.settle_after-outcome.new.self after)
+    (sym (c.settle_after-outcome.ensures.given ∙ ap (λ posts. record { reply = reply.Ok; posts = posts; erased = keys_settled c.end_work-verdict.new.self c.in-Ok.asked.id }) c.new.ensures))
     (subst (λ r. TakesStep node c.args.self.now before contents (input.Answer c.args.number c.args.answer.now) (record { reply = reply.Ok; posts = []; erased = keys_settled c.end_work-verdict.new.self c.in-Ok.asked.id }) r after)
-    (sym c.settle.ensures.row)
+    (sym c.settle_after-outcome.ensures.row)
     (finish_done node c.args.self.now c.args.works.now c.finish.new.self hands bytes contents h c.args.number c.args.answer.now c.in-Ok.asked (subst (λ job. Finishes c.args.works.now job c.args.number c.in-Ok.asked c.finish.new.self) c.job.ensures c.in-Ok.ensures.ok)
     c.end_work-verdict.ensures.placed c.end_work-verdict.new.self c.end_work-verdict.ensures.row))
 

@@ -21,7 +21,7 @@ returns-in-Some-clause-ok c =
     each_ok c.told.result (λ o said session hands bytes contents mine h.
     let beside = beside_of c.args.works.now hands bytes c.args.self.now.job in
     subst (λ g. TakesStep c.args.node c.args.self.now beside contents (input.Call session (command.Get c.args.id.now)) g c.apply.new.self beside) (sym (said ∙ ap (λ r. only (reply.Refused r)) c.refusal.ensures))
-    (subst (λ row. TakesStep c.args.node c.args.self.now beside contents (input.Call session (command.Get c.args.id.now)) (only (reply.Refused (refusal_of c.in-Some.fault))) row beside) (sym c.apply.ensures)
+    (subst (λ row. TakesStep c.args.node c.args.self.now beside contents (input.Call session (command.Get c.args.id.now)) (only (reply.Refused (refusal_of c.in-Some.fault))) row beside) (sym c.apply.ensures.row)
     (told_once c.args.node c.args.self.now beside contents session c.args.id.now mine c.requires.alive h v.k v.found v.stays v.is c.in-Some.fault faulty))) c.told.ensures.ok
 
 pub returns-in-None-clause-ok : goal.returns-in-None-clause-ok

@@ -24,5 +24,5 @@ returns-clause-step c node line hands bytes contents mine told h =
     let target = c.args.target in
     let after = beside_of line (hands_granted (grant_check row id target.0 c.args.table) hands id row.job target.0) bytes row.job in
     subst (λ g. TakesStep node row (beside_of line hands bytes row.job) contents (input.Call c.args.session (command.Grant id target)) g c.apply.new.self after) (sym c.only-2.ensures)
-    (subst (λ r. TakesStep node row (beside_of line hands bytes row.job) contents (input.Call c.args.session (command.Grant id target)) (only reply.Ok) r after) (sym c.apply.ensures)
+    (subst (λ r. TakesStep node row (beside_of line hands bytes row.job) contents (input.Call c.args.session (command.Grant id target)) (only reply.Ok) r after) (sym c.apply.ensures.row)
     (grant_done node line hands bytes row contents c.args.session id target h mine c.args.table told (sym c.grant_check.ensures ∙ c.in_default.is)))

@@ -50,7 +50,7 @@ returns-clause-ok c beside contents h =
     let test = ap (λ (r : Row). has_digest (take kept.copy.length (placed_bytes at_e r.window.placed)) c.in-Some-digest.digest) (sym put)
     ∙ sym (c.has_digest.ensures kept at_e (ap (λ t. at t c.args.id.now) c.put_chunk.ensures.copies ∙ a.of.found) (lies c.args.node c.args.self.now beside contents h c.args.id.now c.args.number c.args.from c.args.index c.args.bytes.now a)) in
     subst (λ r. TakesStep c.args.node c.args.self.now beside contents (input.Arrive (arrival.FromPeer c.args.from (peer.Chunk c.args.id.now c.args.number c.args.index c.args.bytes.now))) (record { reply = reply.Ok; posts = c.in_ok-messages.messages; erased = [] }) r beside)
-    (sym (c.freeze.ensures ∙ c.apply.ensures ∙ ap (λ r. with_copy brought r c.args.id.now) put))
+    (sym (c.freeze_at.ensures ∙ c.apply-after.ensures.row ∙ ap (λ r. with_copy brought r c.args.id.now) put))
     (whole_done c.args.node c.args.self.now beside contents h c.args.id.now c.args.number c.args.from c.args.index c.args.bytes.now a c.copies.ensures.placed
     c.requires.last c.in-Some-digest.digest has (test ∙ c.if-not-has_digest.false) (record { node = c.args.node; length = c.length.result; digest = c.in-Some-digest.digest }) c.in_ok-messages.messages
     (ap (λ n. record { node = c.args.node; length = n; digest = c.in-Some-digest.digest }) (c.length.ensures ∙ ap (λ (z : Kept). z.copy.length) (sym same))) c.in_ok-messages.ensures)
@@ -86,3 +86,6 @@ returns-clause-verdict c beside contents h =
     ∙ sym (c.has_digest.ensures kept at_e (ap (λ t. at t c.args.id.now) c.put_chunk.ensures.copies ∙ a.of.found) (lies c.args.node c.args.self.now beside contents h c.args.id.now c.args.number c.args.from c.args.index c.args.bytes.now a)) in
     sym (last_is c.args.node c.args.self.now beside contents h c.args.id.now c.args.number c.args.from c.args.index c.args.bytes.now a c.copies.ensures.placed
     c.requires.last c.in-Some-digest.digest has true (test ∙ c.if-not-has_digest.false))
+
+pub freeze_at-requires : goal.freeze_at-requires
+freeze_at-requires c e is = c.apply-after.ensures.placed.there c.args.id.now e (sym c.apply-after.ensures.place ∙ is)

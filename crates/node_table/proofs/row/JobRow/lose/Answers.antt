@@ -11,8 +11,8 @@ pub invariant_of-self : goal.invariant_of-self
 invariant_of-self c =
     let gone = slice_is c.place-gone.result c.as_slice.result.now c.as_slice.ensures ∙ ap option_to_list (c.place-gone.ensures ∙ ap (λ (r : Row). place_of r.copies c.args.id.now) (sym c.self.view_is)) in
     let window = c.give_back_all.ensures ∙ ap (λ gs. record c.self.inside.window { placed = without gs c.self.inside.window.placed }) gone in (
-      subst (λ (w : Region). ArePlaced w.placed (place_of c.apply.new.self)) (sym window)
-          (subst (λ t. ArePlaced (without (option_to_list (place_of c.self.inside.copies c.args.id.now)) c.self.inside.window.placed) (place_of t)) (sym c.apply.ensures)
+      subst (λ (w : Region). ArePlaced w.placed (place_of c.apply-after.new.self)) (sym window)
+          (subst (λ t. ArePlaced (without (option_to_list (place_of c.self.inside.copies c.args.id.now)) c.self.inside.window.placed) (place_of t)) (sym c.apply-after.ensures.copies)
           (lost_placed c.self.inside.window.placed c.self.inside.copies c.self.invariant.0 c.args.id.now c.args.fault)),
-      one_changed (lost c.args.fault) c.args.id.now c.self.inside.copies c.apply.new.self c.apply.ensures c.self.inside.order c.follow.new.order c.follow.ensures.standings (λ z. refl) c.self.invariant.1,
+      one_changed (lost c.args.fault) c.args.id.now c.self.inside.copies c.apply-after.new.self c.apply-after.ensures.copies c.apply-after.result.standing c.apply-after.ensures.standing c.self.inside.order c.choose.new.self c.choose.ensures.standings (λ z. refl) c.self.invariant.1,
     )

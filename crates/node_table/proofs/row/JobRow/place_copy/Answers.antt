@@ -24,7 +24,7 @@ pub invariant_of-self-in-Ok-1 : goal.invariant_of-self-in-Ok-1
 invariant_of-self-in-Ok-1 c =
     let w = waiting c.self.inside.copies c.args.id.now c.args.len (ap (λ (r : Row). option_map_or (waits_for_place c.args.len) (at r.copies c.args.id.now) false) c.self.view_is ∙ c.requires.waits) in
     let left = left_sorted c.self.inside.copies c.args.victims.now c.self.inside.window.placed c.in_ok-gone.gone.items c.deref.result.now c.in_ok-gone.ensures.permutation c.deref.ensures.value in
-    let copies = c.evict_for.ensures.copies ∙ ap (all_evicted c.args.victims.now) (c.apply.ensures ∙ changed-found (placed_for c.args.awaited c.in-Ok.extent.offset) c.args.id.now c.self.inside.copies w.k w.found) in
+    let copies = c.evict_for.ensures.copies ∙ ap (all_evicted c.args.victims.now) (c.apply.ensures.copies ∙ changed-found (placed_for c.args.awaited c.in-Ok.extent.offset) c.args.id.now c.self.inside.copies w.k w.found) in
     let placed = ap (λ (w : Region). w.placed) c.in-Ok.ensures.placed
     ∙ (λ i. put_in (c.in-Ok.extent.offset, replicate (c.in-Ok.ensures.length i) 0) (left i)) in
     let fresh = ap (lookup (nat_eq c.in-Ok.extent.offset)) (sym left) ∙ c.in-Ok.ensures.fresh in
@@ -37,7 +37,7 @@ invariant_of-self-in-Ok-1 c =
       now_lie,
       c.evict_for.ensures.standings
           (alone c.replace.new.self.placed c.evict_for.new.copies c.args.id.now c.in-Ok.extent now_lie (ap (λ t. place_of t c.args.id.now) copies ∙ there ∙ (λ i. Some (record { offset = c.in-Ok.extent.offset; length = sym c.in-Ok.ensures.length i }))) c.in-Ok.ensures.small)
-          (placed_unknown c.args.id.now c.self.inside.copies c.apply.new.self (changed_but (placed_for c.args.awaited c.in-Ok.extent.offset) c.self.inside.copies c.apply.new.self c.args.id.now c.apply.ensures) w.nowhere c.self.inside.order c.self.invariant.1),
+          (placed_unknown c.args.id.now c.self.inside.copies c.apply.new.self (changed_but (placed_for c.args.awaited c.in-Ok.extent.offset) c.self.inside.copies c.apply.new.self c.args.id.now c.apply.ensures.copies) w.nowhere c.self.inside.order c.self.invariant.1),
     )
 
 pub returns-in-Err-clause-none : goal.returns-in-Err-clause-none
@@ -53,7 +53,7 @@ pub returns-in-Ok-clause-some : goal.returns-in-Ok-clause-some
 returns-in-Ok-clause-some c k found =
     let left = left_sorted c.self.inside.copies c.args.victims.now c.self.inside.window.placed c.in_ok-gone.gone.items c.deref.result.now c.in_ok-gone.ensures.permutation c.deref.ensures.value in
     let there = ap (λ (r : Row). at r.copies c.args.id.now) c.self.view_is ∙ found in
-    let copies = c.evict_for.ensures.copies ∙ ap (all_evicted c.args.victims.now) (c.apply.ensures ∙ changed-found (placed_for c.args.awaited c.in-Ok.extent.offset) c.args.id.now c.self.inside.copies k there) in
+    let copies = c.evict_for.ensures.copies ∙ ap (all_evicted c.args.victims.now) (c.apply.ensures.copies ∙ changed-found (placed_for c.args.awaited c.in-Ok.extent.offset) c.args.id.now c.self.inside.copies k there) in
     let window = c.in-Ok.ensures.placed
     ∙ (λ i. region (put_in (c.in-Ok.extent.offset, replicate (c.in-Ok.ensures.length i) 0) (left i))) in
     let order = c.evict_for.ensures.ids ∙ (λ i. without_missing (copies i) c.args.victims.now (unused (ids_of c.self.inside.order) i)) in

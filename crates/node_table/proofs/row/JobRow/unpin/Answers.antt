@@ -1,32 +1,30 @@
-use Rattle.std.proofs.Common.{false, sym, ap, subst, ◌∙◌}
-use Rattle.std.specs.Option.{option_map_or}
-use Rattle.private_store.specs.Tables.{at}
-use Rattle.private_store.specs.Copies.{in_scope}
+use Rattle.std.proofs.Common.{not, refl, sym, ap, subst, ◌∙◌}
 use Rattle.obj_id.specs.declared.commands.Command.TheVariants as command
 use Rattle.obj_id.specs.declared.commands.Reply.TheVariants as reply
 use Rattle.private_store.specs.declared.inputs.Input.TheVariants as input
 use Rattle.node_table.specs.Checks.{unpin_check}
 use Rattle.node_table.specs.Dropping.{settled_row, keys_settled}
-use Rattle.node_table.specs.Scope.{with_copy}
-use Rattle.node_table.specs.Kept.{Kept, unpinned}
+use Rattle.node_table.specs.Scope.{farewell_at, posted, stays_unpinned, with_copy}
+use Rattle.node_table.specs.Kept.{unpinned}
 use Rattle.node_table.specs.Row.{place_of, ArePlaced}
 use Rattle.node_table.specs.Shown.{TakesStep}
 use Rattle.node_table.proofs.Scoping.{unpin_refused, unpin_done_so}
 use Rattle.node_table.proofs.row.JobRow.unpin.Goals as goal
 
-pub returns-in-Some-clause-ok : goal.returns-in-Some-clause-ok
-returns-in-Some-clause-ok c beside contents mine h =
+pub returns-in-Err-clause-ok : goal.returns-in-Err-clause-ok
+returns-in-Err-clause-ok c beside contents mine h =
     subst (λ told. TakesStep c.args.node c.args.self.now beside contents (input.Call c.args.session (command.Unpin c.args.id.now c.args.task)) told c.args.self.now beside) (sym c.only.ensures)
-    (unpin_refused c.args.node c.args.self.now beside contents c.args.session c.args.id.now mine h c.args.task c.in-Some.refusal
-    (ap (λ t. unpin_check t c.args.id.now c.args.task) (sym c.copies.ensures.copies) ∙ sym c.unpin_check.ensures ∙ c.in-Some.is))
+    (unpin_refused c.args.node c.args.self.now beside contents c.args.session c.args.id.now mine h c.args.task c.in-Err.refusal
+    (ap (λ t. unpin_check t c.args.id.now c.args.task) (sym c.copies.ensures.copies) ∙ c.in-Err.ensures.refused))
 
 pub returns-clause-ok : goal.returns-clause-ok
 returns-clause-ok c beside contents mine h =
     subst (λ g. TakesStep c.args.node c.args.self.now beside contents (input.Call c.args.session (command.Unpin c.args.id.now c.args.task)) g c.settle_after.new.self beside)
-    (sym (c.settle_after.ensures.given ∙ ap (λ r. record { reply = reply.Ok; posts = c.in_ok-messages.messages; erased = keys_settled r c.args.id.now }) c.apply.ensures))
+    (sym (c.settle_after.ensures.given ∙ ap (λ r. record { reply = reply.Ok; posts = c.in_ok-messages.messages; erased = keys_settled r c.args.id.now }) c.apply-after.ensures.row))
     (subst (λ r. TakesStep c.args.node c.args.self.now beside contents (input.Call c.args.session (command.Unpin c.args.id.now c.args.task)) (record { reply = reply.Ok; posts = c.in_ok-messages.messages; erased = keys_settled (with_copy unpinned c.args.self.now c.args.id.now) c.args.id.now }) r beside)
-    (sym (c.settle_after.ensures.row ∙ ap (λ r. settled_row r c.args.id.now) c.apply.ensures))
+    (sym (c.settle_after.ensures.row ∙ ap (λ r. settled_row r c.args.id.now) c.apply-after.ensures.row))
     (unpin_done_so c.args.node c.args.self.now beside contents c.args.session c.args.id.now mine h c.args.task
-    (ap (λ t. unpin_check t c.args.id.now c.args.task) (sym c.copies.ensures.copies) ∙ sym c.unpin_check.ensures ∙ c.in_default.is)
-    c.in_scope_unpinned-stays.result (c.in_scope_unpinned-stays.ensures ∙ ap (λ t. option_map_or (λ (k : Kept). in_scope (record k.copy { pinned = false })) (at t c.args.id.now) false) c.copies-2.ensures.copies)
-    c.in_ok-messages.messages c.in_ok-messages.ensures (subst (λ r. ArePlaced r.window.placed (place_of r.copies)) c.apply.ensures c.settle_after.ensures.placed)))
+    (ap (λ t. unpin_check t c.args.id.now c.args.task) (sym c.copies.ensures.copies) ∙ c.in-Ok.ensures.passed refl)
+    (stays_unpinned c.args.self.now.copies c.args.id.now) refl c.in_ok-messages.messages
+    (c.in_ok-messages.ensures ∙ ap posted (c.in-Ok.ensures.ok ∙ ap (λ t. farewell_at c.args.node t c.args.id.now (not (stays_unpinned t c.args.id.now))) c.copies.ensures.copies))
+    (subst (λ r. ArePlaced r.window.placed (place_of r.copies)) c.apply-after.ensures.row c.settle_after.ensures.placed)))

@@ -22,8 +22,8 @@ returns-clause-step c node line hands bytes contents are mine stands says h =
     let after = beside_rest line (is_withdrawn row.job id target.0) hands bytes row.job in
     let row_marked = with_copy (with_granted c.args.granted) row id in
     subst (λ g. TakesStep node row before contents x g c.settle_after.new.self after)
-    (sym (c.settle_after.ensures.given ∙ (λ i. record { reply = reply.Ok; posts = c.new.ensures i; erased = keys_settled (c.apply.ensures i) id })))
+    (sym (c.settle_after.ensures.given ∙ (λ i. record { reply = reply.Ok; posts = c.new.ensures i; erased = keys_settled (c.apply-after.ensures.row i) id })))
     (subst (λ r. TakesStep node row before contents x (record { reply = reply.Ok; posts = []; erased = keys_settled row_marked id }) r after)
-    (sym (c.settle_after.ensures.row ∙ ap (λ r. settled_row r id) c.apply.ensures))
+    (sym (c.settle_after.ensures.row ∙ ap (λ r. settled_row r id) c.apply-after.ensures.row))
     (withdraw_done node line hands bytes row contents c.args.session id target h mine stands are c.args.granted says
-    (subst (λ r. ArePlaced r.window.placed (place_of r.copies)) c.apply.ensures c.settle_after.ensures.placed)))
+    (subst (λ r. ArePlaced r.window.placed (place_of r.copies)) c.apply-after.ensures.row c.settle_after.ensures.placed)))
