@@ -1,3 +1,5 @@
+mod Answering
+mod Calls
 pub mod Crossing
 mod Erasing
 mod Rounds

@@ -1,5 +1,5 @@
 -- What a receipt says of an answer, and what a session's gate promises of its answers.
-use Rattle.std.specs.Prelude.{◌≡◌, ℕ, ◌⊎◌, true, List, Option, Some, IsSomeAnd, ⊤}
+use Rattle.std.specs.Prelude.{◌≡◌, ℕ, ◌⊎◌, true, false, List, Option, Some, IsSomeAnd, ⊤}
 use Rattle.obj_id.specs.declared.ids.JobNo.{JobNo}
 use Rattle.obj_id.specs.declared.commands.Command.{Command}
 use Rattle.obj_id.specs.declared.commands.Command.TheVariants as command
@@ -14,6 +14,7 @@ use Rattle.private_store.specs.declared.inputs.Judged.TheVariants as judged
 use Rattle.private_store.specs.declared.schedules.Event.{Event}
 use Rattle.private_store.specs.declared.schedules.Event.TheVariants as event
 use Rattle.private_store.specs.declared.schedules.NodeEvent.TheVariants.{Own, Arrive}
+use Rattle.private_store.specs.Answers.{wants_memory}
 use Rattle.private_store.specs.Contents.{brief}
 use Rattle.node_core.specs.Steps.{job_of_event}
 use Rattle.node_journal.specs.declared.entries.Entry.{Entry}
@@ -49,6 +50,11 @@ pub record IsOf (e : Event) (told : Reply (List ℕ)) (witness : Witness) : Type
   pub of_job : IsUnder witness.job.0 e
   pub named : witness.entry.event ≡ event_name (Own e)
   pub answer : witness.entry.reply ≡ kept_reply told
+
+-- of a session's command more is said: of its session and the command, and that the answer isn't out of memory
+abbrev pub IsCalledBy : Event → Reply (List ℕ) → Witness → Type 0
+IsCalledBy (event.Call job session c) told witness = (wants_memory told ≡ false) × IsCalled job session c told witness
+IsCalledBy e told witness = ⊤
 
 -- the entry is of this message of the job
 pub record IsArrived (job : JobNo) (a : Arrival) (witness : Witness) : Type 0 where

@@ -16,6 +16,7 @@ mod open_streams;
 mod pausing;
 mod posting;
 mod preparing;
+mod refusing;
 mod session;
 mod shared;
 mod stepping;

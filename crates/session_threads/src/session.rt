@@ -4,6 +4,7 @@ use crate::SharedNode;
 use crate::frames::framed;
 use crate::gathered::Gathered;
 use crate::pausing::{NoPause, Pause};
+use crate::refusing::out_of_memory;
 use bytes::Bytes;
 use node_journal::Entered;
 use obj_id::{Command, JobKey, JobNo, Refusal, Reply};
@@ -76,8 +77,8 @@ impl<'a, L: Ledger, R: Wait + Clock, P: Pause> Gate for Session<'a, L, R, P> {
     }
 
     fn call(&mut self, job: JobNo, session: u32, command: Command<Bytes>) -> Reply<Bytes> {
-        if self.gathered.make_room(self.rt, self.node).is_err() {
-            return framed(Reply::Refused(Refusal::NoMemory));
+        if let Err(error) = self.gathered.make_room(self.rt, self.node) {
+            return framed(out_of_memory(error));
         }
         let (reply, receipt) = self.node.call(self.rt, job, session, command);
         if let Some(receipt) = receipt {
@@ -87,8 +88,8 @@ impl<'a, L: Ledger, R: Wait + Clock, P: Pause> Gate for Session<'a, L, R, P> {
     }
 
     fn call_wait(&mut self, job: JobNo, session: u32, awaited: Awaited) -> Reply<Bytes> {
-        if self.gathered.make_room(self.rt, self.node).is_err() {
-            return framed(Reply::Refused(Refusal::NoMemory));
+        if let Err(error) = self.gathered.make_room(self.rt, self.node) {
+            return framed(out_of_memory(error));
         }
         let (reply, receipt) = self
             .node

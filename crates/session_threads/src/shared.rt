@@ -1,5 +1,5 @@
 //! A node with its journal behind a lock.
-ghost use Rattle.std.specs.Prelude.{◌≡◌, ◌⊎◌, ◌<◌, ◌≤◌, true, false, Some, None, MatchOption, IfSome, IfOk, IfErr};
+ghost use Rattle.std.specs.Prelude.{◌≡◌, ◌⊎◌, ◌<◌, ◌≤◌, true, false, Some, None, MatchOption, MatchResult, IfSome, IfOk, IfErr};
 ghost use Rattle.obj_id.specs.declared.commands.Reply.TheVariants as reply;
 ghost use Rattle.obj_id.specs.declared.refusals.Refusal.TheVariants.{NoMemory, Stale};
 ghost use Rattle.private_store.specs.Answers.{wants_memory, is_small_reply};
@@ -17,6 +17,7 @@ use crate::gathered::{Gathered, look_for};
 use crate::pausing::{NoPause, Pause};
 use crate::posting::Ways;
 use crate::preparing::{may_remove, prepare_finish, spent_by};
+use crate::refusing::out_of_memory;
 use crate::stepping::{
     Stepped, step_arrival, step_call, step_call_after, step_end, step_event, step_located,
     step_order, step_take,
@@ -29,7 +30,7 @@ use node_core::Prepared;
 use node_journal::{Access, Entered, Keeper, Kept, Posted, Receipt};
 use obj_id::{Command, JobKey, JobNo, Quota, Refusal, Reply};
 use private_store::{Awaited, Event};
-use std::alloc::Global;
+use std::alloc::{AllocError, Global};
 use std::os::unix::net::UnixStream;
 use std::slice;
 use std::sync::ledger::{Ledger, Share};
@@ -88,10 +89,25 @@ impl<L: Ledger, P: Pause> SharedNode<L, P> {
         ensures small { is_small_reply result.0 ≡ true }
     {
         self.leave_marked(rt);
+        let stepped = self.step_command(rt, job, session, command);
+        self.answer(rt, stepped)
+    }
+
+    /// The step of a command, for which something may be prepared before the node is locked.
+    fn step_command<R: Wait>(
+        &self,
+        rt: &R,
+        job: JobNo,
+        session: u32,
+        command: Command<Bytes>,
+    ) -> Result<Stepped<L>, AllocError>
+        ensures called { IfOk result (λ s. (wants_memory s.reply ≡ false) × IsCalled job session command s.reply (witness_of s.receipt)) }
+        ensures small { IfOk result (λ s. is_small_reply s.reply ≡ true) }
+    {
         let mut kept = self.kept.lock(rt);
         if kept.node().wants(job, &command) {
             drop(kept);
-            return self.call_prepared(rt, job, session, command);
+            return self.step_prepared(rt, job, session, command);
         }
         let (reaches_others, removes) = (may_reach_others(&command), may_remove(&command));
         let stepped = step_call(rt, &mut *kept, &self.upkeep, job, session, command);
@@ -99,27 +115,7 @@ impl<L: Ledger, P: Pause> SharedNode<L, P> {
         let spent = spent_by(&mut *kept, job, removes);
         drop(kept);
         drop(spent);
-        match stepped {
-            Ok(stepped) => self.hand_out(rt, stepped),
-            Err(refusal) => (Reply::Refused(refusal), None),
-        }
-    }
-
-    /// The same of a command for which something is prepared before the node is locked.
-    fn call_prepared<R: Wait>(
-        &self,
-        rt: &R,
-        job: JobNo,
-        session: u32,
-        command: Command<Bytes>,
-    ) -> (Reply<Bytes>, Option<Receipt<L>>)
-        ensures called { MatchOption result.1 (result.0 ≡ reply.Refused NoMemory) (λ r. (wants_memory result.0 ≡ false) × IsCalled job session command result.0 (witness_of r)) }
-        ensures small { is_small_reply result.0 ≡ true }
-    {
-        match self.step_prepared(rt, job, session, command) {
-            Ok(stepped) => self.hand_out(rt, stepped),
-            Err(refusal) => (Reply::Refused(refusal), None),
-        }
+        stepped
     }
 
     /// The step of a command for which something is prepared before the node is locked.
@@ -129,10 +125,9 @@ impl<L: Ledger, P: Pause> SharedNode<L, P> {
         job: JobNo,
         session: u32,
         command: Command<Bytes>,
-    ) -> Result<Stepped<L>, Refusal>
+    ) -> Result<Stepped<L>, AllocError>
         ensures called { IfOk result (λ s. (wants_memory s.reply ≡ false) × IsCalled job session command s.reply (witness_of s.receipt)) }
         ensures small { IfOk result (λ s. is_small_reply s.reply ≡ true) }
-        ensures memory { IfErr result (λ r. r ≡ NoMemory) }
     {
         if let Command::Seal(id) = &command {
             self.prepare_seal(rt, job, id);
@@ -153,10 +148,9 @@ impl<L: Ledger, P: Pause> SharedNode<L, P> {
         job: JobNo,
         session: u32,
         command: Command<Bytes>,
-    ) -> Result<Stepped<L>, Refusal>
+    ) -> Result<Stepped<L>, AllocError>
         ensures called { IfOk result (λ s. (wants_memory s.reply ≡ false) × IsCalled job session command s.reply (witness_of s.receipt)) }
         ensures small { IfOk result (λ s. is_small_reply s.reply ≡ true) }
-        ensures memory { IfErr result (λ r. r ≡ NoMemory) }
     {
         let mut kept = self.kept.lock(rt);
         let before = kept.prepare(job, prepared);
@@ -192,8 +186,7 @@ impl<L: Ledger, P: Pause> SharedNode<L, P> {
         drop(spent);
         match stepped {
             Ok(stepped) => self.hand_out(rt, stepped),
-            Err(Refusal::Stale) => (Reply::Refused(Refusal::Stale), None),
-            Err(_) => (Reply::Refused(Refusal::NoMemory), None),
+            Err(refusal) => (Reply::Refused(refusal), None),
         }
     }
 
@@ -269,7 +262,7 @@ impl<L: Ledger, P: Pause> SharedNode<L, P> {
                 self.check(rt, &receipt);
                 (reply, Some(receipt), false)
             }
-            Err(refusal) => (Reply::Refused(refusal), None, true),
+            Err(error) => (out_of_memory(error), None, true),
         }
     }
 
@@ -280,10 +273,9 @@ impl<L: Ledger, P: Pause> SharedNode<L, P> {
         job: JobNo,
         session: u32,
         awaited: &Awaited,
-    ) -> (Result<Stepped<L>, Refusal>, Moved)
+    ) -> (Result<Stepped<L>, AllocError>, Moved)
         ensures called { IfOk result.0 (λ s. (wants_memory s.reply ≡ false) × IsCalled job session (tried awaited.now) s.reply (record { job = s.receipt.job; entry = s.receipt.entry })) }
         ensures small { IfOk result.0 (λ s. is_small_reply s.reply ≡ true) }
-        ensures memory { IfErr result.0 (λ r. r ≡ NoMemory) }
     {
         self.leave_marked(rt);
         let command = command_of(awaited);
@@ -339,10 +331,7 @@ impl<L: Ledger, P: Pause> SharedNode<L, P> {
         let gone = kept.take_gone();
         drop(kept);
         drop(gone);
-        match stepped {
-            Ok(stepped) => self.hand_out(rt, stepped),
-            Err(refusal) => (Reply::Refused(refusal), None),
-        }
+        self.answer(rt, stepped)
     }
 
     /// An event of the operator's, with the receipt of its entry, which was looked for.
@@ -352,10 +341,7 @@ impl<L: Ledger, P: Pause> SharedNode<L, P> {
         let mut kept = self.kept.lock(rt);
         let stepped = step_order(rt, &mut *kept, &self.upkeep, event);
         drop(kept);
-        match stepped {
-            Ok(stepped) => self.hand_out(rt, stepped),
-            Err(refusal) => (Reply::Refused(refusal), None),
-        }
+        self.answer(rt, stepped)
     }
 
     /// An event of a worker, with the receipt of its entry.
@@ -373,10 +359,7 @@ impl<L: Ledger, P: Pause> SharedNode<L, P> {
         let rest = kept.prepare(job, before);
         drop(kept);
         drop(rest);
-        match stepped {
-            Ok(stepped) => self.hand_out(rt, stepped),
-            Err(refusal) => (Reply::Refused(refusal), None),
-        }
+        self.answer(rt, stepped)
     }
 
     /// An event of a worker, whose receipt is gathered, if there is one.
@@ -388,8 +371,8 @@ impl<L: Ledger, P: Pause> SharedNode<L, P> {
     ) -> Reply<Bytes>
         ensures { IsHandedIn event.now result gathered.old.last (in_order gathered.new.earlier.items gathered.new.last) }
     {
-        if gathered.make_room(rt, self).is_err() {
-            return Reply::Refused(Refusal::NoMemory);
+        if let Err(error) = gathered.make_room(rt, self) {
+            return out_of_memory(error);
         }
         let (reply, receipt) = self.operate(rt, event);
         if let Some(receipt) = receipt {
@@ -402,8 +385,8 @@ impl<L: Ledger, P: Pause> SharedNode<L, P> {
     pub(crate) fn take_gathering<R: Wait>(&self, rt: &R, gathered: &mut Gathered<L>) -> Reply<Bytes>
         ensures { IsTaken result gathered.new.last }
     {
-        if gathered.make_room(rt, self).is_err() {
-            return Reply::Refused(Refusal::NoMemory);
+        if let Err(error) = gathered.make_room(rt, self) {
+            return out_of_memory(error);
         }
         let (reply, receipt) = self.take(rt);
         if let Some(receipt) = receipt {
@@ -421,8 +404,7 @@ impl<L: Ledger, P: Pause> SharedNode<L, P> {
         drop(kept);
         match stepped {
             None => (Reply::NoWork, None),
-            Some(Ok(stepped)) => self.hand_out(rt, stepped),
-            Some(Err(refusal)) => (Reply::Refused(refusal), None),
+            Some(stepped) => self.answer(rt, stepped),
         }
     }
 
@@ -458,7 +440,21 @@ impl<L: Ledger, P: Pause> SharedNode<L, P> {
         step_located(rt, &mut *self.kept.lock(rt), &self.upkeep, located)
     }
 
-    /// Hands over what a step has sent, and gives its answer and its receipt.
+    /// Hands over what a step has sent, and gives its answer and its receipt. There is none if there was no memory for the step.
+    fn answer<R: Wait>(
+        &self,
+        rt: &R,
+        stepped: Result<Stepped<L>, AllocError>,
+    ) -> (Reply<Bytes>, Option<Receipt<L>>)
+        ensures { MatchResult stepped (λ s. (result.0 ≡ s.reply) × (result.1 ≡ Some s.receipt)) (λ _. (result.0 ≡ reply.Refused NoMemory) × (result.1 ≡ None)) }
+    {
+        match stepped {
+            Ok(stepped) => self.hand_out(rt, stepped),
+            Err(error) => (out_of_memory(error), None),
+        }
+    }
+
+    /// The same of a step that was made.
     fn hand_out<R: Wait>(&self, rt: &R, stepped: Stepped<L>) -> (Reply<Bytes>, Option<Receipt<L>>)
         ensures { (result.0 ≡ stepped.reply) × (result.1 ≡ Some stepped.receipt) }
     {

@@ -4,6 +4,7 @@ ghost use Rattle.obj_id.specs.declared.commands.Command.TheVariants as command;
 ghost use Rattle.obj_id.specs.declared.messages.Arrival.{Arrival};
 ghost use Rattle.obj_id.specs.declared.refusals.Refusal.TheVariants.{NoMemory, Stale};
 ghost use Rattle.private_store.specs.Answers.{wants_memory, is_small_reply};
+ghost use Rattle.node_core.specs.Judged.{IsSmallCall};
 ghost use Rattle.node_journal.specs.Journals.{folded_if};
 ghost use Rattle.node_journal.specs.Logs.{journal_of};
 ghost use Rattle.private_store.specs.declared.schedules.Event.TheVariants as event;
@@ -12,7 +13,7 @@ ghost use Rattle.private_store.specs.Cluster.{arrival_of};
 ghost use Rattle.spill_work.specs.Line.{front_of};
 ghost use Rattle.node_journal.specs.Posts.{posts_left, IsAstray};
 ghost use Rattle.session_threads.specs.Stepping.{seen, IsUntouched, IsOneStep, IsOneStepFolded, IsOneLeave, IsOneArrival, HasArrived};
-ghost use Rattle.session_threads.specs.Witnesses.{IsCalled, IsOf, witness_of};
+ghost use Rattle.session_threads.specs.Witnesses.{IsCalled, IsCalledBy, IsOf, witness_of};
 
 use crate::gathered::look_for;
 use crate::pausing::Pause;
@@ -22,6 +23,7 @@ use bytes::Bytes;
 use node_journal::{Kept, Made, Mail, Parts, Posted, Receipt};
 use obj_id::{Command, JobNo, Refusal, Reply};
 use private_store::Event;
+use std::alloc::AllocError;
 use std::slice;
 use std::sync::Wait;
 use std::sync::ledger::Ledger;
@@ -42,21 +44,16 @@ pub(crate) fn step_call<L: Ledger, R: Wait, P: Pause>(
     job: JobNo,
     session: u32,
     command: Command<Bytes>,
-) -> Result<Stepped<L>, Refusal>
+) -> Result<Stepped<L>, AllocError>
     ensures called { IfOk result (λ s. (wants_memory s.reply ≡ false) × IsCalled job session command s.reply (witness_of s.receipt)) }
     ensures small { IfOk result (λ s. is_small_reply s.reply ≡ true) }
     ensures once { IfOk result (λ s. IsOneStep (node_event.Own (event.Call job session command)) s.reply (posts_left s.mail) (witness_of s.receipt) (seen kept.old.node kept.old.count kept.old.logs) (seen kept.new.node kept.new.count kept.new.logs)) }
     ensures node { IfOk result (λ s. s.receipt.node ≡ kept.old.number) }
     ensures same { OnErr result (IsUntouched (seen kept.old.node kept.old.count kept.old.logs) (seen kept.new.node kept.new.count kept.new.logs)) }
     ensures number { kept.new.number ≡ kept.old.number }
-    ensures memory { IfErr result (λ r. r ≡ NoMemory) }
 {
     let event = Event::Call(job, session, command);
-    upkeep.pause.before_step(kept.number(), &event);
-    match kept.step(&event) {
-        Ok(made) => Ok(settled(rt, kept, upkeep, made)),
-        Err(_) => Err(Refusal::NoMemory),
-    }
+    step_event(rt, kept, upkeep, &event)
 }
 
 /// The same, if the journal doesn't say No of the receipt: otherwise the error is `Stale`.
@@ -87,25 +84,24 @@ pub(crate) fn step_call_after<L: Ledger, R: Wait, P: Pause>(
     }
 }
 
-/// An event of the operator's or of a worker. The error is out of memory.
+/// An event of a session, the operator or a worker. The error is out of memory.
 pub(crate) fn step_event<L: Ledger, R: Wait, P: Pause>(
     rt: &R,
     kept: &mut Kept<L>,
     upkeep: &Upkeep<P>,
     event: &Event,
-) -> Result<Stepped<L>, Refusal>
+) -> Result<Stepped<L>, AllocError>
     ensures stepped { IfOk result (λ s. IsOf event.now s.reply (witness_of s.receipt)) }
+    ensures called { IfOk result (λ s. IsCalledBy event.now s.reply (witness_of s.receipt)) }
+    ensures small { IfOk result (λ s. IsSmallCall event.now s.reply) }
     ensures once { IfOk result (λ s. IsOneStep (node_event.Own event.now) s.reply (posts_left s.mail) (witness_of s.receipt) (seen kept.old.node kept.old.count kept.old.logs) (seen kept.new.node kept.new.count kept.new.logs)) }
     ensures node { IfOk result (λ s. s.receipt.node ≡ kept.old.number) }
     ensures same { OnErr result (IsUntouched (seen kept.old.node kept.old.count kept.old.logs) (seen kept.new.node kept.new.count kept.new.logs)) }
     ensures number { kept.new.number ≡ kept.old.number }
-    ensures memory { IfErr result (λ r. r ≡ NoMemory) }
 {
     upkeep.pause.before_step(kept.number(), event);
-    match kept.step(event) {
-        Ok(made) => Ok(settled(rt, kept, upkeep, made)),
-        Err(_) => Err(Refusal::NoMemory),
-    }
+    let made = kept.step(event)?;
+    Ok(settled(rt, kept, upkeep, made))
 }
 
 /// An event of the operator's, whose entry is looked for. The error is out of memory.
@@ -114,13 +110,12 @@ pub(crate) fn step_order<L: Ledger, R: Wait, P: Pause>(
     kept: &mut Kept<L>,
     upkeep: &Upkeep<P>,
     event: &Event,
-) -> Result<Stepped<L>, Refusal>
+) -> Result<Stepped<L>, AllocError>
     ensures stepped { IfOk result (λ s. IsOf event.now s.reply (witness_of s.receipt)) }
     ensures once { IfOk result (λ s. IsOneStep (node_event.Own event.now) s.reply (posts_left s.mail) (witness_of s.receipt) (seen kept.old.node kept.old.count kept.old.logs) (seen kept.new.node kept.new.count kept.new.logs)) }
     ensures node { IfOk result (λ s. s.receipt.node ≡ kept.old.number) }
     ensures same { OnErr result (IsUntouched (seen kept.old.node kept.old.count kept.old.logs) (seen kept.new.node kept.new.count kept.new.logs)) }
     ensures number { kept.new.number ≡ kept.old.number }
-    ensures memory { IfErr result (λ r. r ≡ NoMemory) }
 {
     let stepped = step_event(rt, kept, upkeep, event)?;
     look_for(rt, kept, &upkeep.tallies, slice::from_ref(&stepped.receipt));
@@ -133,12 +128,11 @@ pub(crate) fn step_end<L: Ledger, R: Wait, P: Pause>(
     kept: &mut Kept<L>,
     upkeep: &Upkeep<P>,
     job: JobNo,
-) -> Result<Stepped<L>, Refusal>
+) -> Result<Stepped<L>, AllocError>
     ensures stepped { IfOk result (λ s. IsOf (event.JobEnd job) s.reply (witness_of s.receipt)) }
     ensures once { IfOk result (λ s. IsOneStepFolded (node_event.Own (event.JobEnd job)) job.0 s.reply (posts_left s.mail) (witness_of s.receipt) (seen kept.old.node kept.old.count kept.old.logs) (seen kept.new.node kept.new.count kept.new.logs)) }
     ensures same { OnErr result (IsUntouched (seen kept.old.node kept.old.count kept.old.logs) (seen kept.new.node kept.new.count kept.new.logs)) }
     ensures number { kept.new.number ≡ kept.old.number }
-    ensures memory { IfErr result (λ r. r ≡ NoMemory) }
 {
     // its entry is looked for before the fold, after which the journal says no more of it
     let stepped = step_order(rt, kept, upkeep, &Event::JobEnd(job))?;
@@ -162,9 +156,8 @@ pub(crate) fn step_take<L: Ledger, R: Wait, P: Pause>(
     rt: &R,
     kept: &mut Kept<L>,
     upkeep: &Upkeep<P>,
-) -> Option<Result<Stepped<L>, Refusal>>
+) -> Option<Result<Stepped<L>, AllocError>>
     ensures stepped { IfSome result (λ r. IfOk r (λ s. IsOf event.Take s.reply (witness_of s.receipt))) }
-    ensures memory { IfSome result (λ r. IfErr r (λ refusal. refusal ≡ NoMemory)) }
     ensures once { IfSome result (λ r. IfOk r (λ s. IsOneStep (node_event.Own event.Take) s.reply (posts_left s.mail) (witness_of s.receipt) (seen kept.old.node kept.old.count kept.old.logs) (seen kept.new.node kept.new.count kept.new.logs))) }
     ensures same { IfSome result (λ r. OnErr r (IsUntouched (seen kept.old.node kept.old.count kept.old.logs) (seen kept.new.node kept.new.count kept.new.logs))) }
     ensures none { IfNone result (IsUntouched (seen kept.old.node kept.old.count kept.old.logs) (seen kept.new.node kept.new.count kept.new.logs) × (front_of kept.old.node.works.works ≡ None)) }

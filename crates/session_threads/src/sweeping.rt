@@ -14,11 +14,11 @@ pub(crate) fn may_reach_others(command: &Command<Bytes>) -> bool {
 
 /// Sweeps what a command of the job may have left in the journal: after one that may have made a list for a job that isn't live, the
 /// lists of the jobs whose turn it is; after one of a job that isn't live, the job's own. No step, so nothing else changes.
-pub(crate) fn sweep_after<L: Ledger>(
+pub(crate) fn sweep_after<L: Ledger, E>(
     kept: &mut Kept<L>,
     job: JobNo,
     reached_others: bool,
-    stepped: &Result<Stepped<L>, Refusal>,
+    stepped: &Result<Stepped<L>, E>,
 )
     ensures { (kept.new.node ≡ kept.old.node) × (kept.new.count ≡ kept.old.count) × (kept.new.number ≡ kept.old.number) }
 {
@@ -32,7 +32,7 @@ pub(crate) fn sweep_after<L: Ledger>(
 }
 
 /// Whether the step's job isn't live.
-fn is_of_nobody<L: Ledger>(stepped: &Result<Stepped<L>, Refusal>) -> bool {
+fn is_of_nobody<L: Ledger, E>(stepped: &Result<Stepped<L>, E>) -> bool {
     match stepped {
         Ok(stepped) => matches!(&stepped.reply, Reply::Refused(Refusal::NotAdmitted)),
         Err(_) => false,
