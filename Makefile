@@ -77,8 +77,8 @@ client-check:
 	clients/check
 
 # tests/sessions, tests/control, tests/shared_bytes, tests/journals, the client's tests and the daemon's at the program that is there already, as the gate
-# leaves it, with no new proof; and the tests of pages, of pictures and of who answers that memory ran out, which need none. This is what
-# the gate's script runs after the gate.
+# leaves it, with no new proof; and the tests of pages, of pictures, of what proofs cite of other crates and of who answers that memory ran
+# out, which need none. This is what the gate's script runs after the gate.
 try-built:
 	tests/built
 

@@ -1,3 +1,4 @@
-pub mod Order
-pub mod Kept
+mod Order
+mod Kept
 pub mod Crossing
+pub mod ForCallers

@@ -1,3 +1,4 @@
-pub mod Parts
-pub mod Gone
+mod Parts
+mod Gone
 pub mod Crossing
+pub mod ForCallers

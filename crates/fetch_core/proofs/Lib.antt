@@ -1,2 +1,2 @@
-pub mod Indexes
+mod Indexes
 mod StoresFetches

@@ -20,8 +20,8 @@ use Rattle.private_store.specs.Events.{fetch_of, is_missing, fetch_failed, not_h
 use Rattle.private_store.specs.Events as events
 use Rattle.private_store.specs.Contents.{View, source_in, entry_elsewhere, overwritten, chunk_length, chunk_verdict, pulled_verdict, gap_verdict, with_chunk, bytes_at, digest_at, has_digest, is_sized}
 use Rattle.private_store.specs.Kept.{IsViewKept, is_fetching, is_pulling, has_extent}
-use Rattle.private_store.proofs.Rows.{at-put_here}
-use Rattle.private_store.proofs.Tests.{true_false}
+use Rattle.store_facts.proofs.Rows.{at-put_here}
+use Rattle.store_facts.proofs.Tests.{true_false}
 use Rattle.fetch_core.specs.Fetching as fetching
 use Rattle.fetch_core.specs.Fetching.{missing_of, failed_with, located, sized_by, pull_begun, chunk_taken, fills_one, is_whole, is_refused_by}
 use Rattle.fetch_core.specs.Stores.{IsFetchAt, IsLedTo, after_chunk}

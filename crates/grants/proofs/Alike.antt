@@ -7,9 +7,9 @@ use Rattle.std.proofs.lemmas.Bool.Decides.{nat_tests}
 use Rattle.std.proofs.lemmas.List.Folds.{list_any-append}
 use Rattle.obj_id.specs.declared.ids.ObjectId.{ObjectId}
 use Rattle.obj_id.specs.Ids.{same_id}
-use Rattle.obj_id.proofs.SameIds.{same_id-equal, same_id-itself}
+use Rattle.store_facts.proofs.Ids.{same_id-equal, same_id-itself}
 use Rattle.private_store.specs.Hands.{Hand, same_hand, hangs_on}
-use Rattle.private_store.proofs.Tests.{both, both_left, both_right, or_cases, or_left, or_right}
+use Rattle.store_facts.proofs.Tests.{both, both_left, both_right, or_cases, or_left, or_right}
 
 pub numbers_equal : (a b : ℕ) → (a == b) ≡ true → a ≡ b
 numbers_equal a b e = grind (arith, nat_tests)

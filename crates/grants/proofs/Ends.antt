@@ -7,7 +7,7 @@ use Rattle.std.specs.List.{list_any, list_all}
 use Rattle.std.proofs.lemmas.Bool.Decides.{nat_tests}
 use Rattle.obj_id.specs.declared.ids.ObjectId.{ObjectId}
 use Rattle.obj_id.specs.Ids.{same_id, same_task}
-use Rattle.obj_id.proofs.SameIds.{same_id-equal, same_id-itself}
+use Rattle.store_facts.proofs.Ids.{same_id-equal, same_id-itself}
 use Rattle.private_store.specs.Limits.{greatest_depth}
 use Rattle.private_store.specs.Shape.{Shape, Copy, Seen, HandGiven, HandTaken}
 use Rattle.private_store.specs.Tables.{at, with_entry, without_entry}
@@ -16,8 +16,8 @@ use Rattle.private_store.specs.Copies.{is_idle}
 use Rattle.private_store.specs.Room.{drop_copy}
 use Rattle.private_store.specs.Events.{hands_of, is_hand, without_hand, hand_ended, withdrawn, hangs_on as hangs_on_it}
 use Rattle.private_store.specs.Hands.{Hand, same_hand, hangs_on, ended_from, hands_ended, hands_left, hands_sorted, is_withdrawn, is_of_task, is_given_by}
-use Rattle.private_store.proofs.Rows.{at-put, at-drop}
-use Rattle.private_store.proofs.Tests.{true_false, both, both_left, both_right, or_cases, or_left, or_right, or_false_left, or_false_right, neither, not_true, refuted}
+use Rattle.store_facts.proofs.Rows.{at-put, at-drop}
+use Rattle.store_facts.proofs.Tests.{true_false, both, both_left, both_right, or_cases, or_left, or_right, or_false_left, or_false_right, neither, not_true, refuted}
 use Rattle.grants.specs.Table.{AreHands, shows, given_by, is_no_taker, hangs_right, is_hung, may_stand, all_stand}
 use Rattle.grants.specs.Private.{as_given, as_taken, seen_by, HasHands, HasRest, told_ends, without_given, RestAlike, EndsAlike}
 use Rattle.grants.proofs.Alike.{ids_same, same_alike, same_itself, any_more, any_before, any_after, any_either, numbers_equal}

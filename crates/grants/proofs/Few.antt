@@ -7,13 +7,13 @@ use Rattle.std.specs.FinMap.Entries.{is_sorted-put, length-put}
 use Rattle.std.proofs.lemmas.Bool.Decides.{nat_tests}
 use Rattle.obj_id.specs.declared.ids.ObjectId.{ObjectId}
 use Rattle.obj_id.specs.Ids.{id_cmp}
-use Rattle.obj_id.proofs.SameIds.{id_cmp-IsTotalOrder}
+use Rattle.store_facts.proofs.Ids.{id_cmp-IsTotalOrder}
 use Rattle.private_store.specs.Answers.{AreGrantedWithin}
 use Rattle.private_store.specs.Hands.{Hand, same_hand, hangs_on, is_given_by}
 use Rattle.private_store.specs.Limits.{most_hands, most_live_jobs, greatest_depth}
 use Rattle.private_store.specs.Shape.{HandTaken, Seen}
 use Rattle.private_store.specs.Tables.{ById, at}
-use Rattle.private_store.proofs.Tests.{both, both_left, both_right, some_value}
+use Rattle.store_facts.proofs.Tests.{both, both_left, both_right, some_value}
 use Rattle.grants.specs.Table.{AreHands, all_stand, may_stand, hangs_right, is_hung, is_no_taker, shows, given_by, given_to}
 use Rattle.grants.specs.Private.{as_taken, seen_by, with_taken, taken_by}
 use Rattle.grants.proofs.Private.{seen_hands}

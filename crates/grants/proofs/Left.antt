@@ -4,7 +4,7 @@ use Rattle.std.specs.Prelude.{if◌then◌else◌, nat_le}
 use Rattle.std.specs.List.{list_any}
 use Rattle.private_store.specs.Limits.{greatest_depth}
 use Rattle.private_store.specs.Hands.{Hand, same_hand, hangs_on, ended_from, hands_left, is_given_by}
-use Rattle.private_store.proofs.Tests.{true_false, both, both_left, both_right, or_cases, or_left, or_right, not_true, refuted}
+use Rattle.store_facts.proofs.Tests.{true_false, both, both_left, both_right, or_cases, or_left, or_right, not_true, refuted}
 use Rattle.grants.specs.Table.{AreHands, is_no_taker, hangs_right, is_hung, may_stand, all_stand}
 use Rattle.grants.proofs.Alike.{same_itself, same_through, hangs_alike, any_more, any_before, any_after, any_either, any_filtered, any_kept}
 

@@ -1,12 +1,13 @@
-pub mod Alike
-pub mod Left
-pub mod Made
-pub mod Reach
+mod Alike
+mod Left
+mod Made
+mod Reach
 mod Linked
 mod Ranked
-pub mod Private
-pub mod Ends
-pub mod Taken
-pub mod Few
-pub mod Seen
-pub mod Told
+mod Private
+mod Ends
+mod Taken
+mod Few
+mod Seen
+mod Told
+pub mod ForCallers

@@ -6,7 +6,7 @@ use Rattle.std.specs.Option.{option_map, option_map_or}
 use Rattle.std.proofs.lemmas.Bool.Decides.{nat_tests}
 use Rattle.std.proofs.lemmas.List.Folds.{list_any-append}
 use Rattle.obj_id.specs.Ids.{same_id, id_eq}
-use Rattle.obj_id.proofs.SameIds.{same_id-id_eq, same_id-flip}
+use Rattle.store_facts.proofs.Ids.{same_id-id_eq, same_id-flip}
 use Rattle.private_store.specs.Hands.{Hand, same_hand, hangs_on}
 use Rattle.grants.specs.Back.{job_of}
 use Rattle.grants.specs.declared.hands.Link.{Link}

@@ -10,7 +10,7 @@ use Rattle.obj_id.specs.declared.refusals.Refusal.TheVariants.{BadId, NotGranted
 use Rattle.obj_id.specs.Ids.{same_id}
 use Rattle.private_store.specs.Limits.{most_hands, greatest_depth}
 use Rattle.private_store.specs.Hands.{Hand, same_hand, hangs_on, ground, new_hand, with_hand, is_withdrawn, is_given_by}
-use Rattle.private_store.proofs.Tests.{both, both_left, both_right, none_some, or_false_left, or_false_right, refuted}
+use Rattle.store_facts.proofs.Tests.{both, both_left, both_right, none_some, or_false_left, or_false_right, refuted}
 use Rattle.grants.specs.Table.{AreHands, given_by, is_no_taker, limits_check, hung_check, grant_check, is_hung, may_stand, all_stand}
 use Rattle.grants.proofs.Alike.{alike, ids_same, any_more, found, numbers_equal}
 use Rattle.grants.proofs.Left.{filter_both}

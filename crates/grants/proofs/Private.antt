@@ -21,9 +21,9 @@ use Rattle.private_store.specs.Copies.{visible}
 use Rattle.private_store.specs.Commands.{is_sealed_primary, has_given, gives, oldest, grant_own, grant_foreign, grant, withdraw}
 use Rattle.private_store.specs.Events.{hands_of, received}
 use Rattle.private_store.specs.Hands.{Hand, ground, new_hand, is_withdrawn, is_given_by}
-use Rattle.obj_id.proofs.SameIds.{same_id-equal}
-use Rattle.private_store.proofs.Rows.{at-put}
-use Rattle.private_store.proofs.Tests.{both, false_true}
+use Rattle.store_facts.proofs.Ids.{same_id-equal}
+use Rattle.store_facts.proofs.Rows.{at-put}
+use Rattle.store_facts.proofs.Tests.{both, false_true}
 use Rattle.grants.specs.Table.{shows, given_by, is_no_taker, limits_check, hung_check, grant_check, withdraw_check}
 use Rattle.grants.specs.Private.{as_given, as_taken, seen_by, HasHands, unless, without_given, RefusesAlike, GrantsAlike}
 use Rattle.grants.proofs.Alike.{numbers_equal}

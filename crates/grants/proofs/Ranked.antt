@@ -11,9 +11,9 @@ use Rattle.std.proofs.Math.Seq.{drop-cons}
 use Rattle.std.proofs.lemmas.List.Folds.{list_any-append}
 use Rattle.std.proofs.lemmas.Map.Lookups.{exact_unsigned}
 use Rattle.obj_id.specs.Ids.{id_cmp}
-use Rattle.obj_id.proofs.SameIds.{same_id-equal}
+use Rattle.store_facts.proofs.Ids.{same_id-equal}
 use Rattle.private_store.specs.Hands.{Hand, same_hand, hangs_on, hand_cmp, hand_placed, hands_sorted, ended_from}
-use Rattle.private_store.proofs.Tests.{true_false, both, both_left, both_right, not_true, refuted}
+use Rattle.store_facts.proofs.Tests.{true_false, both, both_left, both_right, not_true, refuted}
 use Rattle.grants.specs.declared.hands.Rank.{Rank}
 use Rattle.grants.specs.Links.{rank_of, are_apart}
 use Rattle.grants.specs.Table.{AreHands, is_no_taker, is_hung, may_stand, all_stand}

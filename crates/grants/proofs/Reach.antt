@@ -6,10 +6,10 @@ use Rattle.std.specs.Option.{option_map_or}
 use Rattle.std.proofs.lemmas.Bool.Decides.{nat_tests}
 use Rattle.obj_id.specs.declared.ids.ObjectId.{ObjectId}
 use Rattle.obj_id.specs.Ids.{same_id}
-use Rattle.obj_id.proofs.SameIds.{same_id-equal, same_id-itself}
+use Rattle.store_facts.proofs.Ids.{same_id-equal, same_id-itself}
 use Rattle.private_store.specs.Limits.{greatest_depth}
 use Rattle.private_store.specs.Hands.{Hand, hangs_on, same_hand}
-use Rattle.private_store.proofs.Tests.{true_false, both, both_left, both_right, or_cases, or_left, or_right}
+use Rattle.store_facts.proofs.Tests.{true_false, both, both_left, both_right, or_cases, or_left, or_right}
 use Rattle.grants.specs.Table.{AreHands, is_first, shows, hangs_right, is_hung, is_no_taker, may_stand, all_stand}
 use Rattle.grants.specs.Chains.{one_is, leads, is_led_to, sees}
 use Rattle.grants.proofs.Alike.{numbers_equal}

@@ -9,13 +9,13 @@ use Rattle.std.specs.FinMap.Entries.{by_order, below_all, is_sorted-put}
 use Rattle.obj_id.specs.declared.ids.ObjectId.{ObjectId}
 use Rattle.obj_id.specs.declared.commands.GrantedItem.{GrantedItem}
 use Rattle.obj_id.specs.Ids.{id_cmp, same_id}
-use Rattle.obj_id.proofs.SameIds.{id_cmp-IsTotalOrder, id_cmp-IsAntisymmetric, same_id-equal, same_id-itself}
+use Rattle.store_facts.proofs.Ids.{id_cmp-IsTotalOrder, id_cmp-IsAntisymmetric, same_id-equal, same_id-itself}
 use Rattle.private_store.specs.Commands.{granted_items}
 use Rattle.private_store.specs.Hands.{Hand}
 use Rattle.private_store.specs.Shape.{Shape, Seen, HandTaken}
 use Rattle.private_store.specs.Tables.{ById, at, with_entry}
-use Rattle.private_store.proofs.Filling.{below_none}
-use Rattle.private_store.proofs.Tests.{both, and_left, and_right, none_some, true_T, T_true, less_is}
+use Rattle.store_facts.proofs.Filling.{below_none}
+use Rattle.store_facts.proofs.Tests.{both, and_left, and_right, none_some, true_T, T_true, less_is}
 use Rattle.grants.specs.Private.{as_taken, with_taken, taken_by}
 use Rattle.grants.specs.Table.{given_to, with_seen, seen_from, seen_list}
 

@@ -6,12 +6,12 @@ use Rattle.std.specs.FinMap.Entries.{same_entries, is_sorted-put}
 use Rattle.std.proofs.lemmas.List.{append-nil, append_assoc}
 use Rattle.obj_id.specs.declared.ids.ObjectId.{ObjectId}
 use Rattle.obj_id.specs.Ids.{id_cmp, same_id}
-use Rattle.obj_id.proofs.SameIds.{id_cmp-IsTotalOrder, id_cmp-IsAntisymmetric, same_id-equal}
+use Rattle.store_facts.proofs.Ids.{id_cmp-IsTotalOrder, id_cmp-IsAntisymmetric, same_id-equal}
 use Rattle.private_store.specs.Shape.{Shape, Seen, HandTaken}
 use Rattle.private_store.specs.Tables.{ById, at}
 use Rattle.private_store.specs.Hands.{Hand}
-use Rattle.private_store.proofs.Rows.{at-put}
-use Rattle.private_store.proofs.Tests.{T_true}
+use Rattle.store_facts.proofs.Rows.{at-put}
+use Rattle.store_facts.proofs.Tests.{T_true}
 use Rattle.grants.specs.Table.{shows, given_by, given_to}
 use Rattle.grants.specs.Private.{as_given, as_taken, seen_by, with_taken, taken_by, HasHands}
 use Rattle.grants.proofs.Private.{seen_hands, hands_seen, seen_more}

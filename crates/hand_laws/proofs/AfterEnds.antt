@@ -13,7 +13,7 @@ use Rattle.private_store.specs.Private.{Store, private_step, store_from}
 use Rattle.private_store.specs.Hands.{Hand, hands_ended, hands_left}
 use Rattle.grants.specs.Table.{AreHands, given_by}
 use Rattle.grants.specs.Private.{as_given, HasHands, told_ends}
-use Rattle.grants.proofs.Ends.{ends_alike}
+use Rattle.grants.proofs.ForCallers.{ends_alike}
 use Rattle.hand_laws.proofs.Halves.{taken_half, AreKnown, HasHalves, lengths_in, its_lengths, taken_rows, hands_halve}
 
 -- what the taker of a hand is told when it ends

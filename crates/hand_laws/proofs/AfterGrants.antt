@@ -18,10 +18,10 @@ use Rattle.private_store.specs.Commands.{gives, grant}
 use Rattle.private_store.specs.Events.{received}
 use Rattle.private_store.specs.Hands.{Hand, ground, new_hand}
 use Rattle.private_store.specs.Step.{step}
-use Rattle.private_store.proofs.Checks.{checked_past, checked_has, needing_has}
+use Rattle.store_facts.proofs.Checks.{checked_past, checked_has, needing_has}
 use Rattle.grants.specs.Table.{is_no_taker, limits_check, hung_check, grant_check}
 use Rattle.grants.specs.Private.{as_given, as_taken, HasHands, unless}
-use Rattle.grants.proofs.Private.{refuses_alike, made_for}
+use Rattle.grants.proofs.ForCallers.{refuses_alike, made_for}
 use Rattle.hand_laws.proofs.Halves.{given_half, taken_half, HasHalves, given_more, taken_more, received_hands, received_known}
 
 -- ---- an accepted grant

@@ -24,8 +24,8 @@ use Rattle.private_store.specs.declared.schedules.StepAnswer.{StepAnswer}
 use Rattle.private_store.specs.declared.schedules.Traced.{Traced}
 use Rattle.private_store.specs.Trace.{is_no_memory, reply_of, replies_of}
 use Rattle.private_store.specs.Shared.{shared_answer, answer_due, answers_due}
-use Rattle.private_store.proofs.Runs.{EachPrivate}
-use Rattle.private_store.proofs.Tests.{true_false, both_left, both_right}
+use Rattle.store_facts.proofs.Runs.{EachPrivate}
+use Rattle.store_facts.proofs.Tests.{true_false, both_left, both_right}
 use Rattle.hand_laws.specs.Standing.{is_told, ArePrivate}
 use Rattle.hand_laws.specs.Telling.{is_aside, Heard, all, whether, heard_of, heard, heard_where_due, Counted, counted, counting, ShowsAlike, OthersDontShow, OthersDontShowWhereDue}
 use Rattle.hand_laws.proofs.Histories.{all_told, told_back, trace_private, stand_until}

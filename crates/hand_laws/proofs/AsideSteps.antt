@@ -12,7 +12,7 @@ use Rattle.obj_id.specs.declared.commands.Reply.TheVariants as reply
 use Rattle.obj_id.specs.declared.refusals.Refusal.{Refusal}
 use Rattle.obj_id.specs.declared.refusals.Refusal.TheVariants.{Absent, NotGranted}
 use Rattle.obj_id.specs.Ids.{same_id}
-use Rattle.obj_id.proofs.SameIds.{same_id-equal}
+use Rattle.store_facts.proofs.Ids.{same_id-equal}
 use Rattle.private_store.specs.declared.inputs.Judged.{Judged}
 use Rattle.private_store.specs.declared.inputs.Judged.TheVariants as judged
 use Rattle.private_store.specs.Tables.{at}
@@ -24,8 +24,8 @@ use Rattle.private_store.specs.Commands.{grant, grant_own, grant_foreign, withdr
 use Rattle.private_store.specs.Events.{withdrawn, is_hand, hand_ended, hangs_on}
 use Rattle.private_store.specs.Step.{commanded, step}
 use Rattle.private_store.specs.Kept.{IsShapeKept}
-use Rattle.private_store.proofs.Checks.{checked_has, needing_has}
-use Rattle.private_store.proofs.Tests.{true_false, true_T, not_true, both, both_left, both_right}
+use Rattle.store_facts.proofs.Checks.{checked_has, needing_has}
+use Rattle.store_facts.proofs.Tests.{true_false, true_T, not_true, both, both_left, both_right}
 use Rattle.hand_laws.proofs.WhatEnds.{and_no}
 use Rattle.hand_laws.proofs.OwnParts.{own_hands, own_part, HasOwn}
 

@@ -4,8 +4,8 @@ use Rattle.std.specs.List.{list_all}
 use Rattle.std.proofs.lemmas.List.{reverse-append}
 use Rattle.std.proofs.lemmas.List.Folds.{list_all-append}
 use Rattle.private_store.specs.declared.schedules.Traced.{Traced}
-use Rattle.private_store.proofs.Runs.{EachPrivate, IsPrivate-each}
-use Rattle.private_store.proofs.Tests.{both_left}
+use Rattle.store_facts.proofs.Runs.{EachPrivate, IsPrivate-each}
+use Rattle.store_facts.proofs.Tests.{both_left}
 use Rattle.hand_laws.specs.Standing.{is_told, ArePrivate}
 use Rattle.hand_laws.proofs.Histories.{trace_private}
 

@@ -17,7 +17,7 @@ use Rattle.private_store.specs.declared.inputs.Input.TheVariants.{Arrive}
 use Rattle.private_store.specs.Private.{Store, private_step, private_outcome, store_from, view_of, no_store}
 use Rattle.private_store.specs.Cluster.{Cluster, ClusterInput, at_node, deliver, cluster_step, cluster_from, input_at, moved_at, unmoved, handed_over, handed_to_directory, message_at, damaged, arrival_of, no_cluster}
 use Rattle.private_store.specs.Contents.{chunk_verdict, source_in, pull_matches}
-use Rattle.private_store.proofs.Tests.{none_some, some_value}
+use Rattle.store_facts.proofs.Tests.{none_some, some_value}
 use Rattle.hand_laws.proofs.HandsStay.{SameHands, same_hands}
 use Rattle.hand_laws.proofs.EachInput.{located_same, chunk_same, pull_same, not_here_same}
 

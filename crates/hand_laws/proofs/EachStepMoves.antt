@@ -26,13 +26,13 @@ use Rattle.private_store.specs.Private.{Store, private_step, private_outcome, st
 use Rattle.private_store.specs.Cluster.{Cluster, at_node, deliver, cluster_step, moved_at, unmoved, Told, told, told_from}
 use Rattle.private_store.specs.Hands.{Hand, ground, new_hand, with_hand, hands_ended, hands_left, is_given_by, is_withdrawn, is_of_task}
 use Rattle.private_store.specs.Trace.{Given, hands_at, hands_step, own_input, notes, for_job, cluster_until, inputs_until, reply_of, is_answered, is_no_memory, received_note, withdrawn_note}
-use Rattle.private_store.proofs.Tests.{true_false, none_some, some_value, or_false_left, or_false_right}
+use Rattle.store_facts.proofs.Tests.{true_false, none_some, some_value, or_false_left, or_false_right}
 use Rattle.grants.specs.Table.{given_by, grant_check}
 use Rattle.grants.specs.Private.{as_given}
 use Rattle.hand_laws.proofs.WhatEnds.{filter_same, stands_filtered}
 use Rattle.hand_laws.proofs.HandsStay.{SameHands}
 use Rattle.hand_laws.proofs.Halves.{given_half, HasHalves, lengths_in, its_lengths, halves_have}
-use Rattle.grants.proofs.Ends.{filter_map}
+use Rattle.grants.proofs.ForCallers.{filter_map, pushed_are_hands, left_are_hands, made_for}
 use Rattle.hand_laws.proofs.AfterEnds.{end_told, told_to}
 use Rattle.hand_laws.proofs.ClusterInputs.{StillInput, still_at, still_deliver}
 use Rattle.std.proofs.Common.{length}
@@ -46,13 +46,10 @@ use Rattle.private_store.specs.Shape.{Change}
 use Rattle.private_store.specs.Events.{is_live}
 use Rattle.private_store.specs.declared.inputs.Judged.TheVariants as judged
 use Rattle.private_store.specs.Trace.{is_out, granted_bytes}
-use Rattle.private_store.proofs.Tests.{both_left}
+use Rattle.store_facts.proofs.Tests.{both_left}
 use Rattle.grants.specs.Table.{is_no_taker, limits_check, hung_check}
-use Rattle.grants.proofs.Made.{pushed_are_hands}
-use Rattle.grants.proofs.Left.{left_are_hands}
 use Rattle.hand_laws.proofs.EachInput.{is_of_hands_command, call_still, begin_same, requota_same, answer_same, grant_step, withdraw_step, end_task_step, GrantDone, left, gave, EndDone, ended, JobEndDone, was_dead, is_over, job_end_step, keeps_others, keeps_other_tasks}
 use Rattle.hand_laws.proofs.AfterGrants.{granted_step, giver_fits, taker_fits, other_fits}
-use Rattle.grants.proofs.Private.{made_for}
 use Rattle.hand_laws.proofs.StoresKept.{store_kept}
 use Rattle.hand_laws.proofs.Moving.{Stand, Moved, Answers, still_moves, node_moves, told_notes, Ends, ends_fit, own_answer}
 

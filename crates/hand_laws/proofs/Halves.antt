@@ -5,16 +5,16 @@ use Rattle.std.proofs.lemmas.List.{map-append, append-nil}
 use Rattle.std.proofs.lemmas.List.Elements.{filter-append}
 use Rattle.obj_id.specs.declared.ids.ObjectId.{ObjectId}
 use Rattle.obj_id.specs.Ids.{same_id}
-use Rattle.obj_id.proofs.SameIds.{same_id-equal}
+use Rattle.store_facts.proofs.Ids.{same_id-equal}
 use Rattle.private_store.specs.Tables.{at}
 use Rattle.private_store.specs.Shape.{Shape, Seen, HandGiven, HandTaken}
 use Rattle.private_store.specs.Events.{hands_of, received}
 use Rattle.private_store.specs.Hands.{Hand, is_given_by}
-use Rattle.private_store.proofs.Rows.{at-put}
-use Rattle.private_store.proofs.Tests.{none_some, some_value}
+use Rattle.store_facts.proofs.Rows.{at-put}
+use Rattle.store_facts.proofs.Tests.{none_some, some_value}
 use Rattle.grants.specs.Table.{shows, given_by}
 use Rattle.grants.specs.Private.{as_given, as_taken, seen_by, HasHands}
-use Rattle.grants.proofs.Private.{seen_hands, hands_seen}
+use Rattle.grants.proofs.ForCallers.{seen_hands, hands_seen}
 
 -- what the job gave, oldest first
 abbrev pub given_half : ℕ → List Hand → List HandGiven

@@ -18,7 +18,7 @@ use Rattle.private_store.specs.Room.{Plan, fits, wait, full, busy, evict, spill,
 use Rattle.private_store.specs.Change.{refused, done, checked, needing, sending, in_room, erasing, settled, doomed, doom}
 use Rattle.private_store.specs.Commands.{create, created, write, seal, get, get_sealed, refusal_of, get_away, get_fetching, get_copy, begin_fetch, fetch_begun, begin_pull, restore, restoring, read, release, unpin, borrow, give_up, delete, scoped, at_each, then_change, give_up_one, leave_one, has_borrower, without_borrower, with_holds, peek, leave}
 use Rattle.private_store.specs.Events.{begin, requota}
-use Rattle.private_store.proofs.Checks.{checked_has, needing_has}
+use Rattle.store_facts.proofs.Checks.{checked_has, needing_has}
 
 -- what the job gave and was given is the same
 pub record SameHands (store after : Shape) : Type 0 where

@@ -4,7 +4,7 @@ use Rattle.std.specs.List.{list_any}
 use Rattle.obj_id.specs.declared.commands.CopyState.{CopyState}
 use Rattle.obj_id.specs.declared.commands.CopyState.TheVariants.{Created, Sealed, Restoring, Fetching, Away}
 use Rattle.obj_id.specs.Ids.{same_id}
-use Rattle.obj_id.proofs.SameIds.{same_id-equal, same_id-itself}
+use Rattle.store_facts.proofs.Ids.{same_id-equal, same_id-itself}
 use Rattle.private_store.specs.declared.schedules.Traced.{Traced}
 use Rattle.private_store.specs.Tables.{at}
 use Rattle.private_store.specs.Shape.{Copy, Shape, Fetch}
@@ -12,7 +12,7 @@ use Rattle.private_store.specs.Copies.{is_sealed}
 use Rattle.private_store.specs.Kept.{IsShapeKept, has_hand, has_extent}
 use Rattle.private_store.specs.Hands.{Hand, is_given_by}
 use Rattle.private_store.specs.Trace.{hands_at, inputs_until}
-use Rattle.private_store.proofs.Tests.{true_false, both, both_left}
+use Rattle.store_facts.proofs.Tests.{true_false, both, both_left}
 use Rattle.grants.specs.Table.{AreHands, given_by}
 use Rattle.hand_laws.specs.Ending.{stands}
 use Rattle.hand_laws.specs.Standing.{ArePrivate}
@@ -20,7 +20,7 @@ use Rattle.grants.specs.Private.{as_given}
 use Rattle.hand_laws.specs.Held.{IsHeldOnTo, HoldsOn}
 use Rattle.hand_laws.proofs.WhatEnds.{hung, on_nothing, on, any_of, at_most_three}
 use Rattle.hand_laws.proofs.Halves.{HasHalves}
-use Rattle.grants.proofs.Ends.{any_map, any_filter}
+use Rattle.grants.proofs.ForCallers.{any_map, any_filter}
 use Rattle.hand_laws.proofs.StoresKept.{store_kept}
 use Rattle.hand_laws.proofs.Histories.{stand_of}
 

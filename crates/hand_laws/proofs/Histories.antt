@@ -22,8 +22,8 @@ use Rattle.private_store.specs.Private.{no_store, private_outcome}
 use Rattle.private_store.specs.Cluster.{Cluster, ClusterInput, Told, at_node, deliver, cluster_step, moved_at, unmoved, told, told_from, no_cluster}
 use Rattle.private_store.specs.Hands.{Hand}
 use Rattle.private_store.specs.Trace.{Given, notes, own_input, for_job, cluster_until, inputs_until, reply_of, replies_of, is_answered, is_no_memory, is_out, withdrawn_note}
-use Rattle.private_store.proofs.Runs.{inputs_now, cluster_until-step, told_from-append, EachPrivate}
-use Rattle.private_store.proofs.Tests.{none_some, true_false, both_left, both_right}
+use Rattle.store_facts.proofs.Runs.{inputs_now, cluster_until-step, told_from-append, EachPrivate}
+use Rattle.store_facts.proofs.Tests.{none_some, true_false, both_left, both_right}
 use Rattle.hand_laws.specs.Standing.{is_told, ArePrivate}
 use Rattle.hand_laws.proofs.Halves.{HasHalves}
 use Rattle.hand_laws.proofs.ClusterInputs.{no_stores}

@@ -5,9 +5,9 @@ use Rattle.std.specs.Ordering.{is_lt, ordering_reverse}
 use Rattle.std.specs.declared.cmp.Ordering.{Ordering}
 use Rattle.std.specs.declared.cmp.Ordering.TheVariants.{Less, Equal, Greater}
 use Rattle.std.proofs.lemmas.Cmp.{nat_cmp_total, on_total, then_total, alike_right}
-use Rattle.obj_id.proofs.SameIds.{id_cmp-IsTotalOrder}
+use Rattle.store_facts.proofs.Ids.{id_cmp-IsTotalOrder}
 use Rattle.private_store.specs.Hands.{Hand, hand_cmp, hand_placed, hands_sorted}
-use Rattle.private_store.proofs.Tests.{true_false, both, both_left, both_right}
+use Rattle.store_facts.proofs.Tests.{true_false, both, both_left, both_right}
 use Rattle.hand_laws.specs.Ending.{rises_from, rises}
 
 hand_cmp_total : IsTotalOrder hand_cmp

@@ -16,7 +16,7 @@ use Rattle.private_store.specs.Contents.{bytes_at}
 use Rattle.private_store.specs.Private.{Store, private_step}
 use Rattle.private_store.specs.Cluster.{Cluster, ClusterInput, at_node, deliver, cluster_step, cluster_from, no_cluster, handed_over, handed_to_directory, message_at, damaged, arrival_of, input_at, unmoved}
 use Rattle.private_store.specs.Trace.{hands_at, inputs_until, cluster_until}
-use Rattle.private_store.proofs.Tests.{true_false}
+use Rattle.store_facts.proofs.Tests.{true_false}
 use Rattle.grants.specs.Private.{HasHands}
 use Rattle.hand_laws.specs.Standing.{ArePrivate, HaveHands, own_lengths}
 use Rattle.hand_laws.proofs.ClusterInputs.{input_stores}

@@ -27,5 +27,6 @@ mod OtherTables
 mod Telling
 mod Withdrawals
 mod SharedAlike
-pub mod Agreeing
-pub mod Moments
+mod Agreeing
+mod Moments
+pub mod ForCallers

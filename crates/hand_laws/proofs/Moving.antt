@@ -21,7 +21,7 @@ use Rattle.private_store.specs.Private.{Store, private_step, private_outcome, st
 use Rattle.private_store.specs.Cluster.{Cluster, ClusterInput, at_node, cluster_step, cluster_from, moved_at, unmoved, Told, told, told_from}
 use Rattle.private_store.specs.Hands.{Hand, hands_left, is_given_by}
 use Rattle.private_store.specs.Trace.{Given, hands_at, hands_step, own_input, notes, for_job, cluster_until, inputs_until, reply_of, is_answered, is_no_memory, withdrawn_note}
-use Rattle.private_store.proofs.Runs.{inputs_now}
+use Rattle.store_facts.proofs.Runs.{inputs_now}
 use Rattle.grants.specs.Table.{AreHands, given_by}
 use Rattle.grants.specs.Private.{as_given}
 use Rattle.hand_laws.proofs.WhatEnds.{filter_same, stands_filtered}

@@ -6,14 +6,12 @@ use Rattle.std.specs.Option.{option_map_or}
 use Rattle.std.proofs.lemmas.Bool.{eqb-true}
 use Rattle.obj_id.specs.declared.ids.ObjectId.{ObjectId}
 use Rattle.obj_id.specs.Ids.{same_id}
-use Rattle.obj_id.proofs.SameIds.{same_id-equal}
+use Rattle.store_facts.proofs.Ids.{same_id-equal}
 use Rattle.private_store.specs.Limits.{greatest_depth}
 use Rattle.private_store.specs.Hands.{Hand, ground, new_hand, with_hand, hangs_on, hands_sorted, hands_ended, hands_left}
-use Rattle.private_store.proofs.Tests.{both_left, neither, refuted}
+use Rattle.store_facts.proofs.Tests.{both_left, neither, refuted}
 use Rattle.grants.specs.Table.{AreHands}
-use Rattle.grants.proofs.Ends.{any_filter, filter_filter, filter_swap}
-use Rattle.grants.proofs.Private.{made_for}
-use Rattle.grants.proofs.Left.{filter_both, append_nothing}
+use Rattle.grants.proofs.ForCallers.{any_filter, filter_filter, filter_swap, made_for, filter_both, append_nothing}
 use Rattle.hand_laws.specs.Ending.{ends_within, ends_with}
 use Rattle.hand_laws.proofs.InOrder.{filter_sorted}
 use Rattle.hand_laws.proofs.WhatEnds.{and_no, any_same, any_none, filter_same, stands_filtered, ends_along}

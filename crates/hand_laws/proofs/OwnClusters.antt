@@ -17,7 +17,7 @@ use Rattle.private_store.specs.Private.{Store, view_of, private_outcome, private
 use Rattle.private_store.specs.Shared.{AskedWork, outcome_works}
 use Rattle.private_store.specs.Cluster.{Cluster, ClusterOutcome, ClusterInput, at_node, deliver, cluster_step, cluster_from, input_at, moved_at, unmoved, handed_over, handed_to_directory, message_at, messages_between, damaged, arrival_of, posted}
 use Rattle.private_store.specs.Trace.{Given, for_job}
-use Rattle.private_store.proofs.Tests.{true_false, none_some, some_value}
+use Rattle.store_facts.proofs.Tests.{true_false, none_some, some_value}
 use Rattle.hand_laws.proofs.ClusterInputs.{input_stores}
 use Rattle.hand_laws.proofs.OverStores.{Each}
 use Rattle.hand_laws.proofs.StoresKept.{AllHaveCome, come_kept, come_job, step_comes}

@@ -9,14 +9,14 @@ use Rattle.obj_id.specs.declared.refusals.Refusal.{Refusal}
 use Rattle.obj_id.specs.declared.refusals.Refusal.TheVariants.{Pending, DeviceFailed, TooMany}
 use Rattle.obj_id.specs.Ids.{same_id}
 use Rattle.obj_id.specs.Kinds.{is_primary}
-use Rattle.obj_id.proofs.SameIds.{same_id-equal}
+use Rattle.store_facts.proofs.Ids.{same_id-equal}
 use Rattle.private_store.specs.Limits.{has_numbers}
 use Rattle.private_store.specs.Tables.{at}
 use Rattle.private_store.specs.Shape.{Copy, Shape, Change, Sending, HandGiven}
 use Rattle.private_store.specs.Copies.{is_granted, is_idle, is_held, is_working, is_evictable, is_passing, is_spillable, may_evict, may_spill, may_pass}
 use Rattle.private_store.specs.Room.{Room, Plan, fits, wait, full, busy, evict, spill, shortest, in_order, offset_without, victims, spilled, spill_plan, plan, set_copy, drop_copy, evicted, asked, no_room, spill_room, evict_room, room_by, make_room}
 use Rattle.private_store.specs.Change.{refused, done, checked, needing, sending, in_room, settled, doomed, doom}
-use Rattle.private_store.proofs.Tests.{refuted}
+use Rattle.store_facts.proofs.Tests.{refuted}
 
 -- the hands of own objects
 abbrev pub own_hands : ℕ → List HandGiven → List HandGiven

@@ -28,11 +28,11 @@ use Rattle.private_store.specs.Change.{refused, done, checked, needing, sending,
 use Rattle.private_store.specs.Commands.{create, created, write, seal, get, get_copy, get_sealed, get_away, get_fetching, begin_fetch, begin_pull, restore, restoring, refusal_of, read, release, unpin, borrow, give_up, delete, end_task, withdraw, leave, scoped, has_borrower, without_borrower, with_holds, holds_of, at_each, then_change, give_up_one, leave_one, of_task, task_ended}
 use Rattle.private_store.specs.Events.{begin, end_job_here, answer, written, without_work, read_back, with_fetch, fetch_of, located, located_copy, chunk_arrived, chunk_taken, fetch_failed, is_missing, not_here_arrived, quiet, pull_answer, pull_arrived}
 use Rattle.private_store.specs.Step.{owned, commanded, step}
-use Rattle.private_store.proofs.Tests.{true_false, both, both_left, both_right}
-use Rattle.obj_id.proofs.SameIds.{same_id-itself}
+use Rattle.store_facts.proofs.Tests.{true_false, both, both_left, both_right}
+use Rattle.store_facts.proofs.Ids.{same_id-itself}
 use Rattle.obj_id.specs.declared.commands.Kind.{Kind}
 use Rattle.private_store.specs.Limits.{has_numbers}
-use Rattle.grants.proofs.Ends.{filter_filter}
+use Rattle.grants.proofs.ForCallers.{filter_filter}
 use Rattle.hand_laws.proofs.HandsStay.{same_hands, doom_still, give_up_one_still, leave_one_still, at_each_still}
 use Rattle.hand_laws.proofs.OwnParts.{make_room_own, own_hands, own_part, own_change, IsOwn, HasOwn, any_own, granted_own, settled_own, in_room_own, checked_own, needing_own, sending_own, doom_own}
 

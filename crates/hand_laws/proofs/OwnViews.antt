@@ -27,8 +27,8 @@ use Rattle.private_store.specs.Step.{step, reordered}
 use Rattle.private_store.specs.Contents.{View, judge, kept, keeps_digest, no_digest, brought, bytes_brought, digest_brought, bytes_told, whole_reply}
 use Rattle.private_store.specs.Private.{posts_of, pull_posts, pull_of, chunk_posts, outcome, view_step}
 use Rattle.private_store.specs.Kept.{IsViewKept}
-use Rattle.private_store.proofs.Filling.{resides, zeros}
-use Rattle.private_store.proofs.Tests.{and_left, and_right, true_T, true_false}
+use Rattle.store_facts.proofs.Filling.{resides, zeros}
+use Rattle.store_facts.proofs.Tests.{and_left, and_right, true_T, true_false}
 use Rattle.hand_laws.proofs.OwnParts.{own_hands, own_part, own_change, HasOwn}
 use Rattle.hand_laws.proofs.OwnSteps.{is_plain, step_own}
 use Rattle.hand_laws.proofs.AsideSteps.{IsGrant, left, gave, grant_is, is_aside_input, step_aside}

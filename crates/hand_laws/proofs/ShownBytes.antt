@@ -11,7 +11,7 @@ use Rattle.obj_id.specs.declared.ids.JobNo.{JobNo}
 use Rattle.obj_id.specs.declared.commands.Command.TheVariants as command
 use Rattle.obj_id.specs.declared.commands.Reply.TheVariants as reply
 use Rattle.obj_id.specs.Ids.{same_id}
-use Rattle.obj_id.proofs.SameIds.{same_id-equal, same_id-itself}
+use Rattle.store_facts.proofs.Ids.{same_id-equal, same_id-itself}
 use Rattle.private_store.specs.declared.inputs.Input.{Input}
 use Rattle.private_store.specs.declared.inputs.Input.TheVariants as input
 use Rattle.private_store.specs.declared.schedules.Event.TheVariants as event
@@ -25,7 +25,7 @@ use Rattle.private_store.specs.Shape.{Copy, Shape, Seen, Change}
 use Rattle.private_store.specs.Copies.{is_sealed}
 use Rattle.private_store.specs.Events.{hands_of, withdrawn, is_hand, hand_ended}
 use Rattle.private_store.specs.Kept.{IsViewKept}
-use Rattle.private_store.proofs.BytesStay.{bytes_stay}
+use Rattle.store_facts.proofs.BytesStay.{bytes_stay}
 use Rattle.hand_laws.proofs.StoresKept.{HasCome, come_more, come_kept, all_come}
 use Rattle.private_store.specs.Contents.{bytes_at}
 use Rattle.private_store.specs.Private.{Store, private_step, view_of}
@@ -34,13 +34,13 @@ use Rattle.private_store.specs.Hands.{Hand, same_hand, ended_from, hands_left}
 use Rattle.private_store.specs.Commands.{grant_own, grant_foreign}
 use Rattle.private_store.specs.Step.{step}
 use Rattle.private_store.specs.declared.inputs.Judged.TheVariants as judged
-use Rattle.private_store.proofs.Checks.{checked_has, needing_has}
+use Rattle.store_facts.proofs.Checks.{checked_has, needing_has}
 use Rattle.hand_laws.proofs.Halves.{HasHalves}
 use Rattle.hand_laws.proofs.HeldOnTo.{held, was_given}
 use Rattle.hand_laws.proofs.WhatIsSeen.{none_taken, some_taken}
 use Rattle.private_store.specs.Trace.{Given, ends, granted_bytes, hands_at, hands_step, own_input, notes, for_job, cluster_until, inputs_until}
-use Rattle.private_store.proofs.Runs.{inputs_now, cluster_until-step, cluster_from-append, EachPrivate}
-use Rattle.private_store.proofs.Tests.{true_false, none_some, some_value, both, both_left}
+use Rattle.store_facts.proofs.Runs.{inputs_now, cluster_until-step, cluster_from-append, EachPrivate}
+use Rattle.store_facts.proofs.Tests.{true_false, none_some, some_value, both, both_left}
 use Rattle.grants.specs.Table.{shows}
 use Rattle.hand_laws.specs.Ending.{stands}
 use Rattle.hand_laws.specs.Standing.{ArePrivate}

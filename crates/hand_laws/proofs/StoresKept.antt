@@ -13,8 +13,8 @@ use Rattle.private_store.specs.Private.{Store, private_step, store_from, view_of
 use Rattle.private_store.specs.Contents.{judge}
 use Rattle.private_store.specs.Cluster.{Cluster, ClusterInput, at_node, deliver, cluster_step, cluster_from, input_at, unmoved, handed_over, handed_to_directory, message_at, damaged, arrival_of, no_cluster}
 use Rattle.private_store.specs.Kept.{IsViewKept}
-use Rattle.private_store.proofs.OwnJob.{step_keeps_job}
-use Rattle.private_store.proofs.StepsKept.{run_keeps}
+use Rattle.store_facts.proofs.OwnJob.{step_keeps_job}
+use Rattle.store_facts.proofs.StepsKept.{run_keeps}
 use Rattle.hand_laws.proofs.ClusterInputs.{input_stores, some_of_map, no_stores}
 
 one_more : (n : ℕ) (s : Store) (xs : List Input) (x : Input) → store_from n s (xs ++ x ∷ []) ≡ private_step n (store_from n s xs) x

@@ -9,7 +9,7 @@ use Rattle.obj_id.specs.declared.commands.Command.TheVariants as command
 use Rattle.obj_id.specs.declared.messages.Arrival.TheVariants as arrival
 use Rattle.obj_id.specs.declared.messages.PeerMessage.TheVariants as peer
 use Rattle.obj_id.specs.Ids.{same_id}
-use Rattle.obj_id.proofs.SameIds.{same_id-equal}
+use Rattle.store_facts.proofs.Ids.{same_id-equal}
 use Rattle.private_store.specs.declared.inputs.Input.{Input}
 use Rattle.private_store.specs.declared.inputs.Input.TheVariants as input
 use Rattle.private_store.specs.declared.inputs.Judged.TheVariants as judged
@@ -19,8 +19,8 @@ use Rattle.private_store.specs.Events.{hands_of, withdrawn, is_hand, hand_ended,
 use Rattle.private_store.specs.Step.{step}
 use Rattle.private_store.specs.Contents.{bytes_at, brief, brought, bytes_received, kept, work_verdict, source_in, pull_matches, chunk_verdict}
 use Rattle.private_store.specs.Private.{Store, private_step, view_of}
-use Rattle.private_store.proofs.Rows.{at-put, at-drop}
-use Rattle.private_store.proofs.Tests.{true_false}
+use Rattle.store_facts.proofs.Rows.{at-put, at-drop}
+use Rattle.store_facts.proofs.Tests.{true_false}
 use Rattle.hand_laws.proofs.EachInput.{call_still, begin_same, requota_same, answer_same, located_same, chunk_same, pull_same, not_here_same, grant_step, withdraw_step, end_task_step, job_end_step, GrantDone, left, gave, EndDone, ended, JobEndDone, was_dead, is_over, keeps_others, keeps_other_tasks}
 use Rattle.hand_laws.proofs.OverStores.{is_own}
 

@@ -13,7 +13,7 @@ use Rattle.obj_id.specs.declared.commands.Command.TheVariants as command
 use Rattle.obj_id.specs.declared.commands.Reply.{Reply}
 use Rattle.obj_id.specs.declared.commands.Reply.TheVariants as reply
 use Rattle.obj_id.specs.Ids.{same_id}
-use Rattle.obj_id.proofs.SameIds.{same_id-equal}
+use Rattle.store_facts.proofs.Ids.{same_id-equal}
 use Rattle.private_store.specs.declared.inputs.Input.TheVariants as input
 use Rattle.private_store.specs.declared.schedules.Event.TheVariants as event
 use Rattle.private_store.specs.declared.schedules.Step.{Step}
@@ -28,10 +28,10 @@ use Rattle.private_store.specs.Cluster.{cluster_step, at_node, deliver, cluster_
 use Rattle.private_store.specs.Hands.{Hand, new_hand, with_hand, hands_ended, hands_left, is_withdrawn, is_of_task, is_given_by}
 use Rattle.private_store.specs.Trace.{Given, hands_at, hands_step, own_input, notes, for_job, granted_bytes, received_note, withdrawn_note, inputs_until, cluster_until, is_out, out_after, is_no_memory, reply_of, replies_of}
 use Rattle.private_store.specs.Shared.{lives_after, lives_step, is_admission, taken_at, outcome_works, works_asked_by, asked_by, leaves, waiting}
-use Rattle.private_store.proofs.Runs.{cluster_until-step, cluster_from-append}
-use Rattle.private_store.proofs.Tests.{true_false, none_some, some_value, both_left, both_right, not_true, refuted}
+use Rattle.store_facts.proofs.Runs.{cluster_until-step, cluster_from-append}
+use Rattle.store_facts.proofs.Tests.{true_false, none_some, some_value, both_left, both_right, not_true, refuted}
 use Rattle.grants.specs.Table.{AreHands}
-use Rattle.grants.proofs.Private.{made_for}
+use Rattle.grants.proofs.ForCallers.{made_for}
 use Rattle.hand_laws.specs.Standing.{is_told}
 use Rattle.hand_laws.specs.Telling.{is_of_others, is_aside}
 use Rattle.hand_laws.proofs.WhatEnds.{stands_after}

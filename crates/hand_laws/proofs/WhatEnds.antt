@@ -7,14 +7,12 @@ use Rattle.std.specs.Option.{option_map_or}
 use Rattle.std.proofs.lemmas.Bool.Decides.{nat_tests}
 use Rattle.std.proofs.lemmas.List.Folds.{list_any-append}
 use Rattle.obj_id.specs.Ids.{same_id}
-use Rattle.obj_id.proofs.SameIds.{same_id-equal}
+use Rattle.store_facts.proofs.Ids.{same_id-equal}
 use Rattle.private_store.specs.Limits.{greatest_depth}
 use Rattle.private_store.specs.Hands.{Hand, same_hand, hangs_on, ended_from, hands_sorted}
-use Rattle.private_store.proofs.Tests.{true_false, both, both_left, both_right, or_cases, or_left, or_right, or_false, refuted}
+use Rattle.store_facts.proofs.Tests.{true_false, both, both_left, both_right, or_cases, or_left, or_right, or_false, refuted}
 use Rattle.grants.specs.Table.{AreHands, is_no_taker, hangs_right, is_hung, may_stand, all_stand}
-use Rattle.grants.proofs.Alike.{same_alike, same_itself, same_through, numbers_equal}
-use Rattle.grants.proofs.Left.{apart, filter_both, append_nothing}
-use Rattle.grants.proofs.Ends.{any_filter}
+use Rattle.grants.proofs.ForCallers.{same_alike, same_itself, same_through, numbers_equal, apart, filter_both, append_nothing, any_filter}
 use Rattle.hand_laws.proofs.InOrder.{sorted_rises}
 use Rattle.hand_laws.specs.Ending.{ends_within, ends_with, stands, EndsAlong}
 

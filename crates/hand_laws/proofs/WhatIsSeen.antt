@@ -27,13 +27,13 @@ use Rattle.private_store.specs.Contents.{View, whole_reply}
 use Rattle.private_store.specs.Private.{Store, view_of}
 use Rattle.private_store.specs.Hands.{Hand, same_hand, hands_left, hands_ended}
 use Rattle.private_store.specs.Trace.{ends, hands_at, hands_by, notes_by, withdrawn_note}
-use Rattle.private_store.proofs.Tests.{true_false, none_some, both_left, both_right, or_false_left, or_false_right, not_true, refuted}
+use Rattle.store_facts.proofs.Tests.{true_false, none_some, both_left, both_right, or_false_left, or_false_right, not_true, refuted}
 use Rattle.grants.specs.Table.{AreHands, shows, is_no_taker, may_stand, all_stand, is_hung}
-use Rattle.private_store.proofs.Checks.{checked-nil, checked-true, checked-false, needing-none, needing-some}
-use Rattle.obj_id.proofs.SameIds.{same_id-equal}
+use Rattle.store_facts.proofs.Checks.{checked-nil, checked-true, checked-false, needing-none, needing-some}
+use Rattle.store_facts.proofs.Ids.{same_id-equal}
 use Rattle.obj_id.specs.declared.commands.Reply.{Reply}
 use Rattle.private_store.specs.declared.inputs.Input.{Input}
-use Rattle.grants.proofs.Reach.{seen_where_led}
+use Rattle.grants.proofs.ForCallers.{seen_where_led}
 use Rattle.hand_laws.specs.Ending.{stands, EndsThere}
 use Rattle.hand_laws.specs.Standing.{ArePrivate, is_hidden, SeesWhatIsLed}
 use Rattle.grants.specs.Private.{as_taken}

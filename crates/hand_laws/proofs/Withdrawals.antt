@@ -10,7 +10,7 @@ use Rattle.obj_id.specs.declared.commands.Reply.{Reply}
 use Rattle.obj_id.specs.declared.commands.Reply.TheVariants as reply
 use Rattle.obj_id.specs.declared.refusals.Refusal.TheVariants.{NotAdmitted, NotGranted}
 use Rattle.obj_id.specs.Ids.{same_id}
-use Rattle.obj_id.proofs.SameIds.{same_id-equal}
+use Rattle.store_facts.proofs.Ids.{same_id-equal}
 use Rattle.private_store.specs.declared.inputs.Input.TheVariants as input
 use Rattle.private_store.specs.declared.schedules.Traced.{Traced}
 use Rattle.private_store.specs.Shape.{HandGiven}
@@ -23,7 +23,7 @@ use Rattle.private_store.specs.Hands.{Hand, is_given_by}
 use Rattle.private_store.specs.Trace.{hands_at, cluster_until}
 use Rattle.grants.specs.Table.{given_by}
 use Rattle.grants.specs.Private.{as_given}
-use Rattle.grants.proofs.Ends.{any_filter}
+use Rattle.grants.proofs.ForCallers.{any_filter}
 use Rattle.hand_laws.proofs.WhatEnds.{and_no, any_same}
 use Rattle.hand_laws.proofs.Moving.{Stand}
 use Rattle.hand_laws.proofs.OwnClusters.{part}

@@ -5,7 +5,7 @@ use Rattle.std.proofs.lemmas.Bool.{cases_lt}
 use Rattle.std.proofs.lemmas.Bool.Decides.{nat_tests}
 use Rattle.augmented_tree.specs.declared.Node.{Node}
 use Rattle.augmented_tree.specs.Shape.{items}
-use Rattle.augmented_tree.proofs.Kept.{ToldAt}
+use Rattle.augmented_tree.proofs.ForCallers.{ToldAt}
 use Rattle.hole_tree.specs.declared.Hole.{Hole}
 use Rattle.hole_tree.specs.Holes.{offset_of, IsAny, IsGreatest, greatest, first_fitting}
 

@@ -10,8 +10,8 @@ use Rattle.obj_id.specs.declared.works.JobKey.{JobKey}
 use Rattle.obj_id.specs.declared.works.Quota.{Quota}
 use Rattle.private_store.specs.Limits.{is_quota}
 use Rattle.private_store.specs.Extents.{rounded, is_apart}
-use Rattle.private_store.proofs.FirstFit.{first-free, first-units}
-use Rattle.private_store.proofs.Tests.{both_left, both_right}
+use Rattle.store_facts.proofs.FirstFit.{first-free, first-units}
+use Rattle.store_facts.proofs.Tests.{both_left, both_right}
 use Rattle.job_admission.specs.declared.Live.{Live}
 use Rattle.private_store.specs.Jobs.{same_job}
 use Rattle.job_admission.specs.Admissions.{Admissions, live_at, window_of, windows, place_for, admit_check, admitted, is_live_kept, AreKept}

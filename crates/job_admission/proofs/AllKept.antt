@@ -12,7 +12,7 @@ use Rattle.private_store.specs.Limits.{is_quota, is_window, widest_window, most_
 use Rattle.private_store.specs.Extents.{rounded, end_of, is_apart}
 use Rattle.private_store.specs.Kept.{is_placed}
 use Rattle.private_store.specs.Shared.{windows_without}
-use Rattle.private_store.proofs.Tests.{both, both_left, both_right, none_some, or_swaps, some_value, true_false}
+use Rattle.store_facts.proofs.Tests.{both, both_left, both_right, none_some, or_swaps, some_value, true_false}
 use Rattle.job_admission.specs.declared.Live.{Live}
 use Rattle.obj_id.specs.declared.refusals.Refusal.TheVariants.{BadId, BadSize, Exists, NoRoom}
 use Rattle.private_store.specs.Jobs.{same_job}

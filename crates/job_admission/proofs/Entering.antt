@@ -9,7 +9,7 @@ use Rattle.obj_id.specs.declared.ids.JobNo.{JobNo}
 use Rattle.obj_id.specs.declared.works.JobKey.{JobKey}
 use Rattle.obj_id.specs.declared.refusals.Refusal.TheVariants.{NotAdmitted, TooMany}
 use Rattle.private_store.specs.Jobs.{same_job}
-use Rattle.private_store.proofs.Tests.{none_some}
+use Rattle.store_facts.proofs.Tests.{none_some}
 use Rattle.job_admission.specs.declared.Live.{Live}
 use Rattle.job_admission.specs.Admissions.{Admissions, live_at, is_live_kept, AreKept, most_sessions, has_key, sessions_entered, enter_check}
 use Rattle.job_admission.proofs.AllKept.{all_set, apart_put}

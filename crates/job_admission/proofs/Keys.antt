@@ -2,7 +2,7 @@
 use Rattle.std.proofs.Common.{◌≡◌, ℕ, sym, ap, ◌∙◌, arith, bit_or, Bool, false, Option, Some, None, subst}
 use Rattle.std.specs.Prelude.{IsTrue, ◌↔◌, IsSomeAnd}
 use Rattle.obj_id.specs.declared.works.JobKey.{JobKey}
-use Rattle.private_store.proofs.Tests.{true_false}
+use Rattle.store_facts.proofs.Tests.{true_false}
 use Rattle.job_admission.specs.declared.Live.{Live}
 use Rattle.std.specs.Int.Bits.{bit_xor, xor_add_and, xor_self, or_zero_l}
 use Rattle.std.proofs.lemmas.Nat.{le_or_l, le_or_r, and_le_l, and_le_r}

@@ -1,7 +1,8 @@
-pub mod Search
-pub mod Lookups
-pub mod AllKept
-pub mod Keys
-pub mod Admitted
-pub mod Neighbours
-pub mod Entering
+mod Search
+mod Lookups
+mod AllKept
+mod Keys
+mod Admitted
+mod Neighbours
+mod Entering
+pub mod ForCallers

@@ -13,7 +13,7 @@ use Rattle.obj_id.specs.declared.refusals.Refusal.TheVariants.{NotAdmitted, BadS
 use Rattle.private_store.specs.Limits.{is_quota}
 use Rattle.private_store.specs.Extents.{end_of, is_apart}
 use Rattle.private_store.specs.Shared.{LiveJob, job_is, windows_without}
-use Rattle.private_store.proofs.Tests.{none_some}
+use Rattle.store_facts.proofs.Tests.{none_some}
 use Rattle.job_admission.specs.declared.Live.{Live}
 use Rattle.private_store.specs.Jobs.{same_job}
 use Rattle.job_admission.specs.Admissions.{Admissions, live_at, window_of, lives_of, resize_check}

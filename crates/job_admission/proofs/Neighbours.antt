@@ -13,7 +13,7 @@ use Rattle.obj_id.specs.declared.works.JobKey.{JobKey}
 use Rattle.obj_id.specs.declared.works.Quota.{Quota}
 use Rattle.private_store.specs.Shared.{LiveJob, job_is, widened}
 use Rattle.private_store.specs.Shared as shared
-use Rattle.private_store.proofs.Tests.{some_value}
+use Rattle.store_facts.proofs.Tests.{some_value}
 use Rattle.job_admission.specs.declared.Live.{Live}
 use Rattle.private_store.specs.Jobs.{same_job}
 use Rattle.job_admission.specs.Admissions.{Admissions, window_of, lives_of, place_for, admitted}

@@ -6,8 +6,8 @@ use Rattle.std.proofs.lemmas.Bool.{cases_lt, leb-true}
 use Rattle.std.proofs.lemmas.Bool.Decides.{nat_tests}
 use Rattle.obj_id.specs.declared.works.Extent.{Extent}
 use Rattle.private_store.specs.Extents.{rounded, end_of, is_apart, is_free, first}
-use Rattle.private_store.proofs.FirstFit.{first-free, first-least}
-use Rattle.private_store.proofs.Tests.{both, both_left, both_right, none_some, some_value, true_false}
+use Rattle.store_facts.proofs.FirstFit.{first-free, first-least}
+use Rattle.store_facts.proofs.Tests.{both, both_left, both_right, none_some, some_value, true_false}
 
 -- what is found passes
 module _ (test : Extent → Bool) where

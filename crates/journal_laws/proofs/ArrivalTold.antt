@@ -22,8 +22,8 @@ use Rattle.private_store.specs.Contents.{View, judge, source_in}
 use Rattle.private_store.specs.NodeInputs.{Before, inputs_to, only_of}
 use Rattle.private_store.specs.Private.{view_from}
 use Rattle.private_store.specs.Replay.{brief_of, brief_step}
-use Rattle.private_store.proofs.AnswersAre.{answers_whole}
-use Rattle.private_store.proofs.Tests.{true_false}
+use Rattle.store_facts.proofs.AnswersAre.{answers_whole}
+use Rattle.store_facts.proofs.Tests.{true_false}
 use Rattle.schedule_text.specs.declared.lines.JobAt.{JobAt}
 use Rattle.journal_text.specs.declared.entry.Address.{Address}
 use Rattle.journal_text.specs.declared.entry.Entry.{Entry}

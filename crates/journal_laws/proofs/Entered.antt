@@ -7,13 +7,13 @@ use Rattle.private_store.specs.Contents.{View, judge}
 use Rattle.private_store.specs.Kept.{IsViewKept}
 use Rattle.private_store.specs.Private.{view_step, view_from}
 use Rattle.private_store.specs.Replay.{Brief, Line, brief_after, brief_of, brief_step, replayed, unbegun_brief}
-use Rattle.private_store.proofs.StepsKept.{view_keeps}
+use Rattle.store_facts.proofs.StepsKept.{view_keeps}
 use Rattle.schedule_text.specs.declared.lines.JobAt.{JobAt}
 use Rattle.journal_text.specs.declared.entry.Entry.{Entry}
 use Rattle.journal_text.specs.declared.entry.Version.TheVariants.{Three}
 use Rattle.journal_text.specs.declared.saved.Answered.{Answered}
 use Rattle.journal_text.specs.Saved.{entry_at, place_of, same_place}
-use Rattle.journal_text.proofs.SamePlaces.{same_place-itself}
+use Rattle.journal_text.proofs.ForCallers.{same_place-itself}
 use Rattle.journal_replay.specs.Inputs.{judged_of, line_of}
 use Rattle.journal_replay.specs.Replays.{due_after, lines_of, store_of}
 use Rattle.journal_replay.specs.Saved.{AreSound}

@@ -24,8 +24,8 @@ use Rattle.private_store.specs.NodeInputs.{Before, JobInput, inputs_to, notes_he
 use Rattle.private_store.specs.Private.{view_step, view_from}
 use Rattle.private_store.specs.Replay.{brief_of, brief_step}
 use Rattle.private_store.specs.Shared.{first_refusal}
-use Rattle.private_store.proofs.AnswersAre.{answers_whole}
-use Rattle.private_store.proofs.Tests.{none_some, some_value, true_false}
+use Rattle.store_facts.proofs.AnswersAre.{answers_whole}
+use Rattle.store_facts.proofs.Tests.{none_some, some_value, true_false}
 use Rattle.schedule_text.specs.declared.lines.JobAt.{JobAt}
 use Rattle.journal_text.specs.declared.entry.Address.{Address}
 use Rattle.journal_text.specs.declared.entry.Entry.{Entry}
@@ -45,8 +45,7 @@ use Rattle.node_core.specs.Judged.{IsJudged}
 use Rattle.node_core.specs.OneJob.{input_of}
 use Rattle.node_core.specs.Outcomes.{inputs_noted}
 use Rattle.node_core.specs.Steps.{Given, IsEventAnswer, IsGiven, IsStepOf, Steps, StepsFrom, answered, before_of, job_of_event}
-use Rattle.node_core.proofs.AllJobs.{IsFinishAnswer, finish_answer, own_due_is, own_here_is}
-use Rattle.node_core.proofs.Never.{told_never}
+use Rattle.node_core.proofs.ForCallers.{IsFinishAnswer, finish_answer, own_due_is, own_here_is, told_never}
 use Rattle.node_table.specs.Row.{Row}
 use Rattle.store_program.specs.Kept.{Kept, entry_mark, input_said, kept_under, with_entry, with_notes, with_step}
 use Rattle.journal_laws.proofs.GoodHands.{AreGood, IsDeep, seen_deep}

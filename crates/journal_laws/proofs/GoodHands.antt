@@ -14,10 +14,10 @@ use Rattle.private_store.specs.Commands.{granted_items}
 use Rattle.private_store.specs.Hands.{Hand, same_hand, hangs_on, ended_from, hand_cmp, hand_placed, hands_sorted, hands_ended}
 use Rattle.private_store.specs.Limits.{greatest_depth}
 use Rattle.private_store.specs.Shape.{Shape}
-use Rattle.private_store.proofs.Tests.{both, both_left, both_right, or_cases, true_false}
+use Rattle.store_facts.proofs.Tests.{both, both_left, both_right, or_cases, true_false}
 use Rattle.grants.specs.Private.{taken_by}
 use Rattle.grants.specs.Table.{AreHands, all_stand, given_to, hangs_right, is_hung, is_no_taker, may_stand, seen_from, seen_list, with_seen}
-use Rattle.grants.proofs.Seen.{seen_item, seen_items}
+use Rattle.grants.proofs.ForCallers.{seen_item, seen_items}
 
 -- of an object whose job is this, a giver that is a job if that is one
 abbrev pub gives_well : ℕ → ℕ → Bool

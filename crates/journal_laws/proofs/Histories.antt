@@ -17,12 +17,12 @@ use Rattle.private_store.specs.declared.schedules.StepAnswer.TheVariants as answ
 use Rattle.private_store.specs.declared.schedules.Traced.{Traced}
 use Rattle.private_store.specs.declared.inputs.Judged.{Judged}
 use Rattle.private_store.specs.Trace.{hands_at, is_answered, replies_of}
-use Rattle.private_store.proofs.Tests.{both, both_left, both_right}
+use Rattle.store_facts.proofs.Tests.{both, both_left, both_right}
 use Rattle.schedule_text.specs.declared.line.Line.TheVariants as line
 use Rattle.schedule_text.specs.Reading.{is_skipped}
-use Rattle.schedule_text.proofs.Within.{is_spoken, spelled_spoken}
+use Rattle.schedule_text.proofs.ForCallers.{is_spoken, spelled_spoken}
 use Rattle.hand_laws.specs.Standing.{ArePrivate, is_told}
-use Rattle.hand_laws.proofs.Moments.{each_moment}
+use Rattle.hand_laws.proofs.ForCallers.{each_moment}
 use Rattle.grants.specs.Table.{AreHands}
 use Rattle.node_core.specs.declared.outcome.Note.{Note}
 use Rattle.node_core.specs.Hosted.{Hosted}

@@ -1,9 +1,9 @@
-pub mod GoodHands
-pub mod StoreAnswers
-pub mod Entered
-pub mod NotesTold
-pub mod EventTold
-pub mod ArrivalTold
-pub mod Histories
-pub mod WorldTold
-pub mod SavedRuns
+mod GoodHands
+mod StoreAnswers
+mod Entered
+mod NotesTold
+mod EventTold
+mod ArrivalTold
+mod Histories
+mod WorldTold
+mod SavedRuns

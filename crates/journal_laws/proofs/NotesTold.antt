@@ -19,7 +19,7 @@ use Rattle.private_store.specs.NodeInputs.{Before, JobInput, hands_after, notes_
 use Rattle.private_store.specs.Private.{view_from}
 use Rattle.private_store.specs.Replay.{brief_of, brief_step}
 use Rattle.private_store.specs.Trace.{ends}
-use Rattle.private_store.proofs.Tests.{both_left, both_right, true_false}
+use Rattle.store_facts.proofs.Tests.{both_left, both_right, true_false}
 use Rattle.schedule_text.specs.declared.lines.JobAt.{JobAt}
 use Rattle.journal_text.specs.declared.entry.Address.{Address}
 use Rattle.journal_text.specs.declared.entry.Entry.{Entry}

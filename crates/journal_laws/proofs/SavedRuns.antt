@@ -2,14 +2,14 @@
 use Rattle.std.proofs.Common.{◌≡◌, ℕ, ◌≤◌, true, false, List, [], ◌∷◌, Option, None, Some, Result, Ok, sym, subst, arith}
 use Rattle.std.specs.Prelude.{nat_le, ◌&&◌}
 use Rattle.std.proofs.lemmas.Bool.Decides.{nat_tests}
-use Rattle.private_store.proofs.Tests.{both_left, both_right}
+use Rattle.store_facts.proofs.Tests.{both_left, both_right}
 use Rattle.journal_text.specs.declared.saved.Mark.{Mark}
 use Rattle.journal_text.specs.Saved.{Saved, is_folded, saved_text, AreTyped}
 use Rattle.journal_replay.specs.declared.fault.ReplayFault.{ReplayFault}
 use Rattle.journal_replay.specs.declared.program.Verdict.{Verdict}
 use Rattle.journal_replay.specs.Saved.{AreSound, SavedReplays, entries_saved, lines_after_first}
 use Rattle.journal_replay.specs.Texts.{Replays}
-use Rattle.journal_replay.proofs.SavedText.{replays_saved}
+use Rattle.journal_replay.proofs.ForCallers.{replays_saved}
 use Rattle.world_core.specs.declared.Shape.{Shape}
 use Rattle.world_core.specs.Worlds.{is_shape, most_nodes}
 use Rattle.job_admission.specs.Admissions.{largest_memory}

@@ -12,8 +12,8 @@ use Rattle.private_store.specs.Made.{Told, told_ok, told_placed, told_got, told_
 use Rattle.private_store.specs.Replay.{brief_step, unbegun_brief}
 use Rattle.private_store.specs.Shape.{Change, Shape, unbegun}
 use Rattle.private_store.specs.Step.{step}
-use Rattle.private_store.proofs.Checks.{checked-true, needing-none}
-use Rattle.private_store.proofs.EachStep.{step_made}
+use Rattle.store_facts.proofs.Checks.{checked-true, needing-none}
+use Rattle.store_facts.proofs.EachStep.{step_made}
 use Rattle.journal_text.specs.Typed.{IsProperReply}
 use Rattle.journal_laws.proofs.GoodHands.{IsDeep}
 

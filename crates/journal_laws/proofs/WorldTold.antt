@@ -18,8 +18,8 @@ use Rattle.private_store.specs.declared.schedules.Traced.{Traced}
 use Rattle.private_store.specs.Cluster.{stores_of}
 use Rattle.private_store.specs.Contents.{View}
 use Rattle.private_store.specs.Private.{no_store, view_of}
-use Rattle.private_store.proofs.StepsKept.{no_store_kept}
-use Rattle.private_store.proofs.Tests.{both, none_some, some_value}
+use Rattle.store_facts.proofs.StepsKept.{no_store_kept}
+use Rattle.store_facts.proofs.Tests.{both, none_some, some_value}
 use Rattle.schedule_text.specs.declared.lines.JobAt.{JobAt}
 use Rattle.journal_text.specs.declared.entry.Entry.{Entry}
 use Rattle.journal_text.specs.declared.saved.Mark.{Mark}
@@ -32,7 +32,7 @@ use Rattle.node_core.specs.Judged.{IsJudged, IsArrivalJudged}
 use Rattle.world_core.specs.Moves.{handed, message_of}
 use Rattle.world_core.specs.Noting.{IsArrivalNoted, IsEventNoted, IsNoted, NotesNothing, keeps_event, keeps_arrival, passes_node, tells_directory, finds_nothing, wants_memory}
 use Rattle.world_core.specs.Worlds.{Hosting, IsAfter}
-use Rattle.world_core.proofs.Places.{slice_get-slice_set, slice_get-slice_set_other}
+use Rattle.world_core.proofs.ForCallers.{slice_get-slice_set, slice_get-slice_set_other}
 use Rattle.store_program.specs.Kept.{entry_place, with_entry, with_step}
 use Rattle.store_program.specs.Lines.{AreHeard, Heard, IsAnswered, history_of, marks_of, with_answered, with_heard}
 use Rattle.store_program.specs.Runs.{KeepsHeard, LeadTo}

@@ -1,5 +1,6 @@
-pub mod Alike
-pub mod Reading
-pub mod Replaying
-pub mod SavedText
-pub mod States
+mod Alike
+mod Reading
+mod Replaying
+mod SavedText
+mod States
+pub mod ForCallers

@@ -7,7 +7,7 @@ use Rattle.std.specs.Io.KnownBytes.{Consumes, IsAtEnd}
 use Rattle.std.specs.Str.{IsUtf8}
 use Rattle.std.proofs.Math.Seq.{take-append_seam, drop-append_seam, drop-append-add}
 use Rattle.std.proofs.lemmas.List.{append_cancel_right, length-append}
-use Rattle.private_store.proofs.KnownBytes.{Consumes-none, Consumes-then, Consumes-all}
+use Rattle.store_facts.proofs.KnownBytes.{Consumes-none, Consumes-then, Consumes-all}
 use Rattle.schedule_text.specs.Fields.{Reads}
 use Rattle.journal_text.specs.declared.entry.Entry.{Entry}
 use Rattle.journal_text.specs.declared.entry.Version.{Version}

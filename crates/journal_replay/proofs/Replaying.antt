@@ -14,7 +14,7 @@ use Rattle.journal_replay.specs.Progress.{AddsEntry}
 use Rattle.journal_text.specs.Saved.{place_of, same_place}
 use Rattle.journal_replay.specs.Replays.{AreReplayed, IsFirstDifference, IsFound, IsUnlike, Read, due_after, entries_of, lines_of, next_number}
 use Rattle.journal_replay.specs.States.{AreAfter, JobState, state_of}
-use Rattle.journal_text.proofs.SamePlaces.{same_place-equal, same_place-itself}
+use Rattle.journal_text.proofs.ForCallers.{same_place-equal, same_place-itself}
 
 -- ---- lines of one job with one after them
 

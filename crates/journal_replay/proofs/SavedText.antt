@@ -16,9 +16,7 @@ use Rattle.journal_text.specs.declared.saved.Mark.{Mark}
 use Rattle.journal_text.specs.Printing.{entry_text}
 use Rattle.journal_text.specs.Reading.{IsEntryLine, head_text}
 use Rattle.journal_text.specs.Saved.{entry_at, line_text, lines_of as lines_counted, same_place, saved_text, AreTyped, IsTypedLine}
-use Rattle.journal_text.proofs.PlainFields.{none_feeds}
-use Rattle.journal_text.proofs.ProperLines.{writable}
-use Rattle.journal_text.proofs.WrittenLines.{IsEntryLine-written, whole-written}
+use Rattle.journal_text.proofs.ForCallers.{none_feeds, writable, IsEntryLine-written, whole-written}
 use Rattle.journal_replay.specs.declared.fault.ReplayFault.{ReplayFault}
 use Rattle.journal_replay.specs.declared.fault.ReplayFault.TheVariants.{NotAnEntry, Input, Output, NoMemory}
 use Rattle.journal_replay.specs.declared.program.Verdict.{Verdict}

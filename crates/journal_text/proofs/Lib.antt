@@ -1,16 +1,17 @@
-pub mod EachField
-pub mod Entries
-pub mod Made
-pub mod Marks
-pub mod Outcomes
-pub mod PlainCommands
-pub mod SamePlaces
-pub mod Saving
-pub mod SortedItems
-pub mod Spaces
-pub mod PlainFields
-pub mod WrittenFields
-pub mod WrittenInputs
-pub mod WrittenReplies
-pub mod WrittenLines
-pub mod ProperLines
+mod EachField
+mod Entries
+mod Made
+mod Marks
+mod Outcomes
+mod PlainCommands
+mod SamePlaces
+mod Saving
+mod SortedItems
+mod Spaces
+mod PlainFields
+mod WrittenFields
+mod WrittenInputs
+mod WrittenReplies
+mod WrittenLines
+mod ProperLines
+pub mod ForCallers

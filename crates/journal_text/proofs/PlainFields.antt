@@ -7,8 +7,7 @@ use Rattle.std.proofs.lemmas.List.Sums.{AllPass-from_list_all}
 use Rattle.std.specs.Bool.{⊤}
 use Rattle.std.specs.List.{list_all, slice_split}
 use Rattle.hex.specs.Hex.{encode_lower, encode_with, lower_digits}
-use Rattle.obj_id.proofs.Numbered.{task_number-lt}
-use Rattle.obj_id.proofs.ShortTexts.{IsTask-task, Without, Without-decimal}
+use Rattle.store_facts.proofs.Ids.{task_number-lt, IsTask-task, Without, Without-decimal}
 use Rattle.obj_id.specs.Ids.{IsId, IsTask, id_bytes}
 use Rattle.obj_id.specs.Texts.{full_task_text, full_text, has_short_text, id_text, own_text, owner_text, short_task_text, short_text, task_number, task_text}
 use Rattle.obj_id.specs.declared.ids.ObjectId.{ObjectId}

@@ -1,6 +1,6 @@
 -- Single fields that are written spell what they were written of.
 use Rattle.std.proofs.Common.{ℕ, ◌<◌, ◌^◌, refl, arith, decimal, codes}
-use Rattle.obj_id.proofs.OneText.{IsIdText-id_text, IsTaskText-task_text}
+use Rattle.store_facts.proofs.Ids.{IsIdText-id_text, IsTaskText-task_text}
 use Rattle.obj_id.specs.Ids.{IsId, IsTask}
 use Rattle.obj_id.specs.Texts.{id_text, task_text}
 use Rattle.obj_id.specs.declared.ids.ObjectId.{ObjectId}

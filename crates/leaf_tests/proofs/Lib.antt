@@ -1,1 +1,1 @@
-pub mod Placed
+mod Placed

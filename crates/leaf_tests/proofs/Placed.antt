@@ -10,7 +10,7 @@ use Rattle.std.proofs.lemmas.Map.{lookup-set_value}
 use Rattle.obj_id.specs.declared.works.Extent.{Extent}
 use Rattle.private_store.specs.Contents.{overwritten}
 use Rattle.job_region.specs.Region.{IsAt, bytes_at}
-use Rattle.job_region.proofs.Parts.{length-overwritten}
+use Rattle.job_region.proofs.ForCallers.{length-overwritten}
 
 abbrev Long : ℕ → Option (List ℕ) → Type 0
 Long n o = IsSomeAnd o (λ bytes. length bytes ≡ n)

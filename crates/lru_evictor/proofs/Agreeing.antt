@@ -10,16 +10,16 @@ use Rattle.augmented_tree.specs.Lists.{AllOf}
 use Rattle.obj_id.specs.declared.ids.ObjectId.{ObjectId}
 use Rattle.obj_id.specs.declared.works.Extent.{Extent}
 use Rattle.obj_id.specs.Ids.{same_id}
-use Rattle.obj_id.proofs.SameIds.{same_id-equal}
+use Rattle.store_facts.proofs.Ids.{same_id-equal}
 use Rattle.private_store.specs.Tables.{ById, at, is_among}
 use Rattle.private_store.specs.Extents.{rounded, is_apart}
 use Rattle.private_store.specs.Shape.{Copy, Shape}
 use Rattle.private_store.specs.Copies.{extent_of}
-use Rattle.private_store.proofs.KeptFold.{among-filter}
-use Rattle.private_store.proofs.KeptLists.{all-filter}
+use Rattle.store_facts.proofs.KeptFold.{among-filter}
+use Rattle.store_facts.proofs.KeptLists.{all-filter}
 use Rattle.job_region.specs.Region.{Region, extents_of, without}
 use Rattle.job_region.specs.Layout.{LaidFrom}
-use Rattle.job_region.proofs.Gap.{laid_within}
+use Rattle.job_region.proofs.ForCallers.{laid_within}
 use Rattle.use_tree.specs.declared.choices.Choice.{Choice}
 use Rattle.use_tree.specs.declared.choices.Choice.TheVariants.{Evictable, Passing, Spillable}
 use Rattle.use_tree.specs.Choices.{has}

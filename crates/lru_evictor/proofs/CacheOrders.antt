@@ -10,7 +10,7 @@ use Rattle.std.proofs.lemmas.Map.Keys.{IsDistinct-head, IsDistinct-tail}
 use Rattle.lru.specs.LruCache.{LruCache, promoted, put_entries}
 use Rattle.obj_id.specs.Ids.{id_eq}
 use Rattle.obj_id.specs.declared.ids.ObjectId.{ObjectId}
-use Rattle.obj_id.proofs.SameIds.{same_id-id_eq, id_eq-equal}
+use Rattle.store_facts.proofs.Ids.{same_id-id_eq, id_eq-equal}
 use Rattle.private_store.specs.Tables.{is_among}
 use Rattle.lru_evictor.specs.Orders.{without_id, last_used, touched}
 

@@ -16,7 +16,7 @@ use Rattle.std.proofs.lemmas.List.Sums.{AllPass-from_list_all, list_all-from_All
 use Rattle.obj_id.specs.declared.ids.ObjectId.{ObjectId}
 use Rattle.obj_id.specs.declared.works.Extent.{Extent}
 use Rattle.obj_id.specs.Ids.{id_cmp, same_id}
-use Rattle.obj_id.proofs.SameIds.{id_cmp-IsTotalOrder, same_id-equal}
+use Rattle.store_facts.proofs.Ids.{id_cmp-IsTotalOrder, same_id-equal}
 use Rattle.private_store.specs.Tables.{ById, at, is_among}
 use Rattle.private_store.specs.Extents.{rounded, is_apart, first}
 use Rattle.private_store.specs.Shape.{Copy, Shape}

@@ -6,8 +6,7 @@ use Rattle.std.proofs.lemmas.List.{length-replicate}
 use Rattle.obj_id.specs.declared.works.Extent.{Extent}
 use Rattle.private_store.specs.Extents.{rounded, first}
 use Rattle.job_region.specs.Layout.{placed_in, LaidFrom, gap}
-use Rattle.job_region.proofs.First.{first-is}
-use Rattle.job_region.proofs.Gap.{gap_is_first, extents-placed}
+use Rattle.job_region.proofs.ForCallers.{first-is, gap_is_first, extents-placed}
 use Rattle.extent_tree.specs.declared.spans.Span.{Span}
 use Rattle.extent_tree.specs.Residents.{joined, span_of, has_gap}
 

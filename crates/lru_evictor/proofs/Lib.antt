@@ -1,20 +1,21 @@
-pub mod Truths
-pub mod CacheOrders
-pub mod Reorders
-pub mod Free
-pub mod Lists
-pub mod Spread
-pub mod Gaps
-pub mod Shortest
-pub mod Needed
-pub mod Once
-pub mod Spills
-pub mod Counted
-pub mod Described
-pub mod Agreeing
-pub mod Planned
-pub mod Rooms
-pub mod Firsts
-pub mod Uses
-pub mod Turning
+mod Truths
+mod CacheOrders
+mod Reorders
+mod Free
+mod Lists
+mod Spread
+mod Gaps
+mod Shortest
+mod Needed
+mod Once
+mod Spills
+mod Counted
+mod Described
+mod Agreeing
+mod Planned
+mod Rooms
+mod Firsts
+mod Uses
+mod Turning
 pub mod Crossing
+pub mod ForCallers

@@ -4,7 +4,7 @@ use Rattle.std.specs.Prelude.{nat_lt, nat_eq, if◌then◌else◌}
 use Rattle.std.proofs.lemmas.Bool.Decides.{nat_tests}
 use Rattle.use_tree.specs.declared.choices.Choices.{Choices}
 use Rattle.extent_tree.specs.declared.residents.Resident.{Resident}
-use Rattle.augmented_tree.proofs.Order.{all_put, all_above, put_least}
+use Rattle.augmented_tree.proofs.ForCallers.{all_put, all_above, put_least}
 use Rattle.extent_tree.specs.Residents.{offset_of, IsRising, put_resident, take_resident, has_resident, choose_resident}
 
 pub rising-put : (x : Resident) (xs : List Resident) → IsRising xs → IsRising (put_resident x xs)

@@ -1,14 +1,14 @@
 -- Each id stands in an order once, and so it does among those that a walk chooses.
-use Rattle.std.proofs.Common.{◌≡◌, ℕ, ◌≤◌, Bool, true, false, ◌&&◌, cond, List, [], ◌∷◌, ◌++◌, map, filter, reverse, refl, sym, ap, subst, ◌∙◌, arith}
+use Rattle.std.proofs.Common.{◌≡◌, ℕ, ◌≤◌, Bool, true, false, ◌&&◌, cond, List, [], ◌∷◌, ◌++◌, map, filter, reverse, refl, ap, ◌∙◌, arith}
 use Rattle.std.specs.Prelude.{nat_lt}
 use Rattle.std.specs.Map.{keys_of}
 use Rattle.std.specs.List.{count_by, list_all, IsDistinct, AllByRecursion}
 use Rattle.std.proofs.lemmas.Map.Keys.{IsDistinct-head, IsDistinct-tail}
 use Rattle.obj_id.specs.declared.ids.ObjectId.{ObjectId}
 use Rattle.obj_id.specs.Ids.{id_eq, same_id}
-use Rattle.obj_id.proofs.SameIds.{same_id-id_eq, same_id-equal}
+use Rattle.store_facts.proofs.Ids.{same_id-id_eq, same_id-equal}
 use Rattle.private_store.specs.Kept.{IsOrderOfUse}
-use Rattle.private_store.proofs.KeptLists.{count-append, count-filter, count-yes, count-no}
+use Rattle.store_facts.proofs.KeptLists.{count-append, count-filter, count-yes, count-no}
 use Rattle.use_tree.specs.declared.choices.Choice.{Choice}
 use Rattle.use_tree.specs.declared.uses.Use.{Use}
 use Rattle.use_tree.specs.Choices.{has}

@@ -18,7 +18,7 @@ use Rattle.use_tree.specs.declared.choices.Choice.{Choice}
 use Rattle.use_tree.specs.declared.choices.Choice.TheVariants.{Evictable, Passing, Spillable}
 use Rattle.use_tree.specs.Choices.{has}
 use Rattle.extent_tree.specs.Residents.{staying, remaining, span_of, has_gap}
-use Rattle.extent_tree.proofs.Gone.{remaining_all}
+use Rattle.extent_tree.proofs.ForCallers.{remaining_all}
 use Rattle.lru_evictor.specs.declared.facts.DeviceRoom.{DeviceRoom}
 use Rattle.lru_evictor.specs.declared.facts.Standing.{Standing}
 use Rattle.lru_evictor.specs.declared.facts.Plan.TheVariants as found

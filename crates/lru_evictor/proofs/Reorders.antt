@@ -3,7 +3,7 @@ use Rattle.std.proofs.Common.{◌≡◌, Bool, true, false, not, ◌&&◌, List,
 use Rattle.std.specs.List.{list_all}
 use Rattle.obj_id.specs.declared.ids.ObjectId.{ObjectId}
 use Rattle.obj_id.specs.Ids.{id_cmp, same_id}
-use Rattle.obj_id.proofs.SameIds.{id_cmp-IsAntisymmetric}
+use Rattle.store_facts.proofs.Ids.{id_cmp-IsAntisymmetric}
 use Rattle.std.specs.FinMap.Entries.{find-where_key}
 use Rattle.private_store.specs.Tables.{ById, at, without_entry}
 use Rattle.private_store.specs.Shape.{Copy}

@@ -10,7 +10,7 @@ use Rattle.use_tree.specs.declared.choices.Choice.TheVariants.{Passing}
 use Rattle.use_tree.specs.declared.choices.Choices.{Choices}
 use Rattle.extent_tree.specs.declared.residents.Resident.{Resident}
 use Rattle.extent_tree.specs.Residents.{IsRising, choices_at, staying, remaining, span_of, has_gap}
-use Rattle.extent_tree.proofs.Gone.{remaining_all, staying_marked, choices_back, choose_none}
+use Rattle.extent_tree.proofs.ForCallers.{remaining_all, staying_marked, choices_back, choose_none}
 use Rattle.lru_evictor.specs.declared.spilling.Gap.{Gap}
 use Rattle.lru_evictor.specs.Facts.{Looked, extent_at, gone_of}
 use Rattle.lru_evictor.specs.Spilling.{leaves_gap, passes_now, marked, unmarked}

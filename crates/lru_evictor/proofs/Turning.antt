@@ -7,8 +7,8 @@ use Rattle.std.proofs.lemmas.Map.Keys.{IsDistinct-head, IsDistinct-tail}
 use Rattle.lru.specs.LruCache.{promoted, last_entry}
 use Rattle.obj_id.specs.Ids.{id_eq}
 use Rattle.obj_id.specs.declared.ids.ObjectId.{ObjectId}
-use Rattle.obj_id.proofs.SameIds.{id_eq-equal, id_eq-itself}
-use Rattle.private_store.proofs.Tests.{true_false}
+use Rattle.store_facts.proofs.Ids.{id_eq-equal, id_eq-itself}
+use Rattle.store_facts.proofs.Tests.{true_false}
 use Rattle.use_tree.specs.declared.uses.Use.{Use}
 use Rattle.use_tree.specs.Uses.{IsRising, take_use, has_use}
 use Rattle.lru_evictor.specs.declared.index.Place.{Place}

@@ -12,7 +12,7 @@ use Rattle.private_store.specs.Tables.{is_among}
 use Rattle.std.proofs.lemmas.Map.Keys.{IsDistinct-head, IsDistinct-tail}
 use Rattle.obj_id.specs.Ids.{id_eq, same_id}
 use Rattle.obj_id.specs.declared.ids.ObjectId.{ObjectId}
-use Rattle.obj_id.proofs.SameIds.{same_id-id_eq, id_eq-equal, id_eq-itself}
+use Rattle.store_facts.proofs.Ids.{same_id-id_eq, id_eq-equal, id_eq-itself}
 use Rattle.use_tree.specs.declared.choices.Choice.{Choice}
 use Rattle.lru_evictor.specs.declared.facts.Standing.{Standing}
 use Rattle.use_tree.specs.declared.uses.Use.{Use}

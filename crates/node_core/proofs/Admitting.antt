@@ -27,18 +27,17 @@ use Rattle.private_store.specs.Hands.{Hand}
 use Rattle.private_store.specs.Private.{view_step, outcome, no_contents}
 use Rattle.private_store.specs.Shared.{admitted as window_admitted}
 use Rattle.private_store.specs.Kept.{IsViewKept}
-use Rattle.private_store.proofs.Checks.{checked-nil, checked-false}
-use Rattle.private_store.proofs.StepsKept.{view_keeps, no_store_kept}
-use Rattle.private_store.proofs.Tests.{both, both_left, both_right, none_some}
+use Rattle.store_facts.proofs.Checks.{checked-nil, checked-false}
+use Rattle.store_facts.proofs.StepsKept.{view_keeps, no_store_kept}
+use Rattle.store_facts.proofs.Tests.{both, both_left, both_right, none_some}
 use Rattle.spill_work.specs.Line.{WorkLine}
 use Rattle.job_admission.specs.declared.Live.{Live}
 use Rattle.job_admission.specs.Admissions.{Admissions, admit_check, admitted, place_for, lives_of}
-use Rattle.job_admission.proofs.AllKept.{admit_passed}
+use Rattle.job_admission.proofs.ForCallers.{admit_passed}
 use Rattle.node_table.specs.Granting.{row_bytes}
 use Rattle.node_table.specs.Row.{Row, Beside, new_row, beside_of, received_bytes}
 use Rattle.node_table.specs.Shown.{seen, only, IsShown}
-use Rattle.node_table.proofs.Besides.{IsAlike, alike_bytes, granted_length}
-use Rattle.node_table.proofs.Received.{kept_as_they_are}
+use Rattle.node_table.proofs.ForCallers.{IsAlike, alike_bytes, granted_length, kept_as_they_are}
 use Rattle.node_core.specs.Hosted.{Hosted, AreHosted, IsRowView, IsBare, IsViewBy, Shows, bare, bytes_here, beside_at}
 use Rattle.node_core.specs.Steps.{answered}
 use Rattle.node_core.specs.OneJob.{IsStepOf, StepsOne}

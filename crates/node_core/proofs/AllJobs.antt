@@ -31,7 +31,7 @@ use Rattle.node_core.specs.OneJob.{input_of, view_by, view_after, IsGiven as IsR
 use Rattle.node_core.specs.Outcomes.{with_no_notes}
 use Rattle.node_core.specs.Judged.{is_finish, moves_hands, judged_as, IsCallJudged}
 use Rattle.node_core.specs.Steps.{before_of, job_of_event, IsGiven, answered, judged_notes, stale_unless, queued, taken_if, line_left, asked_now, line_after, IsEventAnswer, StepsFrom, Steps}
-use Rattle.private_store.proofs.Tests.{both, both_left, both_right}
+use Rattle.store_facts.proofs.Tests.{both, both_left, both_right}
 use Rattle.node_core.proofs.Never.{told_never}
 use Rattle.node_core.proofs.Lines.{above, above-used, asked_now_is}
 use Rattle.node_core.proofs.Taking.{marked-is}

@@ -19,7 +19,7 @@ use Rattle.private_store.specs.Events.{is_live, located, chunk_arrived, not_here
 use Rattle.private_store.specs.Contents.{Contents, View, judge, source_in, chunk_verdict, pull_matches}
 use Rattle.private_store.specs.Private.{view_step, view_from}
 use Rattle.private_store.specs.NodeInputs.{Before, wants_memory, only_of, inputs_to}
-use Rattle.private_store.proofs.Checks.{checked-true}
+use Rattle.store_facts.proofs.Checks.{checked-true}
 use Rattle.spill_work.specs.Line.{WorkLine, IsSameFor, same_job as same_line_job}
 use Rattle.job_admission.specs.Admissions.{Admissions, live_at, lives_of}
 use Rattle.node_table.specs.Asked.{HasAsked}

@@ -14,9 +14,8 @@ use Rattle.private_store.specs.Contents.{Contents, brief}
 use Rattle.private_store.specs.Step.{commanded, owned}
 use Rattle.node_table.specs.Row.{Row, Beside, shape_of}
 use Rattle.node_table.specs.Shown.{IsShown, only, TakesStep}
-use Rattle.node_table.proofs.Stepping.{stays, change}
-use Rattle.node_table.proofs.ByChecks.{called, foreign}
-use Rattle.private_store.proofs.Tests.{true_false}
+use Rattle.node_table.proofs.ForCallers.{stays, change, called, foreign}
+use Rattle.store_facts.proofs.Tests.{true_false}
 use Rattle.spill_work.specs.Line.{WorkLine}
 use Rattle.node_core.specs.Calls.{is_of_row, is_own, is_plain}
 use Rattle.node_core.specs.Hosted.{Hosted}

@@ -28,22 +28,18 @@ use Rattle.private_store.specs.Hands.{Hand, hands_ended, hands_left, is_given_by
 use Rattle.private_store.specs.Kept.{has_hand}
 use Rattle.private_store.specs.Private.{view_step, outcome, to_directory, no_contents}
 use Rattle.private_store.specs.Shared.{job_is}
-use Rattle.private_store.proofs.Checks.{checked-nil, checked-false}
-use Rattle.private_store.proofs.Tests.{true_false, both, both_left, both_right}
+use Rattle.store_facts.proofs.Checks.{checked-nil, checked-false}
+use Rattle.store_facts.proofs.Tests.{true_false, both, both_left, both_right}
 use Rattle.spill_work.specs.Line.{WorkLine, Drops, is_of as is_of_line}
 use Rattle.grants.specs.Table.{AreHands}
-use Rattle.grants.proofs.Left.{left_are_hands}
+use Rattle.grants.proofs.ForCallers.{left_are_hands}
 use Rattle.job_admission.specs.Admissions.{Admissions, live_at, lives_of, finished}
 use Rattle.node_table.specs.Granting.{row_bytes}
 use Rattle.node_table.specs.Notes.{beside_rest}
 use Rattle.node_table.specs.Row.{Row, Beside, given_by, received_bytes}
 use Rattle.node_table.specs.Shown.{seen, only, IsShown, Given as RowGiven}
-use Rattle.node_table.proofs.CopyTables.{sorted-copies}
+use Rattle.node_table.proofs.ForCallers.{sorted-copies, keys-backed, is_of, none_given, rest_of_job, kept_as_they_are}
 use Rattle.node_table.specs.Ending.{keys_backed}
-use Rattle.node_table.proofs.EndingKeys.{keys-backed}
-use Rattle.node_table.proofs.Besides.{is_of}
-use Rattle.node_table.proofs.Notes.{none_given, rest_of_job}
-use Rattle.node_table.proofs.Received.{kept_as_they_are}
 use Rattle.node_core.proofs.Granted.{own_gave}
 use Rattle.node_core.proofs.HandsEnd.{ended_shows, ended_inputs, ends_judged}
 use Rattle.node_core.specs.Hosted.{Hosted, AreHosted, IsHosted, IsRowView, IsBare, IsViewBy, Shows, ShowsAll, bare, bytes_here, beside_at}

@@ -27,15 +27,14 @@ use Rattle.private_store.specs.Change.{refused, done, needing, erasing, settled}
 use Rattle.private_store.specs.Events as events
 use Rattle.private_store.specs.Contents.{Contents, View, judge, whole_reply, work_verdict}
 use Rattle.private_store.specs.Private.{view_step}
-use Rattle.private_store.proofs.Tests.{true_false, none_some}
+use Rattle.store_facts.proofs.Tests.{true_false, none_some}
 use Rattle.spill_work.specs.declared.queue.Queued.{Queued}
 use Rattle.spill_work.specs.Line.{WorkLine, IsSameFor, same_job as same_line_job, shown, is_of, is_at, finish_check}
 use Rattle.job_admission.specs.Admissions.{Admissions}
 use Rattle.grants.specs.Table.{AreHands}
 use Rattle.node_table.specs.Row.{Row, Beside, beside_of, shape_of}
 use Rattle.node_table.specs.Shown.{seen, IsShown, Given, only, TakesStep}
-use Rattle.node_table.proofs.Answering.{copy_at_work}
-use Rattle.node_table.proofs.CopyTables.{at-copies_found}
+use Rattle.node_table.proofs.ForCallers.{copy_at_work, at-copies_found}
 use Rattle.node_core.specs.Hosted.{Hosted, IsRowView, IsBare, IsViewBy, Shows, ShowsAll, bytes_here, beside_at}
 use Rattle.node_core.specs.Judged.{if_ok}
 use Rattle.node_core.specs.OneJob.{IsGiven, input_of, view_by, StepsOne}

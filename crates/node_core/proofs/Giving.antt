@@ -15,7 +15,7 @@ use Rattle.obj_id.specs.declared.commands.Reply.TheVariants as reply
 use Rattle.obj_id.specs.declared.refusals.Refusal.{Refusal}
 use Rattle.obj_id.specs.declared.refusals.Refusal.TheVariants.{BadId, NotAdmitted}
 use Rattle.obj_id.specs.Ids.{same_id}
-use Rattle.obj_id.proofs.SameIds.{same_id-equal}
+use Rattle.store_facts.proofs.Ids.{same_id-equal}
 use Rattle.private_store.specs.declared.inputs.Input.{Input}
 use Rattle.private_store.specs.declared.inputs.Input.TheVariants as input
 use Rattle.private_store.specs.declared.schedules.Event.{Event}
@@ -27,19 +27,16 @@ use Rattle.private_store.specs.Jobs.{same_job}
 use Rattle.private_store.specs.Kept.{has_hand}
 use Rattle.private_store.specs.NodeInputs.{JobInput, only_of, received_here}
 use Rattle.private_store.specs.Private.{view_step, view_from}
-use Rattle.private_store.proofs.OwnJob.{step_keeps_job}
-use Rattle.private_store.proofs.Tests.{none_some, or_cases, or_false, true_false}
+use Rattle.store_facts.proofs.OwnJob.{step_keeps_job}
+use Rattle.store_facts.proofs.Tests.{none_some, or_cases, or_false, true_false}
 use Rattle.grants.specs.Table.{AreHands, is_no_taker, limits_check, hung_check, grant_check as table_check}
-use Rattle.grants.proofs.Made.{pushed_are_hands}
-use Rattle.grants.proofs.Private.{made_for}
+use Rattle.grants.proofs.ForCallers.{pushed_are_hands, made_for}
 use Rattle.job_admission.specs.Admissions.{Admissions}
 use Rattle.spill_work.specs.Line.{WorkLine}
 use Rattle.node_table.specs.Granting.{row_bytes}
 use Rattle.node_table.specs.Row.{Row, Beside, given_by, beside_of, shape_of}
 use Rattle.node_table.specs.Shown.{seen, only, IsShown, Given as RowGiven, TakesStep}
-use Rattle.node_table.proofs.Besides.{is_of, alike_bytes}
-use Rattle.node_table.proofs.Notes.{lengths, same_given, others_stand, row_receives, bare_receives, received_is}
-use Rattle.node_table.proofs.Passed.{past}
+use Rattle.node_table.proofs.ForCallers.{is_of, alike_bytes, lengths, same_given, others_stand, row_receives, bare_receives, received_is, past}
 use Rattle.node_core.specs.Granting.{grant_refusal, TakesGrant}
 use Rattle.node_core.specs.Hosted.{Hosted, IsRowView, IsViewBy, Shows, ShowsAll, bytes_here, beside_at}
 use Rattle.node_core.specs.Late.{hands_check, IsCallUnrefused, IsRoomDue, IsUnrefused}

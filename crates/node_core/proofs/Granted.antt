@@ -19,19 +19,18 @@ use Rattle.private_store.specs.Kept.{has_extent, has_hand}
 use Rattle.private_store.specs.Private.{view_step}
 use Rattle.private_store.specs.Shape.{Fetch}
 use Rattle.private_store.specs.Tables.{at}
-use Rattle.private_store.proofs.BytesStay.{bytes_stay}
-use Rattle.private_store.proofs.Tests.{true_false}
+use Rattle.store_facts.proofs.BytesStay.{bytes_stay}
+use Rattle.store_facts.proofs.Tests.{true_false}
 use Rattle.job_region.specs.Region.{bytes_at as placed_bytes}
 use Rattle.spill_work.specs.Line.{WorkLine}
 use Rattle.grants.specs.Private.{as_given}
 use Rattle.grants.specs.Table.{AreHands, is_first}
-use Rattle.grants.proofs.Reach.{first_stands}
+use Rattle.grants.proofs.ForCallers.{first_stands}
 use Rattle.node_table.specs.Granting.{kept_bytes, row_bytes}
 use Rattle.node_table.specs.Kept.{Kept}
 use Rattle.node_table.specs.Row.{Row, Beside, given_by, beside_of}
 use Rattle.node_table.specs.Shown.{seen, IsShown, Given, TakesStep}
-use Rattle.node_table.proofs.Besides.{is_of}
-use Rattle.node_table.proofs.CopyTables.{at-copies_found, at-copies_none}
+use Rattle.node_table.proofs.ForCallers.{is_of, at-copies_found, at-copies_none}
 use Rattle.node_core.specs.Hosted.{bytes_here}
 
 -- ---- a copy of which its job gave a hand

@@ -20,20 +20,17 @@ use Rattle.private_store.specs.Hands.{Hand, with_hand, hands_left, is_withdrawn}
 use Rattle.private_store.specs.Kept.{is_remembered}
 use Rattle.private_store.specs.Private.{view_step}
 use Rattle.private_store.specs.Tables.{at}
-use Rattle.private_store.proofs.Tests.{both_right}
+use Rattle.store_facts.proofs.Tests.{both_right}
 use Rattle.grants.specs.Private.{without_given}
 use Rattle.grants.specs.Table.{AreHands, is_first, is_no_taker, grant_check as table_check, withdraw_check}
-use Rattle.grants.proofs.Private.{refuses_alike}
+use Rattle.grants.proofs.ForCallers.{refuses_alike}
 use Rattle.spill_work.specs.Line.{WorkLine}
 use Rattle.node_table.specs.Granting.{grant_check, grant_check_of, hands_granted}
 use Rattle.node_table.specs.Late.{is_more, has_begun, may_grow}
 use Rattle.node_table.specs.Notes.{beside_rest}
 use Rattle.node_table.specs.Row.{Row, Beside, beside_of, shape_of}
 use Rattle.node_table.specs.Shown.{seen, IsShown, Given, only, TakesStep}
-use Rattle.node_table.proofs.ByChecks.{unless_refused, called}
-use Rattle.node_table.proofs.Granting.{grant_refused, grant_done, lend_refused, lend_done, withdraw_refused, give_back_done}
-use Rattle.node_table.proofs.Notes.{lengths, row_has_hands}
-use Rattle.node_table.proofs.Passed.{past, there, not_not}
+use Rattle.node_table.proofs.ForCallers.{unless_refused, called, grant_refused, grant_done, lend_refused, lend_done, withdraw_refused, give_back_done, lengths, row_has_hands, past, there, not_not}
 use Rattle.node_core.specs.Granting.{grant_refusal, TakesGrant, TakesWithdraw}
 use Rattle.node_core.proofs.Granted.{IsSealedCopy}
 

@@ -18,8 +18,7 @@ use Rattle.job_admission.specs.Admissions.{Admissions}
 use Rattle.grants.specs.Table.{AreHands}
 use Rattle.node_table.specs.Notes.{IsSeen, ends_to, beside_rest}
 use Rattle.node_table.specs.Row.{Row, Beside, beside_of}
-use Rattle.node_table.proofs.Besides.{is_of, alike_bytes}
-use Rattle.node_table.proofs.Notes.{row_ends, bare_ends, none_given, rest_of_other, ends_of}
+use Rattle.node_table.proofs.ForCallers.{is_of, alike_bytes, row_ends, bare_ends, none_given, rest_of_other, ends_of}
 use Rattle.node_core.specs.Hosted.{Hosted, IsRowView, IsViewBy, Shows, ShowsAll, bytes_here, beside_at}
 use Rattle.node_core.specs.Outcomes.{end_noted}
 use Rattle.node_core.specs.Steps.{judged_notes}

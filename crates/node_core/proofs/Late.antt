@@ -18,9 +18,8 @@ use Rattle.node_table.specs.Granting.{peek_check}
 use Rattle.node_table.specs.Row.{Row, Beside, beside_of}
 use Rattle.node_table.specs.Late.{is_more, has_begun, may_grow, IsDueMore}
 use Rattle.node_table.specs.Shown.{seen, IsShown}
-use Rattle.node_table.proofs.Late.{seal_late, read_late, list_late, leave_late, unpin_late, borrow_late, give_up_late, delete_late, end_task_late}
+use Rattle.node_table.proofs.ForCallers.{seal_late, read_late, list_late, leave_late, unpin_late, borrow_late, give_up_late, delete_late, end_task_late, peeks}
 use Rattle.node_core.specs.Hosted.{Hosted, IsRowView, IsViewBy, bytes_here, beside_at}
-use Rattle.node_table.proofs.Peeking.{peeks}
 use Rattle.node_core.specs.Late.{is_accepted, hands_check, IsLate, IsRoomDue, IsUnrefused, IsEventUnrefused}
 use Rattle.node_core.specs.Steps.{answered}
 use Rattle.node_core.proofs.HandCommands.{IsGrowing, grant_late, withdraw_late}

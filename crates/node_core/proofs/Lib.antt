@@ -11,15 +11,16 @@ mod HandsEnd
 mod Ending
 mod Asking
 mod Entering
-pub mod Taking
+mod Taking
 mod Finishing
 mod Requotas
-pub mod Never
-pub mod AllJobs
+mod Never
+mod AllJobs
 mod TaskEnds
-pub mod Notes
+mod Notes
 mod Late
 mod Giving
 mod Withdrawing
 mod Arriving
 mod Small
+pub mod ForCallers

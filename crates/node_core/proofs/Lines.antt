@@ -10,7 +10,7 @@ use Rattle.obj_id.specs.declared.ids.ObjectId.{ObjectId}
 use Rattle.obj_id.specs.declared.works.WorkKind.{WorkKind}
 use Rattle.obj_id.specs.declared.works.WorkKind.TheVariants.{Write, Read}
 use Rattle.private_store.specs.Shape.{WorkInFlight}
-use Rattle.private_store.proofs.Tests.{both_left, both_right}
+use Rattle.store_facts.proofs.Tests.{both_left, both_right}
 use Rattle.spill_work.specs.Line.{WorkLine, is_write, works_of, used_by, numbered, numbered_works}
 use Rattle.node_table.specs.Asked.{HasAsked}
 use Rattle.node_core.specs.Steps.{queued}

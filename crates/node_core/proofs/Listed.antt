@@ -14,7 +14,7 @@ use Rattle.private_store.specs.Hands.{Hand}
 use Rattle.private_store.specs.Jobs.{same_job}
 use Rattle.spill_work.specs.Line.{WorkLine}
 use Rattle.grants.specs.Table.{AreHands}
-use Rattle.grants.proofs.Seen.{seen_items}
+use Rattle.grants.proofs.ForCallers.{seen_items}
 use Rattle.job_admission.specs.Admissions.{Admissions}
 use Rattle.node_table.specs.Row.{Row, Beside, shape_of}
 use Rattle.node_table.specs.Shown.{IsShown, only, TakesStep}

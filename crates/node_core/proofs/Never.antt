@@ -20,8 +20,8 @@ use Rattle.private_store.specs.Answers.{wants_memory}
 use Rattle.private_store.specs.Contents.{View}
 use Rattle.private_store.specs.Shared.{job_is, can_widen, first_refusal}
 use Rattle.private_store.specs.NodeInputs.{Before, own_due}
-use Rattle.private_store.proofs.AnswersAre.{view_never_wants}
-use Rattle.private_store.proofs.Tests.{true_false}
+use Rattle.store_facts.proofs.AnswersAre.{view_never_wants}
+use Rattle.store_facts.proofs.Tests.{true_false}
 use Rattle.spill_work.specs.declared.queue.Asked.{Asked}
 use Rattle.spill_work.specs.declared.queue.Queued.{Queued}
 use Rattle.spill_work.specs.Line.{front_of}

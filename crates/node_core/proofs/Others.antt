@@ -7,7 +7,7 @@ use Rattle.private_store.specs.Private.{no_contents}
 use Rattle.private_store.specs.Shape.{Life}
 use Rattle.spill_work.specs.Line.{same_job}
 use Rattle.node_table.specs.Row.{Row, Beside}
-use Rattle.node_table.proofs.Besides.{IsAlike, alike_shape, alike_shown}
+use Rattle.node_table.proofs.ForCallers.{IsAlike, alike_shape, alike_shown}
 use Rattle.node_core.specs.Hosted.{bare, bare_shape, IsBare, IsViewBy}
 
 module _ (a b : Beside) (same : IsAlike a b) where

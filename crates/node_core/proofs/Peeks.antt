@@ -18,7 +18,7 @@ use Rattle.job_admission.specs.Admissions.{Admissions}
 use Rattle.node_table.specs.Granting.{peek_check, peek_reply}
 use Rattle.node_table.specs.Row.{Row, beside_of}
 use Rattle.node_table.specs.Shown.{IsShown, only, TakesStep}
-use Rattle.node_table.proofs.Peeking.{peeks}
+use Rattle.node_table.proofs.ForCallers.{peeks}
 use Rattle.node_core.specs.Hosted.{Hosted, row_at, bytes_here}
 use Rattle.node_core.specs.Late.{IsCallUnrefused}
 use Rattle.node_core.specs.OneJob.{StepsOne}

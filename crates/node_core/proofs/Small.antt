@@ -22,11 +22,11 @@ use Rattle.private_store.specs.Jobs.{same_job}
 use Rattle.private_store.specs.Kept.{IsViewKept}
 use Rattle.private_store.specs.Limits.{most_live_jobs}
 use Rattle.private_store.specs.Private.{view_step}
-use Rattle.private_store.proofs.AnswersAre.{answers_small}
-use Rattle.private_store.proofs.Tests.{both_left, both_right, none_some, true_false}
+use Rattle.store_facts.proofs.AnswersAre.{answers_small}
+use Rattle.store_facts.proofs.Tests.{both_left, both_right, none_some, true_false}
 use Rattle.grants.specs.Private.{as_given}
 use Rattle.grants.specs.Table.{AreHands, given_by}
-use Rattle.grants.proofs.Few.{is_among, few_granted}
+use Rattle.grants.proofs.ForCallers.{is_among, few_granted}
 use Rattle.node_table.specs.Row.{Row}
 use Rattle.node_core.specs.Foreseen.{takers_told, AreTakers}
 use Rattle.node_core.specs.Hosted.{Hosted, IsViewBy, ShowsAll, row_at, beside_at, bytes_here}

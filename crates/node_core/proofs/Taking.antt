@@ -14,8 +14,8 @@ use Rattle.private_store.specs.Jobs.{same_job}
 use Rattle.private_store.specs.Contents.{Contents, View}
 use Rattle.private_store.specs.Hands.{Hand}
 use Rattle.private_store.specs.Shape.{WorkInFlight}
-use Rattle.private_store.proofs.KeptLists.{count-yes, count-no, some_counted, find-any}
-use Rattle.private_store.proofs.Tests.{some_value, none_some}
+use Rattle.store_facts.proofs.KeptLists.{count-yes, count-no, some_counted, find-any}
+use Rattle.store_facts.proofs.Tests.{some_value, none_some}
 use Rattle.spill_work.specs.declared.queue.Asked.{Asked}
 use Rattle.spill_work.specs.declared.queue.Queued.{Queued}
 use Rattle.spill_work.specs.Line.{WorkLine, shown, is_of, is_at, used_by, front_of, marked, MarksTaken}
@@ -24,9 +24,7 @@ use Rattle.node_table.specs.Row.{Row, Beside}
 use Rattle.node_table.specs.Shown.{seen, only, IsShown}
 use Rattle.node_core.specs.Hosted.{Hosted, IsRowView, IsBare, IsViewBy, Shows, ShowsAll, bytes_here, beside_at}
 use Rattle.node_core.specs.OneJob.{StepsOne}
-use Rattle.node_table.proofs.Answering.{copy_at_work}
-use Rattle.node_table.proofs.Besides.{alike_bytes}
-use Rattle.node_table.proofs.Handing.{work_is}
+use Rattle.node_table.proofs.ForCallers.{copy_at_work, alike_bytes, work_is}
 use Rattle.node_core.specs.Steps.{taken_if, work_given, work_of, take_told}
 use Rattle.node_core.proofs.Others.{other_view}
 use Rattle.node_core.proofs.Views.{node_of, view_is}

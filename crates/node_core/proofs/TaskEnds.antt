@@ -25,22 +25,18 @@ use Rattle.private_store.specs.Jobs.{same_job}
 use Rattle.private_store.specs.Kept.{has_hand}
 use Rattle.private_store.specs.Private.{Post, view_step}
 use Rattle.private_store.specs.Shape.{HandGiven}
-use Rattle.private_store.proofs.OwnJob.{step_keeps_job}
-use Rattle.private_store.proofs.Tests.{both_left, none_some, some_value}
+use Rattle.store_facts.proofs.OwnJob.{step_keeps_job}
+use Rattle.store_facts.proofs.Tests.{both_left, none_some, some_value}
 use Rattle.spill_work.specs.Line.{WorkLine, works_of, used_by}
 use Rattle.grants.specs.Table.{AreHands}
-use Rattle.grants.proofs.Alike.{any_filtered}
-use Rattle.grants.proofs.Left.{left_are_hands}
-use Rattle.grants.proofs.Reach.{first_stands}
+use Rattle.grants.proofs.ForCallers.{any_filtered, left_are_hands, first_stands}
 use Rattle.job_admission.specs.Admissions.{Admissions}
 use Rattle.node_table.specs.Checks.{end_task_check}
 use Rattle.node_table.specs.EndingTasks.{beside_ended, beside_after}
 use Rattle.node_table.specs.Notes.{beside_rest}
 use Rattle.node_table.specs.Row.{Row, Beside, given_by, shape_of}
 use Rattle.node_table.specs.Shown.{seen, IsShown, Given as RowGiven, only, TakesStep}
-use Rattle.node_table.proofs.Besides.{is_of}
-use Rattle.node_table.proofs.EndingTasks.{end_task_refused}
-use Rattle.node_table.proofs.Notes.{rest_of_task, first_left}
+use Rattle.node_table.proofs.ForCallers.{is_of, end_task_refused, rest_of_task, first_left}
 use Rattle.node_core.specs.Hosted.{Hosted, row_at, IsRowView, IsViewBy, Shows, bytes_here, beside_at}
 use Rattle.node_core.specs.Late.{task_refusal, IsCallUnrefused}
 use Rattle.node_core.specs.OneJob.{IsStepOf}

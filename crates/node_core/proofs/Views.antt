@@ -21,21 +21,20 @@ use Rattle.private_store.specs.Events.{is_live}
 use Rattle.private_store.specs.Step.{step, commanded}
 use Rattle.private_store.specs.Contents.{Contents, View, brief, judge, bytes_received, brought, kept}
 use Rattle.private_store.specs.Private.{view_step, outcome}
-use Rattle.private_store.proofs.Checks.{checked-true}
+use Rattle.store_facts.proofs.Checks.{checked-true}
 use Rattle.spill_work.specs.Line.{WorkLine, IsSameFor, same_job as same_line_job}
 use Rattle.node_core.proofs.Others.{other_view, not_same}
 use Rattle.job_admission.specs.Admissions.{Admissions}
 use Rattle.grants.specs.Table.{AreHands}
 use Rattle.node_table.specs.Row.{Row, Beside, beside_of, received_bytes, shape_of}
 use Rattle.node_table.specs.Shown.{seen, IsShown, Given, only, TakesStep}
-use Rattle.node_table.proofs.Besides.{is_of, alike_bytes}
-use Rattle.node_table.proofs.Received.{kept_as_they_are}
+use Rattle.node_table.proofs.ForCallers.{is_of, alike_bytes, kept_as_they_are}
 use Rattle.node_core.specs.Hosted.{Hosted, IsRowView, IsBare, IsViewBy, Shows, ShowsAll, bare, bare_shape, bytes_here, beside_at}
 use Rattle.node_core.proofs.Granted.{bytes_same}
 use Rattle.node_core.specs.OneJob.{IsStepOf, StepsOne}
 use Rattle.node_table.specs.Asked.{HasAsked}
 use Rattle.node_core.proofs.Lines.{asked_nothing}
-use Rattle.private_store.proofs.OwnJob.{step_keeps_job}
+use Rattle.store_facts.proofs.OwnJob.{step_keeps_job}
 
 pub itself : (job : JobNo) → same_job job job ≡ true
 itself job = grind (arith, nat_tests)

@@ -21,19 +21,17 @@ use Rattle.private_store.specs.Jobs.{same_job}
 use Rattle.private_store.specs.Kept.{has_hand}
 use Rattle.private_store.specs.Shape.{HandGiven}
 use Rattle.private_store.specs.Private.{view_step}
-use Rattle.private_store.proofs.KeptLists.{any-filter-only}
-use Rattle.private_store.proofs.OwnJob.{step_keeps_job}
-use Rattle.private_store.proofs.Tests.{both_left}
+use Rattle.store_facts.proofs.KeptLists.{any-filter-only}
+use Rattle.store_facts.proofs.OwnJob.{step_keeps_job}
+use Rattle.store_facts.proofs.Tests.{both_left}
 use Rattle.grants.specs.Table.{AreHands, is_first, withdraw_check}
-use Rattle.grants.proofs.Left.{left_are_hands}
-use Rattle.grants.proofs.Reach.{first_stands}
+use Rattle.grants.proofs.ForCallers.{left_are_hands, first_stands}
 use Rattle.job_admission.specs.Admissions.{Admissions}
 use Rattle.spill_work.specs.Line.{WorkLine}
 use Rattle.node_table.specs.Notes.{beside_rest}
 use Rattle.node_table.specs.Row.{Row, Beside, given_by, shape_of}
 use Rattle.node_table.specs.Shown.{seen, Given as RowGiven, TakesStep}
-use Rattle.node_table.proofs.Besides.{is_of}
-use Rattle.node_table.proofs.Notes.{first_left}
+use Rattle.node_table.proofs.ForCallers.{is_of, first_left}
 use Rattle.node_core.specs.Granting.{TakesWithdraw}
 use Rattle.node_core.specs.Hosted.{Hosted, IsRowView, IsViewBy, ShowsAll, Shows, bytes_here, beside_at}
 use Rattle.node_core.specs.Outcomes.{with_ends}

@@ -8,7 +8,7 @@ use native.Mathlib.Nat.{ℕ_set}
 use Rattle.obj_id.specs.declared.ids.JobNo.{JobNo}
 use Rattle.private_store.specs.Contents.{View}
 use Rattle.private_store.specs.Replay.{Brief, brief_of}
-use Rattle.private_store.proofs.Tests.{none_some}
+use Rattle.store_facts.proofs.Tests.{none_some}
 use Rattle.plain_store.specs.contracts.store.PlainStore as plain
 use Rattle.plain_store.specs.Parts.{has_begun}
 use Rattle.spill_work.specs.Line.{taken_by}

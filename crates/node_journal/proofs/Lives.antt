@@ -23,8 +23,8 @@ use Rattle.private_store.specs.Events.{is_live, begin, answer, written, read_bac
 use Rattle.private_store.specs.Made.{Edit, marks, drops, creates, fetches, asks, finishes, flags, ends_task, gives, leaves, receives, loses, begins, requotas, ends, Edits, none, then_edit}
 use Rattle.private_store.specs.Step.{step}
 use Rattle.private_store.specs.Replay.{Brief, Line as Replayed, replayed, brief_after}
-use Rattle.private_store.proofs.Checks.{checked-nil, checked-true, checked-false}
-use Rattle.private_store.proofs.EachStep.{step_made}
+use Rattle.store_facts.proofs.Checks.{checked-nil, checked-true, checked-false}
+use Rattle.store_facts.proofs.EachStep.{step_made}
 use Rattle.plain_store.specs.Parts.{has_begun}
 use Rattle.node_journal.specs.Replies.{unlisted}
 use Rattle.node_journal.specs.Journals.{AreDue, is_begin, is_ok, begins as line_begins, lines_of, line_of}

@@ -3,7 +3,7 @@ use Rattle.std.proofs.Common.{◌≡◌, ◌≢◌, ◌⊎◌, inl, inr, ℕ, �
 use Rattle.std.specs.Prelude.{nat_lt, nat_le, if◌then◌else◌, filter}
 use Rattle.std.specs.List.{list_all, list_any}
 use Rattle.std.proofs.lemmas.Bool.Decides.{nat_tests}
-use Rattle.private_store.proofs.Tests.{both, both_left, both_right, or_cases, true_false}
+use Rattle.store_facts.proofs.Tests.{both, both_left, both_right, or_cases, true_false}
 use Rattle.node_core.specs.Steps.{JobJudged}
 use Rattle.node_journal.specs.declared.entries.Entry.{Entry}
 use Rattle.node_journal.specs.declared.entries.Line.{Line}

@@ -11,7 +11,7 @@ use Rattle.private_store.specs.declared.schedules.NodeEvent.TheVariants.{Own}
 use Rattle.private_store.specs.Answers.{wants_memory}
 use Rattle.private_store.specs.NodeInputs.{JobInput, Before, own_here, only_of}
 use Rattle.node_core.specs.Steps.{answered, stale_unless}
-use Rattle.node_core.proofs.AllJobs.{own_of, IsFinishAnswer}
+use Rattle.node_core.proofs.ForCallers.{own_of, IsFinishAnswer}
 
 -- ---- the own input
 

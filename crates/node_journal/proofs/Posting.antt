@@ -11,11 +11,11 @@ use Rattle.obj_id.specs.declared.commands.Reply.TheVariants as reply
 use Rattle.obj_id.specs.declared.messages.Arrival.{Arrival}
 use Rattle.obj_id.specs.declared.messages.Arrival.TheVariants as arrival
 use Rattle.obj_id.specs.declared.messages.PeerMessage.TheVariants as peer
-use Rattle.obj_id.proofs.SameIds.{same_id-itself}
+use Rattle.store_facts.proofs.Ids.{same_id-itself}
 use Rattle.private_store.specs.declared.inputs.Input.TheVariants as input
 use Rattle.private_store.specs.declared.inputs.Judged.{Judged}
 use Rattle.private_store.specs.Contents.{View, judge}
-use Rattle.private_store.proofs.Tests.{both}
+use Rattle.store_facts.proofs.Tests.{both}
 use Rattle.node_core.specs.Hosted.{Hosted}
 use Rattle.node_core.specs.Judged.{arrived, IsArrivalJudged}
 use Rattle.node_journal.specs.Journals.{Journal, Tells}

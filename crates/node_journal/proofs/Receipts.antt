@@ -5,7 +5,7 @@ use Rattle.std.specs.List.{list_any}
 use Rattle.std.proofs.Math.Logic.{∥∥₁_map}
 use Rattle.private_store.specs.declared.inputs.Judged.{Judged}
 use Rattle.private_store.specs.Replay.{Brief, Line as Replayed, replayed, brief_after, brief_step}
-use Rattle.private_store.proofs.Tests.{both_right}
+use Rattle.store_facts.proofs.Tests.{both_right}
 use Rattle.node_core.specs.Hosted.{Hosted}
 use Rattle.node_journal.specs.declared.entries.Agreement.TheVariants as agree
 use Rattle.node_journal.specs.declared.entries.Entry.{Entry}

@@ -9,7 +9,7 @@ use Rattle.obj_id.specs.declared.commands.Reply.TheVariants as reply
 use Rattle.private_store.specs.declared.schedules.Event.{Event}
 use Rattle.private_store.specs.Hands.{Hand}
 use Rattle.private_store.specs.Jobs.{same_job}
-use Rattle.private_store.proofs.Tests.{true_false}
+use Rattle.store_facts.proofs.Tests.{true_false}
 use Rattle.node_core.specs.declared.outcome.Note.{Note}
 use Rattle.node_core.specs.Foreseen.{AreTakers, takers_of}
 use Rattle.node_journal.specs.declared.entries.Line.{Line}

@@ -11,7 +11,7 @@ use Rattle.private_store.specs.Jobs.{same_job}
 use Rattle.private_store.specs.Shape.{Life, Shape, not_begun, live, ended, unbegun}
 use Rattle.private_store.specs.Contents.{View}
 use Rattle.private_store.specs.Replay.{Brief, brief_of, unbegun_brief, replayed}
-use Rattle.private_store.proofs.Tests.{both_left, both_right, or_cases, true_false, false_true}
+use Rattle.store_facts.proofs.Tests.{both_left, both_right, or_cases, true_false, false_true}
 use Rattle.plain_store.specs.Parts.{has_begun}
 use Rattle.node_core.specs.Hosted.{Hosted, IsViewBy, Shows, bare, beside_at, row_at}
 use Rattle.node_journal.specs.declared.entries.Agreement.{Agreement}

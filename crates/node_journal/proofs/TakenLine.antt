@@ -8,13 +8,13 @@ use Rattle.std.proofs.lemmas.List.Elements.{filter-append}
 use Rattle.std.proofs.lemmas.List.Folds.{list_all-append}
 use Rattle.obj_id.specs.declared.ids.JobNo.{JobNo}
 use Rattle.private_store.specs.Shape.{WorkInFlight}
-use Rattle.private_store.proofs.KeptLists.{all-filter}
-use Rattle.private_store.proofs.Tests.{both, both_left, both_right, none_some, some_value, true_false}
+use Rattle.store_facts.proofs.KeptLists.{all-filter}
+use Rattle.store_facts.proofs.Tests.{both, both_left, both_right, none_some, some_value, true_false}
 use Rattle.spill_work.specs.declared.queue.Asked.{Asked}
 use Rattle.spill_work.specs.declared.queue.Queued.{Queued}
 use Rattle.spill_work.specs.Line.{same_job, shown, is_of, is_at, front_of}
 use Rattle.node_core.specs.Steps.{taken_if, queued}
-use Rattle.node_core.proofs.Taking.{part, unmarked}
+use Rattle.node_core.proofs.ForCallers.{part, unmarked}
 use Rattle.node_journal.specs.Journals.{taken_come_first}
 
 abbrev pub count : JobNo → List Queued → ℕ

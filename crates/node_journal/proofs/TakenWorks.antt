@@ -24,16 +24,15 @@ use Rattle.private_store.specs.Shape.{Copy, WorkInFlight}
 use Rattle.private_store.specs.Contents.{View, judge}
 use Rattle.private_store.specs.NodeInputs.{JobInput, own_here}
 use Rattle.private_store.specs.Private.{view_step}
-use Rattle.private_store.proofs.KeptLists.{find-passes}
-use Rattle.private_store.proofs.Tests.{none_some, some_value}
+use Rattle.store_facts.proofs.KeptLists.{find-passes}
+use Rattle.store_facts.proofs.Tests.{none_some, some_value}
 use Rattle.spill_work.specs.declared.queue.Asked.{Asked}
 use Rattle.spill_work.specs.declared.queue.Queued.{Queued}
 use Rattle.spill_work.specs.Line.{same_job, is_of, is_at, front_of}
 use Rattle.node_core.specs.Hosted.{Hosted, ShowsAll}
 use Rattle.node_core.specs.OneJob.{input_of}
 use Rattle.node_core.specs.Steps.{Given, JobJudged, StepsFrom, IsEventAnswer, before_of, job_of_event, job_at, is_taken, taken_if, line_left, asked_now, answered, requota_check, stale_unless, work_given, work_of}
-use Rattle.node_core.proofs.AllJobs.{works_shown}
-use Rattle.node_core.proofs.Taking.{one_each}
+use Rattle.node_core.proofs.ForCallers.{works_shown, one_each}
 use Rattle.job_admission.specs.Admissions.{admit_check, live_at}
 use Rattle.node_journal.specs.declared.entries.EventName.{EventName}
 use Rattle.node_journal.specs.declared.entries.Line.{Line}

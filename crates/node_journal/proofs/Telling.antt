@@ -22,9 +22,9 @@ use Rattle.private_store.specs.Answers.{wants_memory, is_small_reply}
 use Rattle.private_store.specs.NodeInputs.{JobInput, Before, own_here, notes_here, only_of, inputs_to}
 use Rattle.private_store.specs.Private.{view_step, view_from, view_of, no_store}
 use Rattle.private_store.specs.Replay.{Line as Replayed, replayed, brief_after, brief_step, brief_of}
-use Rattle.private_store.proofs.AnswersAre.{view_never_wants, answers_whole}
-use Rattle.private_store.proofs.Tests.{none_some}
-use Rattle.private_store.proofs.StepsKept.{no_store_kept, view_keeps}
+use Rattle.store_facts.proofs.AnswersAre.{view_never_wants, answers_whole}
+use Rattle.store_facts.proofs.Tests.{none_some}
+use Rattle.store_facts.proofs.StepsKept.{no_store_kept, view_keeps}
 use Rattle.job_admission.specs.Admissions.{Admissions, live_at}
 use Rattle.spill_work.specs.Line.{WorkLine, taken_by}
 use Rattle.node_core.specs.Hosted.{Hosted, Shows, ShowsAll}
@@ -37,8 +37,7 @@ use Rattle.node_journal.specs.declared.entries.Line.{Line}
 use Rattle.node_journal.specs.declared.entries.Line.TheVariants as line
 use Rattle.node_journal.specs.Replies.{unlisted, kept_reply}
 use Rattle.node_journal.specs.Journals.{Journal, fresh, entry_for, event_name, notes_for, lines_made, line_of, lines_of, store_of, AreDue, GivesDue, IsTold, IsWorkDue, Tells, gives_work, taken_of, taken_come_first, folded_if, with_lines, is_call}
-use Rattle.node_core.proofs.AllJobs.{own_of, IsFinishAnswer, finish_answer, own_due_is}
-use Rattle.node_core.proofs.Notes.{is_note, AreJobNotes, here_notes}
+use Rattle.node_core.proofs.ForCallers.{own_of, IsFinishAnswer, finish_answer, own_due_is, is_note, AreJobNotes, here_notes}
 use Rattle.node_journal.proofs.OwnInputs.{of_job, here_is, if_own, own_inputs}
 use Rattle.node_journal.proofs.Lists.{lines_of-snoc, replayed-snoc, due-snoc}
 use Rattle.node_journal.proofs.TakenWorks.{KeepsTaken, step_keeps, arrival_keeps, stale_keeps, next_taken, folded_taken, numbered}

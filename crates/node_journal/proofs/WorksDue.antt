@@ -14,7 +14,7 @@ use Rattle.obj_id.specs.declared.messages.PeerMessage.TheVariants as peer
 use Rattle.obj_id.specs.declared.refusals.Refusal.{Refusal}
 use Rattle.obj_id.specs.declared.works.WorkKind.TheVariants as kind
 use Rattle.obj_id.specs.Ids.{same_id}
-use Rattle.obj_id.proofs.SameIds.{same_id-itself}
+use Rattle.store_facts.proofs.Ids.{same_id-itself}
 use Rattle.private_store.specs.declared.inputs.Input.{Input}
 use Rattle.private_store.specs.declared.inputs.Input.TheVariants as input
 use Rattle.private_store.specs.declared.inputs.Judged.{Judged}
@@ -29,15 +29,15 @@ use Rattle.private_store.specs.Replay.{Brief, brief_of, replayed}
 use Rattle.private_store.specs.Shape.{Copy, Fetch, WorkInFlight}
 use Rattle.private_store.specs.Step.{step}
 use Rattle.private_store.specs.Tables.{at}
-use Rattle.private_store.proofs.KeptLists.{count-yes, count-no, some_counted, find-any}
-use Rattle.private_store.proofs.Tests.{true_false, false_true, none_some, some_value}
+use Rattle.store_facts.proofs.KeptLists.{count-yes, count-no, some_counted, find-any}
+use Rattle.store_facts.proofs.Tests.{true_false, false_true, none_some, some_value}
 use Rattle.spill_work.specs.declared.queue.Asked.{Asked}
 use Rattle.spill_work.specs.declared.queue.Queued.{Queued}
 use Rattle.spill_work.specs.Line.{front_of, shown}
 use Rattle.node_core.specs.Hosted.{Hosted, IsViewBy, Shows, ShowsAll, beside_at, row_at}
 use Rattle.node_core.specs.Steps.{Given, JobJudged, IsEventAnswer, answered, job_at, take_told, work_given, work_of}
 use Rattle.node_core.specs.OneJob.{input_of}
-use Rattle.node_core.proofs.AllJobs.{works_shown}
+use Rattle.node_core.proofs.ForCallers.{works_shown}
 use Rattle.node_journal.specs.declared.entries.EventName.{EventName}
 use Rattle.node_journal.specs.declared.entries.Line.{Line}
 use Rattle.node_journal.specs.declared.entries.Line.TheVariants as line

@@ -8,7 +8,7 @@ use Rattle.private_store.specs.Events.{is_live}
 use Rattle.private_store.specs.Contents.{View}
 use Rattle.private_store.specs.Replay.{Brief, brief_of}
 use Rattle.private_store.specs.Hands.{Hand}
-use Rattle.private_store.proofs.Tests.{true_false}
+use Rattle.store_facts.proofs.Tests.{true_false}
 use Rattle.plain_store.specs.Parts.{has_begun}
 use Rattle.node_table.specs.Row.{Row, Beside, beside_of, shape_of, given_by, received_by}
 use Rattle.node_core.specs.Hosted.{Hosted, IsBare, IsRowView, IsViewBy, Shows, row_at, bytes_here, beside_at, bare_shape}

@@ -8,14 +8,14 @@ use Rattle.std.proofs.lemmas.Map.Views.{lookup-from_Contains}
 use Rattle.obj_id.specs.declared.ids.ObjectId.{ObjectId}
 use Rattle.obj_id.specs.declared.commands.OwnItem.{OwnItem}
 use Rattle.obj_id.specs.Ids.{id_cmp}
-use Rattle.obj_id.proofs.SameIds.{id_eq_equiv, same_id-id_eq}
+use Rattle.store_facts.proofs.Ids.{id_eq_equiv, same_id-id_eq}
 use Rattle.private_store.specs.Tables.{ById, at}
 use Rattle.private_store.specs.Shape.{Copy}
-use Rattle.private_store.proofs.ObjectMaps.{at-lookup}
+use Rattle.store_facts.proofs.ObjectMaps.{at-lookup}
 use Rattle.node_table.specs.Kept.{Kept}
 use Rattle.node_table.specs.Row.{copies_of}
 use Rattle.node_table.specs.Usages.{item_of}
-use Rattle.node_table.proofs.Listed.{distinct_from_sorted}
+use Rattle.node_table.proofs.ForCallers.{distinct_from_sorted}
 
 -- the copy of this id, if there is one
 abbrev pub found : ById Kept → ObjectId → List (ObjectId × Copy)

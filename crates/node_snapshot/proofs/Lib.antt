@@ -1,2 +1,2 @@
-pub mod Briefs
-pub mod Gathered
+mod Briefs
+mod Gathered

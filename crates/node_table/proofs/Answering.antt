@@ -16,7 +16,7 @@ use Rattle.obj_id.specs.declared.works.Extent.{Extent}
 use Rattle.obj_id.specs.declared.works.WorkKind.{WorkKind}
 use Rattle.obj_id.specs.declared.works.WorkKind.TheVariants.{Write, Read}
 use Rattle.obj_id.specs.Ids.{id_cmp, same_id}
-use Rattle.obj_id.proofs.SameIds.{id_cmp-IsTotalOrder, id_cmp-IsAntisymmetric, same_id-equal, same_id-itself, same_id-flip}
+use Rattle.store_facts.proofs.Ids.{id_cmp-IsTotalOrder, id_cmp-IsAntisymmetric, same_id-equal, same_id-itself, same_id-flip}
 use Rattle.private_store.specs.declared.faults.Fault.{Fault}
 use Rattle.private_store.specs.declared.faults.Fault.TheVariants.{DeviceFailed, Damaged}
 use Rattle.private_store.specs.declared.inputs.Input.{Input}
@@ -38,18 +38,18 @@ use Rattle.private_store.specs.Hands.{Hand}
 use Rattle.private_store.specs.Kept.{IsCopyKept, has_extent, has_hand, is_restoring}
 use Rattle.private_store.specs.Private.{key_of}
 use Rattle.private_store.specs.Step.{step}
-use Rattle.private_store.proofs.Filling.{filled}
-use Rattle.private_store.proofs.KeptCopy.{restoring_is}
-use Rattle.private_store.proofs.KeptLists.{count-yes, count-no, none_counted, some_counted, find-any, filter_none}
-use Rattle.private_store.proofs.KeptRows.{IsLiveKept, to_live}
-use Rattle.private_store.proofs.KeptWorks.{rest_free}
-use Rattle.private_store.proofs.RefusingLemmas.{keys_none, all_found}
-use Rattle.private_store.proofs.RowContents.{length-overwritten}
-use Rattle.private_store.proofs.Rows.{at-put, at-put_here}
-use Rattle.private_store.proofs.Tests.{T_true, true_false, none_here, none_some, some_value, both_left}
+use Rattle.store_facts.proofs.Filling.{filled}
+use Rattle.store_facts.proofs.KeptCopy.{restoring_is}
+use Rattle.store_facts.proofs.KeptLists.{count-yes, count-no, none_counted, some_counted, find-any, filter_none}
+use Rattle.store_facts.proofs.KeptRows.{IsLiveKept, to_live}
+use Rattle.store_facts.proofs.KeptWorks.{rest_free}
+use Rattle.store_facts.proofs.ErasedKeys.{keys_none, all_found}
+use Rattle.store_facts.proofs.RowContents.{length-overwritten}
+use Rattle.store_facts.proofs.Rows.{at-put, at-put_here}
+use Rattle.store_facts.proofs.Tests.{T_true, true_false, none_here, none_some, some_value, both_left}
 use Rattle.job_region.specs.Region.{without, bytes_at as placed_bytes}
 use Rattle.lru_evictor.specs.Orders.{AreThere}
-use Rattle.lru_evictor.proofs.Reorders.{reordered-unused}
+use Rattle.lru_evictor.proofs.ForCallers.{reordered-unused}
 use Rattle.spill_work.specs.declared.queue.Asked.{Asked}
 use Rattle.spill_work.specs.Line.{WorkLine, shown, is_write, used_by, Finishes}
 use Rattle.node_table.specs.Answering.{is_in_work, has_bytes, has_failed, read_verdict, verdict_of, written_row, refilled, lost_row, read_row, ended_row}

@@ -15,7 +15,7 @@ use Rattle.obj_id.specs.declared.commands.CopyState.{CopyState}
 use Rattle.obj_id.specs.declared.commands.CopyState.TheVariants.{Created, Sealed, Restoring, Fetching, Away}
 use Rattle.obj_id.specs.declared.commands.Reply.TheVariants as reply
 use Rattle.obj_id.specs.Ids.{id_cmp, same_id}
-use Rattle.obj_id.proofs.SameIds.{id_cmp-IsTotalOrder, id_cmp-IsAntisymmetric, same_id-equal}
+use Rattle.store_facts.proofs.Ids.{id_cmp-IsTotalOrder, id_cmp-IsAntisymmetric, same_id-equal}
 use Rattle.private_store.specs.declared.inputs.Input.{Input}
 use Rattle.private_store.specs.declared.inputs.Input.TheVariants as input
 use Rattle.private_store.specs.Tables.{ById, at, with_entry, is_among}
@@ -29,14 +29,14 @@ use Rattle.private_store.specs.Events as events
 use Rattle.private_store.specs.Contents.{Contents, View, judge, source_in, entry_elsewhere, is_locating, is_sized, keeps_digest, no_digest, bytes_brought, digest_brought, brought, bytes_received}
 use Rattle.private_store.specs.Private.{Post, posts_of, view_after}
 use Rattle.private_store.specs.Kept.{has_hand, is_fetching, is_pulling, has_extent}
-use Rattle.private_store.proofs.Checks.{checked-false, checked-nil}
-use Rattle.private_store.proofs.Filling.{filled}
-use Rattle.private_store.proofs.RefusingLemmas.{keys_none, all_found}
-use Rattle.private_store.proofs.Rows.{at-put, at-put_here}
-use Rattle.private_store.proofs.Tests.{none_some, some_value, true_false, false_true, T_true, both_left, both_right, none_here}
+use Rattle.store_facts.proofs.Checks.{checked-false, checked-nil}
+use Rattle.store_facts.proofs.Filling.{filled}
+use Rattle.store_facts.proofs.ErasedKeys.{keys_none, all_found}
+use Rattle.store_facts.proofs.Rows.{at-put, at-put_here}
+use Rattle.store_facts.proofs.Tests.{none_some, some_value, true_false, false_true, T_true, both_left, both_right, none_here}
 use Rattle.job_region.specs.Region.{bytes_at as placed_bytes}
 use Rattle.lru_evictor.specs.Orders.{AreThere}
-use Rattle.lru_evictor.proofs.Reorders.{reordered-unused}
+use Rattle.lru_evictor.proofs.ForCallers.{reordered-unused}
 use Rattle.node_table.specs.Arriving.{awaits_source, in_phase, located, sourced}
 use Rattle.node_table.specs.Entries.{changed}
 use Rattle.node_table.specs.Kept.{Kept}

@@ -10,7 +10,7 @@ use Rattle.obj_id.specs.declared.works.WorkKind.TheVariants.{Write, Read}
 use Rattle.obj_id.specs.declared.commands.Reply.TheVariants as reply
 use Rattle.obj_id.specs.declared.refusals.Refusal.TheVariants.{Pending}
 use Rattle.obj_id.specs.Ids.{id_cmp, same_id}
-use Rattle.obj_id.proofs.SameIds.{id_cmp-IsTotalOrder, id_cmp-IsAntisymmetric, same_id-equal}
+use Rattle.store_facts.proofs.Ids.{id_cmp-IsTotalOrder, id_cmp-IsAntisymmetric, same_id-equal}
 use Rattle.private_store.specs.Limits.{most_works, has_numbers}
 use Rattle.private_store.specs.Tables.{ById, at, with_entry, is_among}
 use Rattle.private_store.specs.Hands.{Hand}
@@ -22,13 +22,13 @@ use Rattle.private_store.specs.Change.{refused, erasing, in_room}
 use Rattle.private_store.specs.Contents.{Contents, judge, keeps_digest, no_digest, brought}
 use Rattle.private_store.specs.Private.{key_of}
 use Rattle.private_store.specs.Step.{step}
-use Rattle.private_store.proofs.Filling.{filled}
-use Rattle.private_store.proofs.RefusingLemmas.{keys_none, all_found}
-use Rattle.private_store.proofs.Rows.{at-put}
-use Rattle.private_store.proofs.Tests.{T_true, both, both_left, both_right, some_value, none_some, none_here, not_true}
+use Rattle.store_facts.proofs.Filling.{filled}
+use Rattle.store_facts.proofs.ErasedKeys.{keys_none, all_found}
+use Rattle.store_facts.proofs.Rows.{at-put}
+use Rattle.store_facts.proofs.Tests.{T_true, both, both_left, both_right, some_value, none_some, none_here, not_true}
 use Rattle.job_region.specs.Region.{bytes_at as placed_bytes}
 use Rattle.lru_evictor.specs.Orders.{AreThere}
-use Rattle.lru_evictor.proofs.Reorders.{reordered-unused}
+use Rattle.lru_evictor.proofs.ForCallers.{reordered-unused}
 use Rattle.spill_work.specs.Line.{WorkLine, numbered_works, in_flight, used_by, room_for, AsksAll}
 use Rattle.node_table.specs.Entries.{changed, each_changed}
 use Rattle.node_table.specs.Kept.{Kept, can_spill, spilling, spilling_if}

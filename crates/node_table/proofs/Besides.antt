@@ -5,15 +5,15 @@ use Rattle.std.specs.List.{list_all, list_any}
 use Rattle.std.specs.Option.{option_map_or}
 use Rattle.obj_id.specs.declared.ids.ObjectId.{ObjectId}
 use Rattle.obj_id.specs.Ids.{same_id}
-use Rattle.obj_id.proofs.SameIds.{same_id-itself}
+use Rattle.store_facts.proofs.Ids.{same_id-itself}
 use Rattle.private_store.specs.Contents.{Contents, bytes_at}
 use Rattle.private_store.specs.Hands.{Hand}
 use Rattle.private_store.specs.Kept.{IsViewKept, has_hand}
 use Rattle.private_store.specs.Shape.{Seen}
 use Rattle.private_store.specs.Tables.{ById, at, with_entry}
-use Rattle.private_store.proofs.Rows.{at-put, put_rows}
-use Rattle.private_store.proofs.Tests.{some_value, none_some, both_left, both_right, or_left, or_right}
-use Rattle.private_store.proofs.KeptLists.{any-filter-only}
+use Rattle.store_facts.proofs.Rows.{at-put, put_rows}
+use Rattle.store_facts.proofs.Tests.{some_value, none_some, both_left, both_right, or_left, or_right}
+use Rattle.store_facts.proofs.KeptLists.{any-filter-only}
 use Rattle.grants.specs.Private.{with_taken}
 use Rattle.spill_work.specs.Line.{WorkLine, IsSameFor}
 use Rattle.node_table.specs.Row.{Row, Beside, received_by, beside_of, received_bytes, shape_of}

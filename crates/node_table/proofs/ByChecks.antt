@@ -16,7 +16,7 @@ use Rattle.private_store.specs.Room.{set_copy}
 use Rattle.private_store.specs.Change.{replied, refused, done, checked, needing, sending, erasing}
 use Rattle.private_store.specs.Commands.{write, seal, read, holds_of, is_unsealed}
 use Rattle.private_store.specs.Step.{step, owned, commanded}
-use Rattle.private_store.proofs.Checks.{checked-nil, checked-false}
+use Rattle.store_facts.proofs.Checks.{checked-nil, checked-false}
 use Rattle.node_table.specs.Kept.{Kept}
 use Rattle.node_table.specs.Row.{Row, Beside, shape_of}
 use Rattle.node_table.specs.Checks.{write_check, seal_check, read_check, read_check_of}

@@ -6,9 +6,9 @@ use Rattle.std.specs.declared.cmp.Ordering.TheVariants.{Less, Equal, Greater}
 use Rattle.std.specs.FinMap.Entries.{by_order, is_sorted, below_all}
 use Rattle.obj_id.specs.declared.ids.ObjectId.{ObjectId}
 use Rattle.obj_id.specs.Ids.{id_cmp, same_id}
-use Rattle.obj_id.proofs.SameIds.{same_id-equal, same_id-itself}
-use Rattle.private_store.proofs.Filling.{below_none}
-use Rattle.private_store.proofs.Tests.{and_left, none_some}
+use Rattle.store_facts.proofs.Ids.{same_id-equal, same_id-itself}
+use Rattle.store_facts.proofs.Filling.{below_none}
+use Rattle.store_facts.proofs.Tests.{and_left, none_some}
 use Rattle.private_store.specs.Tables.{ById, at, with_entry, without_entry}
 use Rattle.node_table.specs.Entries.{changed}
 use Rattle.node_table.specs.Kept.{Kept}

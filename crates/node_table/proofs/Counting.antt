@@ -3,12 +3,12 @@ use Rattle.std.proofs.Common.{◌≡◌, suc, ◌+◌, ◌≤◌, Bool, true, fa
 use Rattle.std.specs.List.{list_all, count_by}
 use Rattle.obj_id.specs.declared.ids.ObjectId.{ObjectId}
 use Rattle.obj_id.specs.Ids.{same_id}
-use Rattle.obj_id.proofs.SameIds.{same_id-itself}
+use Rattle.store_facts.proofs.Ids.{same_id-itself}
 use Rattle.private_store.specs.Tables.{ById, at, without_entry}
 use Rattle.private_store.specs.Kept.{IsOrderOfUse}
-use Rattle.private_store.proofs.Rows.{at-drop}
-use Rattle.private_store.proofs.KeptLists.{length-filter-le, count-cons, count-yes}
-use Rattle.private_store.proofs.Tests.{both, both_left, both_right, true_false}
+use Rattle.store_facts.proofs.Rows.{at-drop}
+use Rattle.store_facts.proofs.KeptLists.{length-filter-le, count-cons, count-yes}
+use Rattle.store_facts.proofs.Tests.{both, both_left, both_right, true_false}
 
 module _ {X : Type 0} where
   -- an entry less

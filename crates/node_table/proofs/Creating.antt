@@ -12,7 +12,7 @@ use Rattle.obj_id.specs.declared.commands.Reply.TheVariants as reply
 use Rattle.obj_id.specs.declared.refusals.Refusal.{Refusal}
 use Rattle.obj_id.specs.declared.refusals.Refusal.TheVariants.{BadSize, Gone, Exists, TooMany}
 use Rattle.obj_id.specs.Ids.{id_eq, same_id}
-use Rattle.obj_id.proofs.SameIds.{same_id-flip, same_id-id_eq}
+use Rattle.store_facts.proofs.Ids.{same_id-flip, same_id-id_eq}
 use Rattle.private_store.specs.declared.inputs.Input.{Input}
 use Rattle.private_store.specs.declared.inputs.Input.TheVariants as input
 use Rattle.private_store.specs.Limits.{most_copies}
@@ -27,8 +27,8 @@ use Rattle.std.proofs.lemmas.Bool.{eqb-true}
 use Rattle.private_store.specs.Commands.{create, created, is_length}
 use Rattle.private_store.specs.Contents.{Contents, judge}
 use Rattle.private_store.specs.Step.{step}
-use Rattle.private_store.proofs.Checks.{checked-nil}
-use Rattle.private_store.proofs.Tests.{some_value, none_some, true_false}
+use Rattle.store_facts.proofs.Checks.{checked-nil}
+use Rattle.store_facts.proofs.Tests.{some_value, none_some, true_false}
 use Rattle.job_region.specs.Region.{extents_of}
 use Rattle.node_table.specs.Kept.{Kept, new_kept}
 use Rattle.node_table.specs.Row.{Row, Beside, copies_of, shape_of, place_of, ArePlaced}

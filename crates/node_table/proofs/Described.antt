@@ -19,7 +19,7 @@ use Rattle.private_store.specs.Kept.{has_hand}
 use Rattle.obj_id.specs.Kinds.{is_primary}
 use Rattle.private_store.specs.Copies.{extent_of, is_held, is_sealed, is_working, device_used}
 use Rattle.private_store.specs.Contents.{Contents}
-use Rattle.private_store.proofs.Tests.{T_true, and_right, none_some, some_value}
+use Rattle.store_facts.proofs.Tests.{T_true, and_right, none_some, some_value}
 use Rattle.job_region.specs.Region.{extents_of, IsAt}
 use Rattle.lru_evictor.specs.declared.facts.DeviceRoom.{DeviceRoom}
 use Rattle.lru_evictor.specs.Facts.{Looked}

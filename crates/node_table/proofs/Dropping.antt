@@ -9,22 +9,22 @@ use Rattle.std.proofs.lemmas.Bool.Decides.{nat_tests}
 use Rattle.obj_id.specs.declared.ids.ObjectId.{ObjectId}
 use Rattle.obj_id.specs.declared.works.Extent.{Extent}
 use Rattle.obj_id.specs.Ids.{id_cmp, same_id}
-use Rattle.obj_id.proofs.SameIds.{same_id-itself, same_id-equal, same_id-flip}
+use Rattle.store_facts.proofs.Ids.{same_id-itself, same_id-equal, same_id-flip}
 use Rattle.private_store.specs.declared.faults.Fault.{Fault}
 use Rattle.private_store.specs.declared.inputs.Input.{Input}
 use Rattle.private_store.specs.Tables.{ById, at, with_entry, without_entry, is_among}
 use Rattle.private_store.specs.Shape.{Copy, Change}
 use Rattle.private_store.specs.Room.{drop_copy}
 use Rattle.private_store.specs.Change.{keys_gone}
-use Rattle.private_store.proofs.Filling.{below_none}
-use Rattle.private_store.proofs.RefusingLemmas.{all_found}
+use Rattle.store_facts.proofs.Filling.{below_none}
+use Rattle.store_facts.proofs.ErasedKeys.{all_found}
 use Rattle.private_store.specs.Copies.{extent_of}
 use Rattle.private_store.specs.Step.{reordered}
 use Rattle.private_store.specs.Contents.{Contents}
 use Rattle.private_store.specs.Private.{key_of}
-use Rattle.private_store.proofs.KeptLists.{any-filter}
-use Rattle.private_store.proofs.Rows.{at-drop, at-put}
-use Rattle.private_store.proofs.Tests.{none_some, some_value, true_false, false_true, true_T, and_left, and_right, both, both_left, both_right}
+use Rattle.store_facts.proofs.KeptLists.{any-filter}
+use Rattle.store_facts.proofs.Rows.{at-drop, at-put}
+use Rattle.store_facts.proofs.Tests.{none_some, some_value, true_false, false_true, true_T, and_left, and_right, both, both_left, both_right}
 use Rattle.job_region.specs.Region.{without}
 use Rattle.lru_evictor.specs.Orders.{AreThere, without_id}
 use Rattle.node_table.specs.Entries.{changed}
@@ -32,7 +32,7 @@ use Rattle.node_table.specs.Kept.{Kept, lost}
 use Rattle.node_table.specs.Row.{Row, Beside, copies_of, shape_of, place_of, ArePlaced}
 use Rattle.node_table.specs.Shown.{IsShown, Given}
 use Rattle.node_table.specs.Dropping.{dropped}
-use Rattle.lru_evictor.proofs.Free.{goes}
+use Rattle.lru_evictor.proofs.ForCallers.{goes}
 use Rattle.std.proofs.lemmas.List.{append-nil}
 use Rattle.node_table.proofs.Changes.{changed-found, changed-absent}
 use Rattle.node_table.proofs.Places.{same_places}

@@ -9,7 +9,7 @@ use Rattle.obj_id.specs.Ids.{id_cmp}
 use Rattle.private_store.specs.Tables.{ById, at, ids_of}
 use Rattle.private_store.specs.Change.{keys_gone}
 use Rattle.private_store.specs.Private.{key_of}
-use Rattle.private_store.proofs.Tests.{and_right}
+use Rattle.store_facts.proofs.Tests.{and_right}
 use Rattle.node_table.specs.Ending.{keys_backed}
 use Rattle.node_table.specs.Kept.{Kept}
 use Rattle.node_table.specs.Row.{Row, copies_of}

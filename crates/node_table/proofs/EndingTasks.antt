@@ -17,7 +17,7 @@ use Rattle.obj_id.specs.declared.commands.Reply.TheVariants as reply
 use Rattle.obj_id.specs.declared.messages.DirectoryMessage.TheVariants.{RemoveLocation, Free}
 use Rattle.obj_id.specs.Ids.{id_cmp, same_id, same_task}
 use Rattle.obj_id.specs.Kinds.{is_primary}
-use Rattle.obj_id.proofs.SameIds.{same_id-equal, id_cmp-IsTotalOrder}
+use Rattle.store_facts.proofs.Ids.{same_id-equal, id_cmp-IsTotalOrder}
 use Rattle.private_store.specs.declared.inputs.Input.{Input}
 use Rattle.private_store.specs.declared.inputs.Input.TheVariants as input
 use Rattle.private_store.specs.Limits.{most_ended_tasks}
@@ -33,12 +33,12 @@ use Rattle.private_store.specs.Contents.{Contents, View, judge, keeps_digest, no
 use Rattle.private_store.specs.Kept.{has_hand}
 use Rattle.private_store.specs.Private.{Post, key_of, posts_of, view_after}
 use Rattle.private_store.specs.Step.{reordered}
-use Rattle.private_store.proofs.Checks.{checked-nil}
-use Rattle.private_store.proofs.Filling.{filled}
-use Rattle.private_store.proofs.Tests.{T_true, and_right, none_some, some_value}
+use Rattle.store_facts.proofs.Checks.{checked-nil}
+use Rattle.store_facts.proofs.Filling.{filled}
+use Rattle.store_facts.proofs.Tests.{T_true, and_right, none_some, some_value}
 use Rattle.job_region.specs.Region.{bytes_at as placed_bytes}
 use Rattle.lru_evictor.specs.Orders.{AreThere}
-use Rattle.lru_evictor.proofs.Reorders.{reordered-unused}
+use Rattle.lru_evictor.proofs.ForCallers.{reordered-unused}
 use Rattle.node_table.specs.Checks.{end_task_check}
 use Rattle.node_table.specs.Dropping.{dropped, is_over, settled_row}
 use Rattle.node_table.specs.Entries.{by_rising_id}

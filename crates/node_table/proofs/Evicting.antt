@@ -8,16 +8,16 @@ use Rattle.obj_id.specs.declared.ids.ObjectId.{ObjectId}
 use Rattle.obj_id.specs.declared.commands.CopyState.TheVariants.{Away}
 use Rattle.obj_id.specs.Ids.{id_cmp, same_id}
 use Rattle.obj_id.specs.Kinds.{is_primary}
-use Rattle.obj_id.proofs.SameIds.{same_id-equal, same_id-itself, same_id-flip}
+use Rattle.store_facts.proofs.Ids.{same_id-equal, same_id-itself, same_id-flip}
 use Rattle.private_store.specs.Tables.{ById, at, with_entry, without_entry, is_among}
 use Rattle.private_store.specs.Shape.{Copy, Shape, remove_location}
 use Rattle.private_store.specs.Room.{evicted, eviction_notice, set_copy, drop_copy}
 use Rattle.private_store.specs.Change.{keys_gone}
 use Rattle.private_store.specs.Private.{to_directory}
 use Rattle.obj_id.specs.declared.messages.DirectoryMessage.TheVariants.{RemoveLocation}
-use Rattle.private_store.proofs.KeptLists.{length-filter-le}
-use Rattle.private_store.proofs.Rows.{at-put, at-drop}
-use Rattle.private_store.proofs.Tests.{and_right, none_some, some_value, or_right}
+use Rattle.store_facts.proofs.KeptLists.{length-filter-le}
+use Rattle.store_facts.proofs.Rows.{at-put, at-drop}
+use Rattle.store_facts.proofs.Tests.{and_right, none_some, some_value, or_right}
 use Rattle.lru_evictor.specs.Orders.{without_id}
 use Rattle.node_table.specs.Entries.{changed}
 use Rattle.node_table.specs.Evicting.{has_secondary, evicted_one, all_evicted, removals, without_missing}

@@ -17,7 +17,7 @@ use Rattle.private_store.specs.Contents.{Contents, judge}
 use Rattle.private_store.specs.Private.{key_of}
 use Rattle.private_store.specs.Step.{step}
 use Rattle.private_store.specs.Kept.{is_remembered, is_restoring}
-use Rattle.lru_evictor.proofs.Reorders.{reordered-unused}
+use Rattle.lru_evictor.proofs.ForCallers.{reordered-unused}
 use Rattle.node_table.specs.Entries.{changed}
 use Rattle.node_table.specs.Kept.{Kept, fault_told}
 use Rattle.node_table.specs.Row.{Row, Beside, copies_of, shape_of}

@@ -12,7 +12,7 @@ use Rattle.obj_id.specs.declared.refusals.Refusal.TheVariants.{BadSize, TooMany,
 use Rattle.obj_id.specs.declared.commands.Command.TheVariants as command
 use Rattle.obj_id.specs.declared.commands.Reply.TheVariants as reply
 use Rattle.obj_id.specs.Ids.{same_id}
-use Rattle.obj_id.proofs.SameIds.{same_id-equal}
+use Rattle.store_facts.proofs.Ids.{same_id-equal}
 use Rattle.private_store.specs.declared.faults.FetchFault.{FetchFault}
 use Rattle.private_store.specs.declared.inputs.Input.{Input}
 use Rattle.private_store.specs.declared.inputs.Input.TheVariants as input
@@ -29,15 +29,15 @@ use Rattle.private_store.specs.Change.{refused, erasing, sending, keys_gone}
 use Rattle.private_store.specs.Commands.{is_length, fetch_refusal, fetched_copy, fetch_begun, get_fetching}
 use Rattle.private_store.specs.Contents.{Contents, View, judge, is_sized, keeps_digest, no_digest}
 use Rattle.private_store.specs.Private.{Post, key_of, to_directory, to_peer, pull_of, pull_posts}
-use Rattle.private_store.proofs.Checks.{checked-true, checked-nil}
+use Rattle.store_facts.proofs.Checks.{checked-true, checked-nil}
 use Rattle.obj_id.specs.declared.commands.CopyState.TheVariants.{Fetching}
 use Rattle.private_store.specs.Kept.{is_fetching, is_remembered}
-use Rattle.private_store.proofs.Filling.{filled}
-use Rattle.private_store.proofs.Rows.{at-put, at-put_here}
-use Rattle.private_store.proofs.Tests.{some_value, none_some, true_false, false_true, T_true}
+use Rattle.store_facts.proofs.Filling.{filled}
+use Rattle.store_facts.proofs.Rows.{at-put, at-put_here}
+use Rattle.store_facts.proofs.Tests.{some_value, none_some, true_false, false_true, T_true}
 use Rattle.job_region.specs.Region.{bytes_at as placed_bytes}
 use Rattle.lru_evictor.specs.Orders.{AreThere, last_used}
-use Rattle.lru_evictor.proofs.Reorders.{reordered-used}
+use Rattle.lru_evictor.proofs.ForCallers.{reordered-used}
 use Rattle.node_table.specs.Kept.{Kept, fetched_kept}
 use Rattle.node_table.specs.Row.{Row, Beside, copies_of, shape_of, place_of, ArePlaced}
 use Rattle.node_table.specs.Dropping.{dropped}

@@ -9,15 +9,15 @@ use Rattle.obj_id.specs.declared.ids.ObjectId.{ObjectId}
 use Rattle.obj_id.specs.declared.works.Extent.{Extent}
 use Rattle.obj_id.specs.Ids.{same_id}
 use Rattle.obj_id.specs.Kinds.{is_primary}
-use Rattle.obj_id.proofs.SameIds.{same_id-equal, same_id-itself, same_id-not_back}
+use Rattle.store_facts.proofs.Ids.{same_id-equal, same_id-itself, same_id-not_back}
 use Rattle.private_store.specs.Tables.{ById, at, with_entry, without_entry, is_among}
 use Rattle.private_store.specs.Copies.{extent_of}
-use Rattle.private_store.proofs.Rows.{at-put, at-drop}
-use Rattle.private_store.proofs.Tests.{none_some, true_false}
+use Rattle.store_facts.proofs.Rows.{at-put, at-drop}
+use Rattle.store_facts.proofs.Tests.{none_some, true_false}
 use Rattle.lru_evictor.specs.declared.facts.Standing.{Standing}
 use Rattle.lru_evictor.specs.Facts.{standing_of, nowhere, standing_at}
 use Rattle.lru_evictor.specs.Orders.{ids_of, AllPass, OthersPass, same_bool, same_extent, same_standing, standing_in, may_stand, stood, begins_in, can_settle, settled}
-use Rattle.lru_evictor.proofs.Agreeing.{same_standing-equal}
+use Rattle.lru_evictor.proofs.ForCallers.{same_standing-equal}
 use Rattle.node_table.specs.Kept.{Kept, unplaced}
 use Rattle.node_table.specs.RoomPlans.{facts_of}
 use Rattle.node_table.specs.Entries.{by_rising_id, changed, each_changed}

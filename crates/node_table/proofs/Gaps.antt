@@ -15,7 +15,7 @@ use Rattle.obj_id.specs.declared.commands.CopyState.{CopyState}
 use Rattle.obj_id.specs.declared.commands.CopyState.TheVariants.{Created, Sealed, Restoring, Fetching, Away}
 use Rattle.obj_id.specs.declared.commands.Reply.TheVariants as reply
 use Rattle.obj_id.specs.Ids.{same_id}
-use Rattle.obj_id.proofs.SameIds.{same_id-flip}
+use Rattle.store_facts.proofs.Ids.{same_id-flip}
 use Rattle.private_store.specs.declared.faults.FetchFault.TheVariants as fault
 use Rattle.private_store.specs.declared.inputs.ChunkVerdict.{ChunkVerdict}
 use Rattle.private_store.specs.declared.inputs.ChunkVerdict.TheVariants as verdict
@@ -35,9 +35,9 @@ use Rattle.private_store.specs.Events as events
 use Rattle.private_store.specs.Contents.{Contents, View, judge, digest_at, no_digest, has_digest, chunk_length, with_chunk, gap_verdict, pulled_verdict, chunk_verdict, bytes_brought, brought as brought_to, keeps_digest, is_sized}
 use Rattle.private_store.specs.Private.{Post, to_directory, length_at}
 use Rattle.private_store.specs.Kept.{is_fetching, is_pulling, are_gaps}
-use Rattle.private_store.proofs.Filling.{filled}
-use Rattle.private_store.proofs.Rows.{at-put, at-put_here}
-use Rattle.private_store.proofs.Tests.{some_value, true_false, false_true, both_left, both_right}
+use Rattle.store_facts.proofs.Filling.{filled}
+use Rattle.store_facts.proofs.Rows.{at-put, at-put_here}
+use Rattle.store_facts.proofs.Tests.{some_value, true_false, false_true, both_left, both_right}
 use Rattle.job_region.specs.Region.{without, bytes_at as placed_bytes}
 use Rattle.fetch_core.specs.Fetching.{fills_one, chunk_taken, missing_of}
 use Rattle.node_table.specs.Arriving.{of_length, fills, lacks_only, gap_closed, brought, unfetched_row, row_written}

@@ -19,14 +19,14 @@ use Rattle.private_store.specs.Commands.{get, get_copy, get_sealed, get_away, ge
 use Rattle.private_store.specs.Contents.{Contents, judge}
 use Rattle.private_store.specs.Private.{key_of}
 use Rattle.private_store.specs.Step.{step}
-use Rattle.private_store.proofs.Checks.{checked-true, checked-false, checked-nil}
-use Rattle.private_store.proofs.Rows.{at-put_here}
+use Rattle.store_facts.proofs.Checks.{checked-true, checked-false, checked-nil}
+use Rattle.store_facts.proofs.Rows.{at-put_here}
 use Rattle.std.specs.Prelude.{IfOk, OnErr, Ok, Err}
 use Rattle.std.specs.declared.result.Result.{Result}
 use Rattle.private_store.specs.Kept.{is_remembered}
-use Rattle.private_store.proofs.Tests.{some_value, true_false, both_left, both_right, not_true}
+use Rattle.store_facts.proofs.Tests.{some_value, true_false, both_left, both_right, not_true}
 use Rattle.lru_evictor.specs.Orders.{AreThere, last_used, touched}
-use Rattle.lru_evictor.proofs.Reorders.{reordered-used}
+use Rattle.lru_evictor.proofs.ForCallers.{reordered-used}
 use Rattle.node_table.specs.Entries.{changed}
 use Rattle.node_table.specs.Kept.{Kept, held, is_ready}
 use Rattle.node_table.specs.Row.{Row, Beside, copies_of, shape_of}

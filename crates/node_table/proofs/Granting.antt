@@ -11,7 +11,7 @@ use Rattle.obj_id.specs.declared.refusals.Refusal.TheVariants.{BadId, Gone, Abse
 use Rattle.obj_id.specs.declared.commands.Command.TheVariants as command
 use Rattle.obj_id.specs.declared.commands.Reply.TheVariants as reply
 use Rattle.obj_id.specs.Ids.{id_cmp, same_id}
-use Rattle.obj_id.proofs.SameIds.{id_cmp-IsTotalOrder, id_cmp-IsAntisymmetric, same_id-equal, same_id-itself}
+use Rattle.store_facts.proofs.Ids.{id_cmp-IsTotalOrder, id_cmp-IsAntisymmetric, same_id-equal, same_id-itself}
 use Rattle.private_store.specs.declared.inputs.Input.{Input}
 use Rattle.private_store.specs.declared.inputs.Input.TheVariants as input
 use Rattle.private_store.specs.Tables.{ById, at, with_entry}
@@ -24,18 +24,15 @@ use Rattle.private_store.specs.Contents.{Contents}
 use Rattle.private_store.specs.Hands.{Hand, ground, new_hand, with_hand, hands_left, is_withdrawn, is_given_by}
 use Rattle.private_store.specs.Kept.{has_hand}
 use Rattle.private_store.specs.Private.{key_of}
-use Rattle.private_store.proofs.Checks.{checked-nil}
-use Rattle.private_store.proofs.Rows.{at-put, at-put_here}
-use Rattle.private_store.proofs.RefusingLemmas.{keys_none, all_found}
-use Rattle.private_store.proofs.Tests.{T_true, true_T, true_false, both_left, or_false, or_cases, or_left, or_right, refuted}
-use Rattle.private_store.proofs.KeptLists.{any-filter, all-filter}
+use Rattle.store_facts.proofs.Checks.{checked-nil}
+use Rattle.store_facts.proofs.Rows.{at-put, at-put_here}
+use Rattle.store_facts.proofs.ErasedKeys.{keys_none, all_found}
+use Rattle.store_facts.proofs.Tests.{T_true, true_T, true_false, both_left, or_false, or_cases, or_left, or_right, refuted}
+use Rattle.store_facts.proofs.KeptLists.{any-filter, all-filter}
 use Rattle.grants.specs.Table.{AreHands, given_by as hands_given, given_to, is_first, is_no_taker, limits_check, hung_check, grant_check as table_check, withdraw_check}
 use Rattle.grants.specs.Private.{as_given, HasHands, RefusesAlike}
-use Rattle.grants.proofs.Alike.{numbers_equal}
-use Rattle.grants.proofs.Ends.{filter_swap}
-use Rattle.grants.proofs.Private.{is_to, any_given, left_given, refuses_alike, grants_alike}
-use Rattle.grants.proofs.Taken.{taken_sorted, taken_is}
-use Rattle.lru_evictor.proofs.Reorders.{reordered-unused}
+use Rattle.grants.proofs.ForCallers.{numbers_equal, filter_swap, is_to, any_given, left_given, refuses_alike, grants_alike, taken_sorted, taken_is}
+use Rattle.lru_evictor.proofs.ForCallers.{reordered-unused}
 use Rattle.spill_work.specs.Line.{WorkLine}
 use Rattle.node_table.specs.Dropping.{is_over, settled_row, keys_settled}
 use Rattle.node_table.specs.Granting.{grant_check, grant_check_of, hands_granted}

@@ -11,7 +11,7 @@ use Rattle.private_store.specs.Tables.{at}
 use Rattle.private_store.specs.Shape.{Copy, Shape}
 use Rattle.private_store.specs.Contents.{Contents}
 use Rattle.private_store.specs.Room.{Room, make_room, set_copy, drop_copy, evicted, offset_without, plan}
-use Rattle.private_store.proofs.Tests.{true_false, false_true}
+use Rattle.store_facts.proofs.Tests.{true_false, false_true}
 use Rattle.lru_evictor.specs.Plans.{listed}
 use Rattle.node_table.specs.RoomPlans.{IsPlanned, MakesPlace, AsksWrites, planned_by, refuses, makes_place}
 use Rattle.node_table.specs.Row.{Row, Beside, shape_of}

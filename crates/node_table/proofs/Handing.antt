@@ -10,7 +10,7 @@ use Rattle.private_store.specs.Shape.{WorkInFlight}
 use Rattle.private_store.specs.Copies.{extent_of}
 use Rattle.private_store.specs.Contents.{Contents, View}
 use Rattle.private_store.specs.Events as events
-use Rattle.private_store.proofs.Tests.{none_some}
+use Rattle.store_facts.proofs.Tests.{none_some}
 use Rattle.job_region.specs.Region.{bytes_at as placed_bytes}
 use Rattle.spill_work.specs.declared.queue.Asked.{Asked}
 use Rattle.spill_work.specs.Line.{shown, is_write}

@@ -29,9 +29,9 @@ use Rattle.private_store.specs.Commands.{is_length, created, granted_items, all_
 use Rattle.private_store.specs.Contents.{Contents, View, judge, whole_reply}
 use Rattle.private_store.specs.Private.{Post, to_directory, posts_of, pull_of, pull_posts, view_after, view_step}
 use Rattle.private_store.specs.Step.{step}
-use Rattle.private_store.proofs.Checks.{checked-false, checked-nil}
-use Rattle.private_store.proofs.Rows.{at-put_here}
-use Rattle.private_store.proofs.Tests.{both_left, both_right, none_some, not_true, or_left, or_right, true_false}
+use Rattle.store_facts.proofs.Checks.{checked-false, checked-nil}
+use Rattle.store_facts.proofs.Rows.{at-put_here}
+use Rattle.store_facts.proofs.Tests.{both_left, both_right, none_some, not_true, or_left, or_right, true_false}
 use Rattle.spill_work.specs.Line.{WorkLine, in_flight, used_by}
 use Rattle.node_table.specs.Kept.{Kept}
 use Rattle.node_table.specs.Row.{Row, Beside, beside_of, shape_of}

@@ -11,7 +11,7 @@ use Rattle.obj_id.specs.declared.commands.Command.TheVariants as command
 use Rattle.obj_id.specs.declared.commands.OwnItem.{OwnItem}
 use Rattle.obj_id.specs.declared.commands.Reply.TheVariants as reply
 use Rattle.obj_id.specs.Ids.{id_cmp, same_id}
-use Rattle.obj_id.proofs.SameIds.{same_id-itself, same_id-equal, same_id-flip}
+use Rattle.store_facts.proofs.Ids.{same_id-itself, same_id-equal, same_id-flip}
 use Rattle.private_store.specs.declared.inputs.Input.{Input}
 use Rattle.private_store.specs.declared.inputs.Input.TheVariants as input
 use Rattle.private_store.specs.Tables.{ById, at, with_entry, ids_of, is_among}
@@ -24,12 +24,12 @@ use Rattle.private_store.specs.Contents.{Contents, judge, keeps_digest, no_diges
 use Rattle.private_store.specs.Kept.{has_hand}
 use Rattle.private_store.specs.Private.{key_of}
 use Rattle.private_store.specs.Step.{step, reordered}
-use Rattle.private_store.proofs.Filling.{filled, below_none}
-use Rattle.private_store.proofs.Rows.{at-put, at-put_here, at-drop}
-use Rattle.private_store.proofs.Tests.{T_true, and_left, and_right, none_some, some_value}
+use Rattle.store_facts.proofs.Filling.{filled, below_none}
+use Rattle.store_facts.proofs.Rows.{at-put, at-put_here, at-drop}
+use Rattle.store_facts.proofs.Tests.{T_true, and_left, and_right, none_some, some_value}
 use Rattle.job_region.specs.Region.{bytes_at as placed_bytes}
 use Rattle.lru_evictor.specs.Orders.{AreThere}
-use Rattle.lru_evictor.proofs.Reorders.{reordered-unused}
+use Rattle.lru_evictor.proofs.ForCallers.{reordered-unused}
 use Rattle.node_table.specs.Kept.{Kept, left}
 use Rattle.node_table.specs.Row.{Row, Beside, copies_of, shape_of, place_of, ArePlaced}
 use Rattle.node_table.specs.Dropping.{dropped, is_over, settled_row, keys_settled, unheld_row, left_row, keys_left}

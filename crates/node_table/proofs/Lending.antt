@@ -12,7 +12,7 @@ use Rattle.private_store.specs.Copies.{extent_of, is_sealed}
 use Rattle.private_store.specs.Commands.{holds_of, is_unsealed}
 use Rattle.private_store.specs.Contents.{Contents, bytes_at}
 use Rattle.private_store.specs.Kept.{are_held}
-use Rattle.private_store.proofs.Tests.{some_value}
+use Rattle.store_facts.proofs.Tests.{some_value}
 use Rattle.job_region.specs.Region.{bytes_at as placed_bytes}
 use Rattle.node_table.specs.Kept.{Kept}
 use Rattle.node_table.specs.Row.{Row, Beside, copies_of}

@@ -1,59 +1,60 @@
 mod Changes
-pub mod CopyTables
-pub mod Places
-pub mod Rising
-pub mod Received
-pub mod Besides
-pub mod Stepping
-pub mod ByChecks
-pub mod Passed
-pub mod Writing
-pub mod Changing
-pub mod Scoping
-pub mod Sealing
-pub mod Orders
-pub mod Getting
-pub mod Holding
-pub mod Settling
-pub mod Releasing
-pub mod Leaving
-pub mod MarkedPlaces
-pub mod LeavingEach
-pub mod Telling
-pub mod Totals
-pub mod Sums
-pub mod Described
-pub mod Planning
+mod CopyTables
+mod Places
+mod Rising
+mod Received
+mod Besides
+mod Stepping
+mod ByChecks
+mod Passed
+mod Writing
+mod Changing
+mod Scoping
+mod Sealing
+mod Orders
+mod Getting
+mod Holding
+mod Settling
+mod Releasing
+mod Leaving
+mod MarkedPlaces
+mod LeavingEach
+mod Telling
+mod Totals
+mod Sums
+mod Described
+mod Planning
 mod Growing
-pub mod Removing
-pub mod Evicting
-pub mod Counting
-pub mod Replacing
-pub mod Restoring
-pub mod Dropping
-pub mod Fetching
-pub mod Shared
-pub mod Faults
-pub mod Rooms
-pub mod Pulling
-pub mod Creating
-pub mod Asking
-pub mod Answering
-pub mod Handing
-pub mod Quotas
-pub mod EndingKeys
-pub mod Lending
-pub mod Listed
-pub mod Late
-pub mod Arriving
-pub mod Overwriting
-pub mod Unfetching
-pub mod Gaps
-pub mod EndingTasks
-pub mod Serving
+mod Removing
+mod Evicting
+mod Counting
+mod Replacing
+mod Restoring
+mod Dropping
+mod Fetching
+mod Shared
+mod Faults
+mod Rooms
+mod Pulling
+mod Creating
+mod Asking
+mod Answering
+mod Handing
+mod Quotas
+mod EndingKeys
+mod Lending
+mod Listed
+mod Late
+mod Arriving
+mod Overwriting
+mod Unfetching
+mod Gaps
+mod EndingTasks
+mod Serving
 mod Noted
-pub mod Notes
-pub mod Peeking
-pub mod Granting
-pub mod FollowsCopies
-pub mod Placeless
+mod Notes
+mod Peeking
+mod Granting
+mod FollowsCopies
+mod Placeless
+pub mod ForCallers

@@ -15,10 +15,10 @@ use Rattle.std.proofs.lemmas.Map.Views.{Contains-from_lookup, lookup-from_Contai
 use Rattle.obj_id.specs.declared.ids.ObjectId.{ObjectId}
 use Rattle.obj_id.specs.declared.commands.OwnItem.{OwnItem}
 use Rattle.obj_id.specs.Ids.{id_cmp, id_eq}
-use Rattle.obj_id.proofs.SameIds.{id_cmp-IsTotalOrder, id_cmp-IsAntisymmetric, same_id-id_eq, id_eq_equiv, id_eq-equal}
+use Rattle.store_facts.proofs.Ids.{id_cmp-IsTotalOrder, id_cmp-IsAntisymmetric, same_id-id_eq, id_eq_equiv, id_eq-equal}
 use Rattle.private_store.specs.Tables.{ById, at}
-use Rattle.private_store.proofs.ObjectMaps.{at-lookup}
-use Rattle.private_store.proofs.Tests.{true_false, and_left, and_right}
+use Rattle.store_facts.proofs.ObjectMaps.{at-lookup}
+use Rattle.store_facts.proofs.Tests.{true_false, and_left, and_right}
 use Rattle.node_table.specs.Entries.{by_rising_id}
 use Rattle.node_table.specs.Kept.{Kept}
 use Rattle.node_table.specs.Usages.{item_of}

@@ -1,7 +1,7 @@
 -- Which marks leave a copy where it lies.
 use Rattle.std.proofs.Common.{◌≡◌, true, refl, ap}
 use Rattle.private_store.specs.Copies.{extent_of}
-use Rattle.private_store.proofs.Tests.{true_false}
+use Rattle.store_facts.proofs.Tests.{true_false}
 use Rattle.node_table.specs.declared.marks.Mark.{Mark}
 use Rattle.node_table.specs.declared.marks.Mark.TheVariants as mark
 use Rattle.node_table.specs.Kept.{Kept}

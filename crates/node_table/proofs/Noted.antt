@@ -5,15 +5,15 @@ use Rattle.std.specs.List.{list_any, list_all}
 use Rattle.std.specs.FinMap.Entries.{is_sorted, is_sorted-put, is_sorted-where_key}
 use Rattle.obj_id.specs.declared.ids.ObjectId.{ObjectId}
 use Rattle.obj_id.specs.Ids.{id_cmp, same_id}
-use Rattle.obj_id.proofs.SameIds.{id_cmp-IsTotalOrder, same_id-equal}
+use Rattle.store_facts.proofs.Ids.{id_cmp-IsTotalOrder, same_id-equal}
 use Rattle.private_store.specs.Tables.{ById, at, with_entry, without_entry}
 use Rattle.private_store.specs.Shape.{Shape, HandGiven, Seen}
 use Rattle.private_store.specs.Events.{is_hand, without_hand, hangs_on, hand_ended, withdrawn}
 use Rattle.private_store.specs.Hands.{Hand}
 use Rattle.private_store.specs.Kept.{has_hand}
-use Rattle.private_store.proofs.Rows.{at-put, at-drop}
-use Rattle.private_store.proofs.KeptLists.{any-filter-all, all-filter, all_weaker}
-use Rattle.private_store.proofs.Tests.{true_false}
+use Rattle.store_facts.proofs.Rows.{at-put, at-drop}
+use Rattle.store_facts.proofs.KeptLists.{any-filter-all, all-filter, all_weaker}
+use Rattle.store_facts.proofs.Tests.{true_false}
 use Rattle.grants.specs.Private.{told_ends}
 
 -- the store with these hands given and these objects granted

@@ -19,16 +19,12 @@ use Rattle.private_store.specs.Hands.{Hand, new_hand, with_hand, hands_ended, ha
 use Rattle.private_store.specs.Kept.{has_hand}
 use Rattle.private_store.specs.Private.{view_step, view_from, view_after}
 use Rattle.private_store.specs.NodeInputs.{JobInput, only_of, received_here, withdrawn_here}
-use Rattle.private_store.proofs.Filling.{filled}
-use Rattle.private_store.proofs.Tests.{true_T}
+use Rattle.store_facts.proofs.Filling.{filled}
+use Rattle.store_facts.proofs.Tests.{true_T}
 use Rattle.grants.specs.Table.{AreHands, given_by as hands_given, given_to, is_first}
 use Rattle.grants.specs.Private.{as_given, with_taken, HasHands, HasRest, RestAlike, told_ends}
-use Rattle.grants.proofs.Alike.{numbers_equal}
-use Rattle.grants.proofs.Ends.{ends_alike, rest_alike}
-use Rattle.grants.proofs.Left.{filter_both}
-use Rattle.grants.proofs.Private.{made_for}
-use Rattle.grants.proofs.Taken.{has_hands, taken_sorted, taken_shown, taken_is}
-use Rattle.lru_evictor.proofs.Reorders.{reordered-unused}
+use Rattle.grants.proofs.ForCallers.{numbers_equal, ends_alike, rest_alike, filter_both, made_for, has_hands, taken_sorted, taken_shown, taken_is}
+use Rattle.lru_evictor.proofs.ForCallers.{reordered-unused}
 use Rattle.spill_work.specs.Line.{WorkLine}
 use Rattle.node_table.specs.EndingTasks.{beside_ended}
 use Rattle.node_table.specs.Kept.{Kept}

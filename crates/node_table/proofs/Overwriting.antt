@@ -4,14 +4,14 @@ use Rattle.std.specs.Map.{set_value}
 use Rattle.obj_id.specs.declared.ids.ObjectId.{ObjectId}
 use Rattle.obj_id.specs.declared.works.Extent.{Extent}
 use Rattle.obj_id.specs.Ids.{same_id}
-use Rattle.obj_id.proofs.SameIds.{same_id-itself}
+use Rattle.store_facts.proofs.Ids.{same_id-itself}
 use Rattle.private_store.specs.Tables.{at}
 use Rattle.private_store.specs.Extents.{rounded}
 use Rattle.private_store.specs.Copies.{extent_of}
 use Rattle.private_store.specs.Contents.{Contents, bytes_at, overwritten}
-use Rattle.private_store.proofs.Tests.{true_false}
+use Rattle.store_facts.proofs.Tests.{true_false}
 use Rattle.job_region.specs.Region.{bytes_at as placed_bytes}
-use Rattle.job_region.proofs.Parts.{part_over_within}
+use Rattle.job_region.proofs.ForCallers.{part_over_within}
 use Rattle.node_table.specs.Kept.{Kept}
 use Rattle.node_table.specs.Row.{Row, Beside, place_of, ArePlaced}
 use Rattle.node_table.specs.Shown.{IsShown}

@@ -15,7 +15,7 @@ use Rattle.private_store.specs.Shape.{Copy, Fetch}
 use Rattle.private_store.specs.Copies.{is_created, is_sealed, extent_of}
 use Rattle.private_store.specs.Kept.{has_extent}
 use Rattle.private_store.specs.Commands.{holds_of, is_unsealed}
-use Rattle.private_store.proofs.Tests.{true_false}
+use Rattle.store_facts.proofs.Tests.{true_false}
 use Rattle.node_table.specs.Kept.{Kept}
 use Rattle.node_table.specs.Row.{place_of}
 use Rattle.node_table.specs.Checks.{write_check, write_check_of, seal_check, seal_check_of, read_check, read_check_of}

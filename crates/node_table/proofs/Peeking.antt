@@ -17,8 +17,8 @@ use Rattle.private_store.specs.Change.{replied, refused, checked, erasing}
 use Rattle.private_store.specs.Commands.{peek}
 use Rattle.private_store.specs.Contents.{Contents, bytes_at, whole_reply}
 use Rattle.private_store.specs.Hands.{Hand}
-use Rattle.private_store.proofs.Checks.{checked-nil}
-use Rattle.private_store.proofs.Tests.{true_false}
+use Rattle.store_facts.proofs.Checks.{checked-nil}
+use Rattle.store_facts.proofs.Tests.{true_false}
 use Rattle.grants.specs.Table.{shows}
 use Rattle.grants.specs.Private.{as_taken, seen_by}
 use Rattle.spill_work.specs.Line.{WorkLine}

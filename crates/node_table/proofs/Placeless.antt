@@ -5,7 +5,7 @@ use Rattle.obj_id.specs.declared.ids.ObjectId.{ObjectId}
 use Rattle.obj_id.specs.declared.refusals.Refusal.{Refusal}
 use Rattle.obj_id.specs.declared.refusals.Refusal.TheVariants.{BadSize, Full}
 use Rattle.private_store.specs.Extents.{first, is_size}
-use Rattle.private_store.proofs.Tests.{none_some}
+use Rattle.store_facts.proofs.Tests.{none_some}
 use Rattle.job_region.specs.Region.{Region, extents_of, place_for, place_check}
 use Rattle.node_table.specs.Evicting.{placed_without, has_place}
 use Rattle.node_table.specs.Row.{Row}

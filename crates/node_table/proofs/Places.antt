@@ -11,14 +11,14 @@ use Rattle.obj_id.specs.declared.works.Extent.{Extent}
 use Rattle.obj_id.specs.declared.refusals.Refusal.{Refusal}
 use Rattle.obj_id.specs.declared.refusals.Refusal.TheVariants.{OutOfBounds}
 use Rattle.private_store.specs.Contents.{overwritten}
-use Rattle.private_store.proofs.Tests.{some_value}
-use Rattle.private_store.proofs.RowContents.{length-overwritten}
+use Rattle.store_facts.proofs.Tests.{some_value}
+use Rattle.store_facts.proofs.RowContents.{length-overwritten}
 use Rattle.job_region.specs.Region.{Region, extents_of, IsAt, bytes_at}
 use Rattle.private_store.specs.Tables.{ById, at, with_entry}
 use Rattle.private_store.specs.Copies.{extent_of}
-use Rattle.private_store.proofs.Rows.{at-put}
+use Rattle.store_facts.proofs.Rows.{at-put}
 use Rattle.obj_id.specs.Ids.{same_id}
-use Rattle.obj_id.proofs.SameIds.{same_id-equal}
+use Rattle.store_facts.proofs.Ids.{same_id-equal}
 use Rattle.std.specs.Option.{option_map_or, option_and_then}
 use Rattle.node_table.specs.Entries.{changed, each_changed}
 use Rattle.node_table.specs.Kept.{Kept}

@@ -9,7 +9,7 @@ use Rattle.obj_id.specs.declared.ids.ObjectId.{ObjectId}
 use Rattle.obj_id.specs.declared.refusals.Refusal.{Refusal}
 use Rattle.obj_id.specs.declared.refusals.Refusal.TheVariants.{BadSize, Full, Pending, TooMany, DeviceFailed}
 use Rattle.obj_id.specs.Ids.{same_id}
-use Rattle.obj_id.proofs.SameIds.{same_id-itself}
+use Rattle.store_facts.proofs.Ids.{same_id-itself}
 use Rattle.private_store.specs.Limits.{has_numbers}
 use Rattle.private_store.specs.Tables.{ById, at, is_among}
 use Rattle.private_store.specs.Extents.{is_size, first}
@@ -18,16 +18,16 @@ use Rattle.private_store.specs.Copies.{is_evictable, is_passing, is_spillable, d
 use Rattle.private_store.specs.Contents.{Contents}
 use Rattle.private_store.specs.Kept.{IsOrderOfUse}
 use Rattle.private_store.specs.Room.{Plan, fits, wait, full, busy, evict, spill, plan, shortest, shortest_from, victims, spilled, spill_plan, in_order, offset_without, bytes_of_copies, works_left, asked, no_room, spill_room, room_by, make_room}
-use Rattle.private_store.proofs.KeptLists.{count-take}
-use Rattle.private_store.proofs.KeptPlan.{AreChosen, fewer_chosen, shortest_chosen}
-use Rattle.private_store.proofs.RefusingLemmas.{victims_make_room}
-use Rattle.private_store.proofs.Tests.{both, or_left, or_right, true_false}
+use Rattle.store_facts.proofs.KeptLists.{count-take}
+use Rattle.store_facts.proofs.KeptPlan.{AreChosen, fewer_chosen, shortest_chosen}
+use Rattle.store_facts.proofs.VictimsMakeRoom.{victims_make_room}
+use Rattle.store_facts.proofs.Tests.{both, or_left, or_right, true_false}
 use Rattle.job_region.specs.Region.{Region, extents_of, place_for, place_check, without}
 use Rattle.lru_evictor.specs.declared.facts.DeviceRoom.{DeviceRoom}
 use Rattle.lru_evictor.specs.declared.facts.Standing.{Standing}
 use Rattle.lru_evictor.specs.Orders.{ids_of}
 use Rattle.lru_evictor.specs.Plans.{IsDescribed, IsOfCopies}
-use Rattle.lru_evictor.proofs.Described.{fits-described}
+use Rattle.lru_evictor.proofs.ForCallers.{fits-described}
 use Rattle.spill_work.specs.Line.{WorkLine, works_of, in_flight, used_by}
 use Rattle.node_table.specs.Kept.{Kept}
 use Rattle.node_table.specs.Row.{Row, Beside, shape_of, place_of, ArePlaced}

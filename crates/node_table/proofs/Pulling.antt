@@ -17,8 +17,8 @@ use Rattle.private_store.specs.Private.{Post, to_peer, pull_of, pull_posts, view
 use Rattle.private_store.specs.Room.{make_room}
 use Rattle.private_store.specs.Shape.{Copy, Shape, Change, Fetch, Phase, locating, sized, pulling, failed, pull, remove_location}
 use Rattle.private_store.specs.Step.{step}
-use Rattle.private_store.proofs.Checks.{checked-false, checked-nil}
-use Rattle.private_store.proofs.Rows.{at-put_here}
+use Rattle.store_facts.proofs.Checks.{checked-false, checked-nil}
+use Rattle.store_facts.proofs.Rows.{at-put_here}
 use Rattle.job_region.specs.Region.{extents_of}
 use Rattle.node_table.specs.MadeRooms.{BringsNothing}
 use Rattle.node_table.specs.RoomPlans.{MakesPlace}
@@ -37,7 +37,7 @@ use Rattle.private_store.specs.Copies.{extent_of, is_sealed, was_sealed}
 use Rattle.private_store.specs.Extents.{rounded, first, is_size}
 use Rattle.private_store.specs.Limits.{longest_object}
 use Rattle.obj_id.specs.declared.works.Extent.{Extent}
-use Rattle.private_store.proofs.Tests.{both, both_left, both_right, true_false, none_some}
+use Rattle.store_facts.proofs.Tests.{both, both_left, both_right, true_false, none_some}
 use Rattle.node_table.specs.Evicting.{used_last, has_secondary, all_evicted, removals, placed_without, replaced}
 use Rattle.node_table.specs.Kept.{Kept, is_unasked, is_sealed_at, waits_for_place, with_chunks, pulled, placed_for}
 use Rattle.node_table.specs.declared.copy.Awaited.{Awaited}

@@ -14,11 +14,11 @@ use Rattle.private_store.specs.Extents.{end_of}
 use Rattle.private_store.specs.Limits.{is_quota}
 use Rattle.private_store.specs.Shape.{Shape, Change}
 use Rattle.private_store.specs.Step.{step}
-use Rattle.private_store.proofs.Checks.{checked-nil, checked-false}
-use Rattle.private_store.proofs.Tests.{both, both_left, both_right}
+use Rattle.store_facts.proofs.Checks.{checked-nil, checked-false}
+use Rattle.store_facts.proofs.Tests.{both, both_left, both_right}
 use Rattle.job_region.specs.Region.{are_within, extents_of}
 use Rattle.lru_evictor.specs.Plans.{extents_in}
-use Rattle.lru_evictor.proofs.Reorders.{reordered-unused}
+use Rattle.lru_evictor.proofs.ForCallers.{reordered-unused}
 use Rattle.node_table.specs.Quotas.{fits, refusal_by, requota_check, store_check, requoted}
 use Rattle.node_table.specs.Row.{Row, Beside, copies_of, shape_of, place_of, ArePlaced}
 use Rattle.node_table.specs.Shown.{seen, IsShown, only, TakesStep}

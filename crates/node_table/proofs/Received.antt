@@ -3,13 +3,13 @@ use Rattle.std.proofs.Common.{◌≡◌, ℕ, Bool, true, false, cond, List, [],
 use Rattle.std.specs.List.{list_all}
 use Rattle.obj_id.specs.declared.ids.ObjectId.{ObjectId}
 use Rattle.obj_id.specs.Ids.{same_id}
-use Rattle.obj_id.proofs.SameIds.{same_id-itself, same_id-equal}
+use Rattle.store_facts.proofs.Ids.{same_id-itself, same_id-equal}
 use Rattle.private_store.specs.Tables.{ById, at, with_entry}
 use Rattle.private_store.specs.Shape.{Seen}
 use Rattle.private_store.specs.Contents.{kept}
-use Rattle.private_store.proofs.Rows.{at-put}
-use Rattle.private_store.proofs.Tests.{both, both_left, both_right}
-use Rattle.private_store.proofs.KeptLists.{all_weaker}
+use Rattle.store_facts.proofs.Rows.{at-put}
+use Rattle.store_facts.proofs.Tests.{both, both_left, both_right}
+use Rattle.store_facts.proofs.KeptLists.{all_weaker}
 
 -- each entry of a table is found in it
 pub all_there : (table : ById Seen) → list_all (λ e. is_some (at table e.0)) table ≡ true

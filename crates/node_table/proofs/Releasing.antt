@@ -16,7 +16,7 @@ use Rattle.private_store.specs.Change.{refused, done, erasing, settled}
 use Rattle.private_store.specs.Commands.{release, holds_of, with_holds}
 use Rattle.private_store.specs.Contents.{Contents}
 use Rattle.private_store.specs.Private.{key_of}
-use Rattle.private_store.proofs.Checks.{checked-nil}
+use Rattle.store_facts.proofs.Checks.{checked-nil}
 use Rattle.node_table.specs.Kept.{Kept, released}
 use Rattle.node_table.specs.Row.{Row, Beside, shape_of, place_of, ArePlaced}
 use Rattle.node_table.specs.Dropping.{dropped, is_over, is_over_at, settled_row, keys_settled}

@@ -12,17 +12,17 @@ use Rattle.obj_id.specs.declared.ids.ObjectId.{ObjectId}
 use Rattle.obj_id.specs.declared.works.Extent.{Extent}
 use Rattle.obj_id.specs.Kinds.{is_primary}
 use Rattle.obj_id.specs.Ids.{same_id}
-use Rattle.obj_id.proofs.SameIds.{same_id-equal, same_id-itself}
+use Rattle.store_facts.proofs.Ids.{same_id-equal, same_id-itself}
 use Rattle.private_store.specs.Tables.{ById, at, with_entry, is_among}
 use Rattle.private_store.specs.Extents.{rounded}
 use Rattle.private_store.specs.Copies.{extent_of}
-use Rattle.private_store.proofs.Rows.{at-put}
-use Rattle.private_store.proofs.Tests.{true_false, false_true, some_value, none_some}
+use Rattle.store_facts.proofs.Rows.{at-put}
+use Rattle.store_facts.proofs.Tests.{true_false, false_true, some_value, none_some}
 use Rattle.job_region.specs.Region.{extents_of, without, put_in, IsAt}
-use Rattle.job_region.proofs.Places.{lookup-put_in, lookup-put_in_other}
+use Rattle.job_region.proofs.ForCallers.{lookup-put_in, lookup-put_in_other}
 use Rattle.lru_evictor.specs.Facts.{gone_of}
 use Rattle.lru_evictor.specs.Orders.{without_id, last_used}
-use Rattle.lru_evictor.proofs.Free.{goes, without-permuted}
+use Rattle.lru_evictor.proofs.ForCallers.{goes, without-permuted}
 use Rattle.node_table.specs.Evicting.{all_evicted}
 use Rattle.node_table.specs.Followed.{LiesAlone}
 use Rattle.node_table.specs.Kept.{Kept, unplaced}

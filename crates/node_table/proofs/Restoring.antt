@@ -13,7 +13,7 @@ use Rattle.obj_id.specs.declared.commands.Reply.TheVariants as reply
 use Rattle.obj_id.specs.declared.refusals.Refusal.TheVariants.{Busy, Full, TooMany, Pending}
 use Rattle.obj_id.specs.declared.works.WorkKind.TheVariants.{Write, Read}
 use Rattle.obj_id.specs.Ids.{same_id}
-use Rattle.obj_id.proofs.SameIds.{same_id-itself}
+use Rattle.store_facts.proofs.Ids.{same_id-itself}
 use Rattle.private_store.specs.declared.inputs.Input.{Input}
 use Rattle.private_store.specs.declared.inputs.Input.TheVariants as input
 use Rattle.private_store.specs.Change.{erasing, in_room, checked}
@@ -28,9 +28,9 @@ use Rattle.private_store.specs.Room.{make_room, offset_without, works_left}
 use Rattle.private_store.specs.Shape.{Shape, Change, Fetch, WorkInFlight}
 use Rattle.private_store.specs.Step.{step}
 use Rattle.private_store.specs.Tables.{at, is_among}
-use Rattle.private_store.proofs.KeptCopy.{has_work-split}
-use Rattle.private_store.proofs.Checks.{checked-nil, checked-true, checked-false}
-use Rattle.private_store.proofs.Tests.{both, none_some, none_here, true_false}
+use Rattle.store_facts.proofs.KeptCopy.{has_work-split}
+use Rattle.store_facts.proofs.Checks.{checked-nil, checked-true, checked-false}
+use Rattle.store_facts.proofs.Tests.{both, none_some, none_here, true_false}
 use Rattle.spill_work.specs.Line.{WorkLine, Asks, ask_check, used_by, works_of, in_flight}
 use Rattle.node_table.specs.Asked.{HasAsked}
 use Rattle.job_region.specs.Region.{extents_of}

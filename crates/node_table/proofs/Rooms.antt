@@ -19,12 +19,12 @@ use Rattle.obj_id.specs.declared.refusals.Refusal.{Refusal}
 use Rattle.obj_id.specs.declared.refusals.Refusal.TheVariants.{DeviceFailed, Full}
 use Rattle.obj_id.specs.Ids.{id_cmp, same_id}
 use Rattle.obj_id.specs.Kinds.{is_primary}
-use Rattle.obj_id.proofs.SameIds.{id_cmp-IsTotalOrder, id_cmp-IsAntisymmetric, same_id-equal, same_id-itself, same_id-flip}
+use Rattle.store_facts.proofs.Ids.{id_cmp-IsTotalOrder, id_cmp-IsAntisymmetric, same_id-equal, same_id-itself, same_id-flip}
 use Rattle.private_store.specs.declared.inputs.Input.{Input}
 use Rattle.private_store.specs.Tables.{ById, at, with_entry, without_entry, is_among}
 use Rattle.private_store.specs.Extents.{rounded, first, is_size}
 use Rattle.private_store.specs.Limits.{longest_object}
-use Rattle.private_store.proofs.FirstFit.{first-free}
+use Rattle.store_facts.proofs.FirstFit.{first-free}
 use Rattle.private_store.specs.Shape.{Copy, Shape, Change, Sending, WorkInFlight, remove_location}
 use Rattle.private_store.specs.Copies.{extent_of, is_sealed, was_sealed, is_evictable, is_idle, device_used}
 use Rattle.private_store.specs.Room.{Room, make_room, offset_without, no_room, evict_room, evicted}
@@ -33,18 +33,17 @@ use Rattle.private_store.specs.Kept.{IsOrderOfUse, has_hand}
 use Rattle.private_store.specs.Contents.{Contents, View, judge, keeps_digest, no_digest, whole_reply, brought, is_sized}
 use Rattle.private_store.specs.Private.{Post, key_of, posts_of, to_directory, view_after}
 use Rattle.private_store.specs.Step.{step, reordered, is_used}
-use Rattle.private_store.proofs.Filling.{filled}
-use Rattle.private_store.proofs.KeptLists.{any-filter, all_weaker}
-use Rattle.private_store.proofs.RefusingLemmas.{keys_none, all_found}
-use Rattle.private_store.proofs.Rows.{at-put}
-use Rattle.private_store.proofs.Tests.{T_true, both, both_left, both_right, or_left, or_right, some_value, none_some, true_false}
+use Rattle.store_facts.proofs.Filling.{filled}
+use Rattle.store_facts.proofs.KeptLists.{any-filter, all_weaker}
+use Rattle.store_facts.proofs.ErasedKeys.{keys_none, all_found}
+use Rattle.store_facts.proofs.Rows.{at-put}
+use Rattle.store_facts.proofs.Tests.{T_true, both, both_left, both_right, or_left, or_right, some_value, none_some, true_false}
 use Rattle.job_region.specs.Region.{bytes_at as placed_bytes, extents_of}
-use Rattle.job_region.proofs.Places.{lookup-put_in}
+use Rattle.job_region.proofs.ForCallers.{lookup-put_in}
 use Rattle.lru_evictor.specs.declared.facts.CopyFacts.{CopyFacts}
 use Rattle.lru_evictor.specs.Orders.{AreThere}
 use Rattle.lru_evictor.specs.declared.facts.DeviceRoom.{DeviceRoom}
-use Rattle.lru_evictor.proofs.Described.{offset-described}
-use Rattle.lru_evictor.proofs.Reorders.{reordered-unused}
+use Rattle.lru_evictor.proofs.ForCallers.{offset-described, reordered-unused}
 use Rattle.node_table.specs.Entries.{changed}
 use Rattle.node_table.specs.Evicting.{has_secondary, evicted_one, all_evicted, removals, placed_without, has_place, MayGo, replaced}
 use Rattle.node_table.specs.Kept.{Kept, unplaced, is_sealed_at}

@@ -13,7 +13,7 @@ use Rattle.obj_id.specs.declared.commands.Reply.TheVariants as reply
 use Rattle.obj_id.specs.declared.messages.DirectoryMessage.TheVariants.{RemoveLocation, Free}
 use Rattle.obj_id.specs.Ids.{id_cmp, same_id, same_task}
 use Rattle.obj_id.specs.Kinds.{is_primary}
-use Rattle.obj_id.proofs.SameIds.{id_cmp-IsTotalOrder, id_cmp-IsAntisymmetric}
+use Rattle.store_facts.proofs.Ids.{id_cmp-IsTotalOrder, id_cmp-IsAntisymmetric}
 use Rattle.private_store.specs.declared.inputs.Input.{Input}
 use Rattle.private_store.specs.declared.inputs.Input.TheVariants as input
 use Rattle.private_store.specs.Limits.{most_borrowers}
@@ -28,9 +28,9 @@ use Rattle.private_store.specs.Commands.{unpin, borrow, give_up, delete, has_bor
 use Rattle.private_store.specs.Commands as commands
 use Rattle.private_store.specs.Contents.{Contents, View, keeps_digest}
 use Rattle.private_store.specs.Private.{Post, posts_of}
-use Rattle.private_store.proofs.Checks.{checked-nil}
-use Rattle.private_store.proofs.Rows.{at-put, at-put_here}
-use Rattle.private_store.proofs.Tests.{T_true}
+use Rattle.store_facts.proofs.Checks.{checked-nil}
+use Rattle.store_facts.proofs.Rows.{at-put, at-put_here}
+use Rattle.store_facts.proofs.Tests.{T_true}
 use Rattle.node_table.specs.Checks.{unpin_check, unpin_check_of, borrow_check, borrow_check_of, row_borrow_check, give_up_check, give_up_check_of, delete_check}
 use Rattle.node_table.specs.Dropping.{settled_row, keys_settled}
 use Rattle.node_table.specs.Kept.{Kept, scoped, doomed, unpinned, borrowed, given_up}

@@ -24,9 +24,9 @@ use Rattle.private_store.specs.Change.{refused, done, erasing, sending}
 use Rattle.private_store.specs.Contents.{Contents, judge, bytes_at, digest_of, no_digest, keeps_digest}
 use Rattle.private_store.specs.Private.{Post, key_of, length_at}
 use Rattle.private_store.specs.Step.{step}
-use Rattle.private_store.proofs.Rows.{at-put, at-put_here}
+use Rattle.store_facts.proofs.Rows.{at-put, at-put_here}
 use Rattle.job_region.specs.Region.{bytes_at as placed_bytes}
-use Rattle.lru_evictor.proofs.Reorders.{reordered-unused}
+use Rattle.lru_evictor.proofs.ForCallers.{reordered-unused}
 use Rattle.node_table.specs.Entries.{changed}
 use Rattle.node_table.specs.Kept.{Kept, sealed}
 use Rattle.node_table.specs.Row.{Row, Beside, copies_of, shape_of}

@@ -35,10 +35,10 @@ use Rattle.private_store.specs.Step.{order_after}
 use Rattle.private_store.specs.Contents.{Contents, View, digest_at, no_digest, same_digest, is_sized, pull_matches, judge, contents_after, whole_reply}
 use Rattle.private_store.specs.Kept.{IsViewKept, is_remembered, has_extent}
 use Rattle.private_store.specs.Private.{Post, posts_of, to_directory, to_peer, chunks_asked, key_of, view_step, view_after}
-use Rattle.private_store.proofs.Checks.{checked_has}
-use Rattle.private_store.proofs.RefusingLemmas.{keys_none, all_found}
-use Rattle.private_store.proofs.StepsKept.{view_keeps}
-use Rattle.private_store.proofs.Tests.{true_false, both_left, both_right}
+use Rattle.store_facts.proofs.Checks.{checked_has}
+use Rattle.store_facts.proofs.ErasedKeys.{keys_none, all_found}
+use Rattle.store_facts.proofs.StepsKept.{view_keeps}
+use Rattle.store_facts.proofs.Tests.{true_false, both_left, both_right}
 use Rattle.job_region.specs.Region.{bytes_at as placed_bytes}
 use Rattle.node_table.specs.Kept.{Kept}
 use Rattle.node_table.specs.Row.{Row, Beside, copies_of, shape_of}

@@ -12,9 +12,9 @@ use Rattle.private_store.specs.Room.{set_copy, drop_copy}
 use Rattle.private_store.specs.Change.{done, erasing, settled, keys_gone}
 use Rattle.private_store.specs.Contents.{Contents, View, judge, keeps_digest, bytes_brought, digest_brought, bytes_received}
 use Rattle.private_store.specs.Private.{Post, key_of, posts_of, view_after}
-use Rattle.private_store.proofs.Rows.{at-put_here}
-use Rattle.private_store.proofs.Tests.{T_true}
-use Rattle.lru_evictor.proofs.Reorders.{reordered-unused}
+use Rattle.store_facts.proofs.Rows.{at-put_here}
+use Rattle.store_facts.proofs.Tests.{T_true}
+use Rattle.lru_evictor.proofs.ForCallers.{reordered-unused}
 use Rattle.node_table.specs.Kept.{Kept}
 use Rattle.node_table.specs.Row.{Row, Beside, copies_of, shape_of, place_of, ArePlaced}
 use Rattle.node_table.specs.Dropping.{dropped, is_over, settled_row, keys_settled}

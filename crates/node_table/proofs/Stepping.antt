@@ -15,13 +15,13 @@ use Rattle.private_store.specs.Step.{step, reordered}
 use Rattle.private_store.specs.Contents.{Contents, View, judge, bytes_at, keeps_digest, no_digest, bytes_brought, digest_brought, bytes_received, brought, kept, whole_reply}
 use Rattle.private_store.specs.Private.{Post, posts_of, key_of, view_step, view_after}
 use Rattle.private_store.specs.Kept.{IsViewKept, has_hand}
-use Rattle.private_store.proofs.Filling.{at-kept, kept_row, filled}
-use Rattle.private_store.proofs.RowContents.{default_same}
-use Rattle.private_store.proofs.RefusingLemmas.{keys_none, all_found}
-use Rattle.private_store.proofs.StepsKept.{view_keeps}
+use Rattle.store_facts.proofs.Filling.{at-kept, kept_row, filled}
+use Rattle.store_facts.proofs.RowContents.{default_same}
+use Rattle.store_facts.proofs.ErasedKeys.{keys_none, all_found}
+use Rattle.store_facts.proofs.StepsKept.{view_keeps}
 use Rattle.job_region.specs.Region.{bytes_at as placed_bytes}
 use Rattle.lru_evictor.specs.Orders.{AreThere}
-use Rattle.lru_evictor.proofs.Reorders.{reordered-unused}
+use Rattle.lru_evictor.proofs.ForCallers.{reordered-unused}
 use Rattle.node_table.specs.Kept.{Kept}
 use Rattle.node_table.specs.Row.{Row, Beside, copies_of, received_bytes, shape_of}
 use Rattle.node_table.specs.Shown.{seen, work_on, IsShown, Given, only, TakesStep}

@@ -11,7 +11,7 @@ use Rattle.indexmap.proofs.MapLemmas.{Found-position, Missing-position}
 use Rattle.obj_id.specs.declared.ids.ObjectId.{ObjectId}
 use Rattle.obj_id.specs.Ids.{id_eq}
 use Rattle.private_store.specs.Tables.{ById}
-use Rattle.private_store.proofs.Tests.{some_value}
+use Rattle.store_facts.proofs.Tests.{some_value}
 use Rattle.node_table.specs.declared.taken.Taken.{Taken}
 use Rattle.node_table.specs.Entries.{by_rising_id}
 use Rattle.node_table.specs.Kept.{Kept}

@@ -26,7 +26,7 @@ use Rattle.private_store.specs.Copies.{extent_of, is_writing, window_used, devic
 use Rattle.private_store.specs.Commands.{own_items, granted_items, usage_of}
 use Rattle.private_store.specs.Contents.{Contents}
 use Rattle.private_store.specs.Kept.{is_placed}
-use Rattle.private_store.proofs.Tests.{and_right, both_left, both_right, T_true, or_false}
+use Rattle.store_facts.proofs.Tests.{and_right, both_left, both_right, T_true, or_false}
 use Rattle.spill_work.specs.Line.{WorkLine, is_write}
 use Rattle.node_table.specs.Kept.{Kept}
 use Rattle.node_table.specs.Row.{Row, Beside, beside_of, copies_of, shape_of}

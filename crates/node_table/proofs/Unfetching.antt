@@ -12,7 +12,7 @@ use Rattle.obj_id.specs.declared.commands.CopyState.{CopyState}
 use Rattle.obj_id.specs.declared.commands.CopyState.TheVariants.{Created, Sealed, Restoring, Fetching, Away}
 use Rattle.obj_id.specs.declared.commands.Reply.TheVariants as reply
 use Rattle.obj_id.specs.Ids.{same_id}
-use Rattle.obj_id.proofs.SameIds.{same_id-equal, same_id-flip}
+use Rattle.store_facts.proofs.Ids.{same_id-equal, same_id-flip}
 use Rattle.private_store.specs.declared.faults.FetchFault.{FetchFault}
 use Rattle.private_store.specs.declared.faults.FetchFault.TheVariants.{Absent}
 use Rattle.private_store.specs.declared.inputs.Input.{Input}
@@ -26,9 +26,9 @@ use Rattle.private_store.specs.Events.{fetch_of, fetch_failed, not_here_arrived}
 use Rattle.private_store.specs.Contents.{Contents, View, keeps_digest, is_sized, digest_brought, brought, bytes_received}
 use Rattle.private_store.specs.Private.{Post, posts_of, to_directory}
 use Rattle.private_store.specs.Kept.{is_fetching}
-use Rattle.private_store.proofs.Filling.{filled}
-use Rattle.private_store.proofs.Rows.{at-put}
-use Rattle.private_store.proofs.Tests.{none_some, true_false, false_true, both_left, both_right}
+use Rattle.store_facts.proofs.Filling.{filled}
+use Rattle.store_facts.proofs.Rows.{at-put}
+use Rattle.store_facts.proofs.Tests.{none_some, true_false, false_true, both_left, both_right}
 use Rattle.job_region.specs.Region.{without, bytes_at as placed_bytes}
 use Rattle.fetch_core.specs.Fetching.{is_refused_by}
 use Rattle.node_table.specs.Arriving.{in_phase, of_length, asks, unfetched, unfetched_row}

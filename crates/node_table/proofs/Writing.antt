@@ -7,7 +7,7 @@ use Rattle.obj_id.specs.declared.refusals.Refusal.{Refusal}
 use Rattle.obj_id.specs.declared.commands.Command.TheVariants as command
 use Rattle.obj_id.specs.declared.commands.Reply.TheVariants as reply
 use Rattle.obj_id.specs.Ids.{same_id}
-use Rattle.obj_id.proofs.SameIds.{same_id-equal}
+use Rattle.store_facts.proofs.Ids.{same_id-equal}
 use Rattle.private_store.specs.declared.inputs.Input.{Input}
 use Rattle.private_store.specs.declared.inputs.Input.TheVariants as input
 use Rattle.private_store.specs.Tables.{at}
@@ -15,13 +15,13 @@ use Rattle.private_store.specs.Shape.{Shape}
 use Rattle.private_store.specs.Copies.{extent_of}
 use Rattle.private_store.specs.Change.{replied, done, erasing}
 use Rattle.private_store.specs.Contents.{Contents, bytes_at, overwritten}
-use Rattle.private_store.proofs.Tests.{some_value}
-use Rattle.private_store.proofs.Filling.{filled}
-use Rattle.private_store.proofs.RefusingLemmas.{keys_none, all_found}
-use Rattle.private_store.proofs.Rows.{at-put}
+use Rattle.store_facts.proofs.Tests.{some_value}
+use Rattle.store_facts.proofs.Filling.{filled}
+use Rattle.store_facts.proofs.ErasedKeys.{keys_none, all_found}
+use Rattle.store_facts.proofs.Rows.{at-put}
 use Rattle.private_store.specs.Private.{key_of}
 use Rattle.job_region.specs.Region.{bytes_at as placed_bytes}
-use Rattle.lru_evictor.proofs.Reorders.{reordered-unused}
+use Rattle.lru_evictor.proofs.ForCallers.{reordered-unused}
 use Rattle.node_table.specs.Kept.{Kept}
 use Rattle.node_table.specs.Row.{Row, Beside, copies_of, shape_of, place_of, ArePlaced}
 use Rattle.node_table.specs.Checks.{write_check, read_check}

@@ -6,7 +6,7 @@ use Rattle.obj_id.specs.declared.messages.Digest.{Digest}
 use Rattle.obj_id.specs.declared.works.WorkKind.{WorkKind}
 use Rattle.obj_id.specs.declared.works.WorkKind.TheVariants.{Write, Read}
 use Rattle.obj_id.specs.declared.refusals.Refusal.TheVariants.{Stale}
-use Rattle.obj_id.proofs.SameIds.{same_id-itself}
+use Rattle.store_facts.proofs.Ids.{same_id-itself}
 use Rattle.private_store.specs.declared.inputs.WorkVerdict.{WorkVerdict}
 use Rattle.private_store.specs.declared.inputs.WorkVerdict.TheVariants as work
 use Rattle.private_store.specs.Tables.{at}
@@ -17,9 +17,9 @@ use Rattle.private_store.specs.Room.{set_copy, drop_copy}
 use Rattle.private_store.specs.Change.{done, erasing, settled}
 use Rattle.private_store.specs.Events.{work_of, without_work, answer}
 use Rattle.private_store.specs.Events as events
-use Rattle.private_store.proofs.Checks.{needing-some}
-use Rattle.private_store.proofs.Rows.{at-put_here, at-drop}
-use Rattle.private_store.proofs.Tests.{some_value, none_some}
+use Rattle.store_facts.proofs.Checks.{needing-some}
+use Rattle.store_facts.proofs.Rows.{at-put_here, at-drop}
+use Rattle.store_facts.proofs.Tests.{some_value, none_some}
 use Rattle.object_state.specs.Marks.{is_evictable, is_passing, is_spillable, written, read_back}
 use Rattle.object_state.specs.Laws.{marks_of, has_failed, answered}
 

@@ -1,3 +1,3 @@
-pub mod Objects
-pub mod Placing
-pub mod Jobs
+mod Objects
+mod Placing
+mod Jobs

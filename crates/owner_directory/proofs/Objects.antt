@@ -16,8 +16,8 @@ use Rattle.obj_id.specs.Ids.{id_cmp}
 use Rattle.private_store.specs.Tables.{with_entry, without_entry}
 use Rattle.private_store.specs.Directory.{entries_at, entry_placed, with_entries, without_node, without_entries_at}
 use Rattle.owner_directory.specs.Locations.{Locations, is_longer}
-use Rattle.private_store.proofs.ObjectMaps.{is_id, at-lookup, with_entry-insert, with_entry-set, without_entry-absent, without_entry-set}
-use Rattle.private_store.proofs.Tests.{true_false}
+use Rattle.store_facts.proofs.ObjectMaps.{is_id, at-lookup, with_entry-insert, with_entry-set, without_entry-absent, without_entry-set}
+use Rattle.store_facts.proofs.Tests.{true_false}
 
 -- ---- an object's entries
 

@@ -1,2 +1,3 @@
 mod SessionLemmas
-pub mod TaskLemmas
+mod TaskLemmas
+pub mod ForCallers

@@ -13,9 +13,9 @@ use Rattle.std.proofs.lemmas.List.Sums.{sum_by-cons}
 use Rattle.std.proofs.lemmas.Bool.Decides.{nat_tests}
 use Rattle.obj_id.specs.declared.commands.CopyState.TheVariants.{Sealed}
 use Rattle.private_store.specs.Commands.{without_session}
-use Rattle.private_store.proofs.KeptHolds.{holds_keep}
+use Rattle.store_facts.proofs.KeptHolds.{holds_keep}
 use Rattle.pins_holds.specs.Sessions.{count_of, with_count, total, AreHolds}
-use Rattle.private_store.proofs.Tests.{T_true, both_left}
+use Rattle.store_facts.proofs.Tests.{T_true, both_left}
 
 less_is : (r : Ordering) → T (is_lt r) → r ≡ Less
 less_is Less h = refl

@@ -7,7 +7,7 @@ use Rattle.std.specs.Cmp.{unsigned_ties}
 use Rattle.std.specs.Cmp.Lexicographic.{pointwise, lists_ties}
 use Rattle.obj_id.specs.declared.ids.TaskNo.{TaskNo}
 use Rattle.obj_id.specs.Ids.{same_task}
-use Rattle.obj_id.proofs.SameIds.{same_task-equal}
+use Rattle.store_facts.proofs.Ids.{same_task-equal}
 use Rattle.obj_id.specs.declared.commands.Kind.{Kind}
 use Rattle.pins_holds.specs.Pinned.{are_borrowing, IsPinned}
 

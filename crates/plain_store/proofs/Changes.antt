@@ -4,7 +4,7 @@ use Rattle.obj_id.specs.declared.refusals.Refusal.{Refusal}
 use Rattle.private_store.specs.Shape.{Shape, Change}
 use Rattle.private_store.specs.Room.{Room}
 use Rattle.private_store.specs.Change.{checked, refused, in_room, sending}
-use Rattle.private_store.proofs.Tests.{none_some, some_value}
+use Rattle.store_facts.proofs.Tests.{none_some, some_value}
 use Rattle.plain_store.specs.Checks.{first_of}
 
 pub checked-refused : (store : Shape) (checks : List (Bool × Refusal)) (rest : Change) (r : Refusal) → first_of checks ≡ Some r → checked store checks rest ≡ refused store r

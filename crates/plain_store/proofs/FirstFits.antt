@@ -9,7 +9,7 @@ use Rattle.std.proofs.lemmas.List.Folds.{list_all_at}
 use Rattle.std.proofs.lemmas.Bool.{leb-false, leb-true, le-leb, lt-leb}
 use Rattle.obj_id.specs.declared.works.Extent.{Extent}
 use Rattle.private_store.specs.Extents.{rounded, end_of, is_apart, is_free, first_from, first}
-use Rattle.private_store.proofs.Tests.{both, or_right, false_true, neither, or_false_left, or_false_right}
+use Rattle.store_facts.proofs.Tests.{both, or_right, false_true, neither, or_false_left, or_false_right}
 use Rattle.plain_store.specs.Fits.{is_apart_at, IsEnd, IsPastMet}
 
 -- what n bytes at an offset meet they meet until its end

@@ -1,15 +1,15 @@
-pub mod Changing
-pub mod FirstFits
-pub mod Shortest
-pub mod Sums
-pub mod Changes
-pub mod SessionPuts
-pub mod RoomLeaves
-pub mod Restores
-pub mod Pulls
-pub mod Using
-pub mod Keyed
-pub mod Sorting
-pub mod Each
-pub mod HandsEnd
-pub mod Fields
+mod Changing
+mod FirstFits
+mod Shortest
+mod Sums
+mod Changes
+mod SessionPuts
+mod RoomLeaves
+mod Restores
+mod Pulls
+mod Using
+mod Keyed
+mod Sorting
+mod Each
+mod HandsEnd
+mod Fields

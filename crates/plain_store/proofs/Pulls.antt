@@ -12,8 +12,8 @@ use Rattle.private_store.specs.Events.{is_live}
 use Rattle.private_store.specs.Room.{make_room, set_copy}
 use Rattle.private_store.specs.Change.{needing, in_room, sending}
 use Rattle.private_store.specs.Commands.{is_length, begin_pull, get_fetching, counted, chunk_count, set_phase}
-use Rattle.private_store.proofs.Checks.{needing-some}
-use Rattle.private_store.proofs.Tests.{false_true}
+use Rattle.store_facts.proofs.Checks.{needing-some}
+use Rattle.store_facts.proofs.Tests.{false_true}
 use Rattle.plain_store.specs.Fetches.{get_sized, pulled, pulled_copy}
 use Rattle.plain_store.proofs.Changes.{checked-passed, in_room-ok}
 use Rattle.plain_store.proofs.RoomLeaves.{room_leaves}

@@ -13,7 +13,7 @@ use Rattle.private_store.specs.Events.{is_live}
 use Rattle.private_store.specs.Room.{make_room}
 use Rattle.private_store.specs.Change.{checked, needing, refused, in_room}
 use Rattle.private_store.specs.Commands.{restore, restoring}
-use Rattle.private_store.proofs.Checks.{needing-some}
+use Rattle.store_facts.proofs.Checks.{needing-some}
 use Rattle.plain_store.specs.Checks.{first_of, restore_checks, restored}
 use Rattle.plain_store.proofs.Changes.{checked-refused, checked-passed, in_room-ok}
 use Rattle.plain_store.proofs.RoomLeaves.{room_leaves}

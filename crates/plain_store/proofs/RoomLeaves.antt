@@ -16,10 +16,10 @@ use Rattle.private_store.specs.Copies.{is_sealed}
 use Rattle.private_store.specs.Events.{is_live}
 use Rattle.private_store.specs.Room.{make_room}
 use Rattle.private_store.specs.Commands.{holds_of, all_holds}
-use Rattle.private_store.proofs.BriefKept.{order_once}
-use Rattle.private_store.proofs.KeptRows.{to_live}
-use Rattle.private_store.proofs.KeptRoom.{IsMade}
-use Rattle.private_store.proofs.KeptPlan.{room_keeps}
+use Rattle.store_facts.proofs.BriefKept.{order_once}
+use Rattle.store_facts.proofs.KeptRows.{to_live}
+use Rattle.store_facts.proofs.KeptRoom.{IsMade}
+use Rattle.store_facts.proofs.KeptPlan.{room_keeps}
 
 module _ (brief : Brief) (kept : IsBriefKept brief) (live : is_live brief.shape ≡ true) where
   pub quota_kept : is_quota brief.shape.quota ≡ true

@@ -8,7 +8,7 @@ use Rattle.std.specs.Cmp.{nat_cmp_is}
 use Rattle.std.proofs.lemmas.Bool.{ltb-true}
 use Rattle.std.specs.FinMap.{put}
 use Rattle.std.specs.FinMap.Entries.{by_order}
-use Rattle.private_store.proofs.Tests.{both_left, both_right}
+use Rattle.store_facts.proofs.Tests.{both_left, both_right}
 
 module _ (k v : ℕ) where
   past : (e : ℕ × ℕ) (es : List (ℕ × ℕ)) → nat_lt e.0 k ≡ true → put nat_cmp k v (e ∷ es) ≡ e ∷ put nat_cmp k v es

@@ -4,7 +4,7 @@ use Rattle.std.specs.List.{list_any}
 use Rattle.std.proofs.lemmas.List.{drop_more}
 use Rattle.obj_id.specs.declared.ids.ObjectId.{ObjectId}
 use Rattle.obj_id.specs.Ids.{id_eq, same_id}
-use Rattle.obj_id.proofs.SameIds.{same_id-id_eq, same_id-flip}
+use Rattle.store_facts.proofs.Ids.{same_id-id_eq, same_id-flip}
 use Rattle.private_store.specs.Tables.{is_among}
 use Rattle.private_store.specs.Room.{shortest_from}
 

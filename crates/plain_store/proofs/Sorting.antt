@@ -6,9 +6,9 @@ use Rattle.std.specs.FinMap.{is_sorted}
 use Rattle.std.specs.FinMap.Entries.{below_all, by_order}
 use Rattle.obj_id.specs.declared.ids.ObjectId.{ObjectId}
 use Rattle.obj_id.specs.Ids.{id_cmp}
-use Rattle.obj_id.proofs.SameIds.{id_cmp-IsTotalOrder}
+use Rattle.store_facts.proofs.Ids.{id_cmp-IsTotalOrder}
 use Rattle.private_store.specs.Tables.{ById, with_entry}
-use Rattle.private_store.proofs.Tests.{and_left, and_right, less_is}
+use Rattle.store_facts.proofs.Tests.{and_left, and_right, less_is}
 
 module _ {X : Type 0} (k : ObjectId) (v : X) (rest : ById X) where
   below-at : (x : ObjectId) (es : ById X) → T (below_all id_cmp x (es ++ (k, v) ∷ rest)) → id_cmp x k ≡ Less

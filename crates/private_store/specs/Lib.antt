@@ -19,7 +19,6 @@ pub mod Shared
 pub mod Replay
 pub mod Frames
 pub mod Kept
-pub mod Refusing
 pub mod Made
 pub mod Listed
 pub mod Answers

@@ -7,12 +7,11 @@ use Rattle.private_store.specs.declared.schedules.Step.TheVariants.{At, Deliver}
 use Rattle.private_store.specs.declared.schedules.StepAnswer.{StepAnswer}
 use Rattle.private_store.specs.declared.schedules.StepAnswer.TheVariants.{Told}
 use Rattle.private_store.specs.declared.schedules.Traced.{Traced}
-use Rattle.private_store.proofs.Tests.{both, both_left, both_right}
+use Rattle.store_facts.proofs.Tests.{both, both_left, both_right}
 use Rattle.hand_laws.specs.Standing.{is_told, ArePrivate}
 use Rattle.hand_laws.specs.Moments.{AtEachMoment}
 use Rattle.hand_laws.specs.Telling.{heard_where_due, counting, ShowsAlike}
-use Rattle.hand_laws.proofs.Moments.{each_moment}
-use Rattle.hand_laws.proofs.Agreeing.{others_dont_show_where_due}
+use Rattle.hand_laws.proofs.ForCallers.{each_moment, others_dont_show_where_due}
 use Rattle.world_core.specs.Runs.{is_replied, all_replied, IsRun}
 
 -- a command is an event at a node

@@ -1,5 +1,6 @@
-pub mod BytesFields
-pub mod LineForms
-pub mod WordTables
-pub mod PlainCommands
-pub mod Within
+mod BytesFields
+mod LineForms
+mod WordTables
+mod PlainCommands
+mod Within
+pub mod ForCallers

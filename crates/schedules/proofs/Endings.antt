@@ -1,7 +1,7 @@
 -- How a run whose journal was folded ends.
 use Rattle.std.proofs.Common.{◌≡◌, true, ℕ, List, Option, None, Some, Result, Ok, Err, is_some, sym, ap, ◌∙◌}
 use Rattle.std.specs.Prelude.{if◌then◌else◌, IfOk}
-use Rattle.private_store.proofs.Tests.{true_false}
+use Rattle.store_facts.proofs.Tests.{true_false}
 use Rattle.journal_text.specs.declared.saved.Mark.{Mark}
 use Rattle.journal_text.specs.Saved.{Saved, is_folded, saved_text}
 use Rattle.store_program.specs.declared.fault.Fault.{Fault}

@@ -1,4 +1,4 @@
-pub mod Endings
-pub mod Lists
-pub mod Spoken
-pub mod Told
+mod Endings
+mod Lists
+mod Spoken
+mod Told

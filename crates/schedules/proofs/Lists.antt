@@ -8,10 +8,10 @@ use Rattle.obj_id.specs.declared.commands.OwnItem.{OwnItem}
 use Rattle.obj_id.specs.declared.commands.GrantedItem.{GrantedItem}
 use Rattle.obj_id.specs.declared.commands.Reply.TheVariants as reply
 use Rattle.private_store.specs.Limits.{most_copies, most_granted, greatest_depth}
-use Rattle.private_store.proofs.Tests.{both}
+use Rattle.store_facts.proofs.Tests.{both}
 use Rattle.wire_frames.specs.Replies.{IsGrantedItem, IsOwnItem}
 use Rattle.wire_frames.specs.Writing.{has_reply_frame}
-use Rattle.wire_frames.proofs.SmallReplies.{small_has_frame}
+use Rattle.wire_frames.proofs.ForCallers.{small_has_frame}
 
 pub list_framed : (own : List OwnItem) (granted : List GrantedItem) → All IsOwnItem own → All IsGrantedItem granted → AllPass (λ i. nat_le i.depth greatest_depth) granted
     → length own ≤ 1024 → length granted ≤ 4032 → has_reply_frame (reply.List own granted) ≡ true

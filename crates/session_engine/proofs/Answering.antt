@@ -14,7 +14,7 @@ use Rattle.session_engine.specs.Calls.{Asked, Answered}
 use Rattle.session_engine.specs.Sessions.{Standing, standing, AnswersItem, Run}
 use Rattle.session_engine.specs.Serving.{AppendsPart, IsSent, due_frame, not_a_frame, AnswersAll, StopsWithin}
 use Rattle.session_engine.specs.Hearing.{Sends, Flushes, StopsAnswering, Answering}
-use Rattle.private_store.proofs.KnownBytes.{Appends-none, Appends-then, Appends-kept}
+use Rattle.store_facts.proofs.KnownBytes.{Appends-none, Appends-then, Appends-kept}
 
 -- ---- what is sent
 

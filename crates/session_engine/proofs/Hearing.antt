@@ -5,9 +5,9 @@ use Rattle.std.specs.Io.KnownBytes.{Keeps}
 use Rattle.obj_id.specs.declared.refusals.Refusal.TheVariants.{Malformed as NotAFrame}
 use Rattle.private_store.specs.declared.frames.Item.{Item}
 use Rattle.private_store.specs.Frames.{End, clean, mid_frame, malformed}
-use Rattle.private_store.proofs.KnownBytes.{Appends-kept}
+use Rattle.store_facts.proofs.KnownBytes.{Appends-kept}
 use Rattle.wire_frames.specs.Reading.{Reading, continued, answer_at, fed, is_fault, told}
-use Rattle.wire_frames.proofs.Faults.{fault_met}
+use Rattle.wire_frames.proofs.ForCallers.{fault_met}
 use Rattle.session_engine.specs.declared.ending.SessionFault.{SessionFault}
 use Rattle.session_engine.specs.Calls.{Asked, Answered}
 use Rattle.session_engine.specs.Sessions.{Standing, standing}

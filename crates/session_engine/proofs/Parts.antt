@@ -4,7 +4,7 @@ use Rattle.std.specs.Prelude.{⊤}
 use Rattle.private_store.specs.declared.frames.Item.{Item}
 use Rattle.private_store.specs.Frames.{End, clean, mid_frame, malformed, Stream, stream_of}
 use Rattle.wire_frames.specs.Reading.{Reading, unfinished, failed, continued, reading_at, reading_after}
-use Rattle.wire_frames.proofs.Pieces.{onward_at, stream_of-append}
+use Rattle.wire_frames.proofs.ForCallers.{onward_at, stream_of-append}
 use Rattle.session_engine.specs.declared.ending.SessionFault.{SessionFault}
 use Rattle.session_engine.specs.Calls.{Asked, Answered}
 use Rattle.session_engine.specs.Sessions.{Standing}

@@ -15,7 +15,7 @@ use Rattle.session_engine.specs.Calls.{Asked, Answered}
 use Rattle.session_engine.specs.Sessions.{Standing}
 use Rattle.session_engine.specs.Serving.{AnswersAll, Concludes, EndsIn, AnswersInput, not_a_frame}
 use Rattle.session_engine.specs.Hearing.{StopsAnswering, Hears, HearsNoFrame, HearsPiece}
-use Rattle.private_store.proofs.KnownBytes.{Consumes-none, Consumes-then, Consumes-all}
+use Rattle.store_facts.proofs.KnownBytes.{Consumes-none, Consumes-then, Consumes-all}
 use Rattle.session_engine.proofs.Answering.{Appends-replies, Run-then, answered_none, answered_then, stopped_then, no_memory_before}
 use Rattle.session_engine.proofs.Ends.{IsRest, rest_of_stream}
 use Rattle.session_engine.proofs.Parts.{stream_on}

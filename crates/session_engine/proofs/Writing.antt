@@ -3,7 +3,7 @@ use Rattle.std.proofs.Common.{◌≡◌, ℕ, ◌-◌, List, [], ◌++◌, lengt
 use Rattle.std.proofs.Math.Seq.{take-append_seam}
 use Rattle.std.proofs.lemmas.List.{take_rest}
 use Rattle.std.specs.Io.KnownBytes.{Appends, Keeps}
-use Rattle.private_store.proofs.KnownBytes.{Appends-none, Appends-then, Appends-kept}
+use Rattle.store_facts.proofs.KnownBytes.{Appends-none, Appends-then, Appends-kept}
 use Rattle.session_engine.specs.Serving.{AppendsPart}
 
 -- what is gone of all bytes was appended

@@ -8,7 +8,7 @@ use Rattle.std.proofs.lemmas.Bool.Decides.{nat_tests}
 use Rattle.obj_id.specs.declared.ids.JobNo.{JobNo}
 use Rattle.obj_id.specs.declared.ids.ObjectId.{ObjectId}
 use Rattle.obj_id.specs.declared.works.WorkKind.{WorkKind}
-use Rattle.private_store.proofs.Tests.{both, both_left, both_right, not_true, or_false_left, or_false_right, neither}
+use Rattle.store_facts.proofs.Tests.{both, both_left, both_right, not_true, or_false_left, or_false_right, neither}
 use Rattle.spill_work.specs.declared.queue.Queued.{Queued}
 use Rattle.spill_work.specs.Line.{same_job, is_of, is_at, marked, numbered}
 use Rattle.spill_work.specs.Numbers.{last_of, AreFresh, entry_of, is_numbered, are_numbered, AreNumbered}

@@ -6,7 +6,7 @@ use Rattle.std.proofs.lemmas.Bool.Decides.{nat_tests}
 use Rattle.obj_id.specs.declared.ids.JobNo.{JobNo}
 use Rattle.obj_id.specs.declared.ids.ObjectId.{ObjectId}
 use Rattle.obj_id.specs.declared.works.WorkKind.{WorkKind}
-use Rattle.private_store.proofs.Tests.{both, both_left, both_right, not_true}
+use Rattle.store_facts.proofs.Tests.{both, both_left, both_right, not_true}
 use Rattle.spill_work.specs.declared.row.Timed.{Timed}
 use Rattle.spill_work.specs.Turns.{placed, onto, timed, is_before}
 use Rattle.spill_work.proofs.Filters.{all_filter, all_weaker, append_nothing}

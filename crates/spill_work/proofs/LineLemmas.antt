@@ -8,7 +8,7 @@ use Rattle.obj_id.specs.declared.ids.JobNo.{JobNo}
 use Rattle.obj_id.specs.declared.ids.ObjectId.{ObjectId}
 use Rattle.obj_id.specs.declared.works.WorkKind.{WorkKind}
 use Rattle.private_store.specs.Shape.{WorkInFlight}
-use Rattle.private_store.proofs.Tests.{both, some_value}
+use Rattle.store_facts.proofs.Tests.{both, some_value}
 use Rattle.spill_work.specs.declared.queue.Queued.{Queued}
 use Rattle.spill_work.specs.Line.{WorkLine, same_job, is_of, is_at, shown, marked, used_by, is_write, numbered, numbered_works, TakesBack, AsksAll, MarksTaken, Finishes, Drops}
 use Rattle.spill_work.proofs.Filters.{filter_append, all_stay, append_nothing}

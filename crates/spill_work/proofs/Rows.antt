@@ -15,7 +15,7 @@ use Rattle.std.proofs.lemmas.Map.Keys.{IsDistinct-head, IsDistinct-tail}
 use Rattle.obj_id.specs.declared.ids.JobNo.{JobNo}
 use Rattle.obj_id.specs.declared.ids.ObjectId.{ObjectId}
 use Rattle.obj_id.specs.declared.works.WorkKind.{WorkKind}
-use Rattle.private_store.proofs.Tests.{both, both_left, both_right}
+use Rattle.store_facts.proofs.Tests.{both, both_left, both_right}
 use Rattle.spill_work.specs.declared.queue.Queued.{Queued}
 use Rattle.spill_work.specs.declared.row.Timed.{Timed}
 use Rattle.spill_work.specs.Line.{same_job, is_of, is_at, numbered}

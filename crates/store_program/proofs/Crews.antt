@@ -7,7 +7,7 @@ use Rattle.obj_id.specs.declared.ids.JobNo.{JobNo}
 use Rattle.obj_id.specs.declared.works.DeviceKey.{DeviceKey}
 use Rattle.obj_id.specs.declared.works.DeviceAnswer.{DeviceAnswer}
 use Rattle.obj_id.specs.declared.works.DeviceAnswer.TheVariants.{Done, Bytes, Failed}
-use Rattle.private_store.proofs.Tests.{false_true}
+use Rattle.store_facts.proofs.Tests.{false_true}
 use Rattle.private_store.specs.declared.schedules.Event.TheVariants as event
 use Rattle.private_store.specs.declared.schedules.Step.{Step}
 use Rattle.private_store.specs.declared.schedules.Step.TheVariants.{At, Deliver}
@@ -16,7 +16,7 @@ use Rattle.private_store.specs.declared.schedules.Traced.{Traced}
 use Rattle.schedule_text.specs.declared.line.Outcome.{Outcome}
 use Rattle.schedule_text.specs.declared.line.Outcome.TheVariants as outcome
 use Rattle.spill_device.specs.Held.{Held, bytes_at, same_key}
-use Rattle.world_core.proofs.Places.{length-slice_set, slice_get-slice_set, slice_get-slice_set_other}
+use Rattle.world_core.proofs.ForCallers.{length-slice_set, slice_get-slice_set, slice_get-slice_set_other}
 use Rattle.store_program.specs.declared.workers.Taken.{Taken}
 use Rattle.store_program.specs.Workers.{Crew, IsCrewAfter, Calls, answer_due, bytes_after, bytes_put, call_answer, called, damaged, device_bytes, handed_in, held_by, is_at, noted, read_answer, taken_after, works_taken, written_for}
 use Rattle.store_program.proofs.Within.{hands_in}

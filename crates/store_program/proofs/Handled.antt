@@ -3,7 +3,7 @@ use Rattle.std.proofs.Common.{◌≡◌, ℕ, ◌<◌, Bool, true, false, List, 
 use Rattle.std.specs.Prelude.{IfOk, IfSome}
 use Rattle.std.specs.Str.{IsUtf8}
 use Rattle.std.specs.String.{string_bytes}
-use Rattle.private_store.proofs.Tests.{none_some}
+use Rattle.store_facts.proofs.Tests.{none_some}
 use Rattle.schedule_text.specs.Fields.{Reads}
 use Rattle.schedule_text.specs.Reading.{is_skipped}
 use Rattle.store_program.specs.declared.asked.Asked.{Asked}

@@ -2,7 +2,7 @@
 use Rattle.std.proofs.Common.{◌≡◌, ℕ, Bool, true, false, List, Option, Some, None, sym, ap, ◌∙◌}
 use Rattle.private_store.specs.declared.schedules.Step.{Step}
 use Rattle.private_store.specs.declared.schedules.Traced.{Traced}
-use Rattle.private_store.proofs.Tests.{true_false, none_some}
+use Rattle.store_facts.proofs.Tests.{true_false, none_some}
 use Rattle.schedule_text.specs.Fields.{Reads}
 use Rattle.schedule_text.specs.Reading.{IsLine, is_skipped}
 use Rattle.schedule_text.specs.declared.line.Line.{Line}

@@ -1,4 +1,4 @@
-pub mod Hearing
+mod Hearing
 mod Asking
 mod Attends
 mod Crews
@@ -7,4 +7,4 @@ mod Running
 mod Serves
 mod TakenLines
 mod Within
-pub mod Ordering
+mod Ordering

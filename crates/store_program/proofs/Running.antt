@@ -25,7 +25,7 @@ use Rattle.store_program.specs.Workers.{Crew, IsCrewAfter, Calls, handed_in, hel
 use Rattle.store_program.specs.Runs.{RunsStep, RunsLine, StopsRun, IsNextLine, IsReadingFault, AreKept, LeadTo, Progress, IsWorldly, IsOutput, Ran}
 use Rattle.store_program.proofs.Crews.{handed_due, after_handing, after_step}
 use Rattle.store_program.proofs.Within.{said_apart, finish_within}
-use Rattle.private_store.proofs.KnownBytes.{Appends-none, Appends-then, Appends-kept, Consumes-none, Consumes-then, Consumes-all}
+use Rattle.store_facts.proofs.KnownBytes.{Appends-none, Appends-then, Appends-kept, Consumes-none, Consumes-then, Consumes-all}
 
 -- ---- one line
 

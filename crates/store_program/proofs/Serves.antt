@@ -11,7 +11,7 @@ use Rattle.store_program.specs.Lines.{with_feed}
 use Rattle.store_program.specs.Runs.{IsReadingFault}
 use Rattle.store_program.specs.Servings.{Obeys, StopsOrder, Serving, ServingEnds, IsWritten, Served, close_line, orders_of, answers_of}
 use Rattle.store_program.proofs.Running.{next_line}
-use Rattle.private_store.proofs.KnownBytes.{Appends-none, Appends-then, Appends-kept, Consumes-none, Consumes-then, Consumes-all}
+use Rattle.store_facts.proofs.KnownBytes.{Appends-none, Appends-then, Appends-kept, Consumes-none, Consumes-then, Consumes-all}
 
 pub begun : (nodes : ℕ) (a b : Option (List ℕ)) → Serving nodes 1 a a b b
 begun nodes a b = record { lines = []; counted = refl; obeyed = tt; consumed = Consumes-none a; written = Appends-none b }

@@ -2,8 +2,8 @@
 use Rattle.std.proofs.Common.{◌≡◌, ◌≢◌, ℕ, ◌<◌, ◌≤◌, Bool, true, false, List, [], ◌∷◌, ◌++◌, length, Option, ◌⊎◌, inl, inr, refl, sym, ap, subst, ◌∙◌, arith, length-append}
 use Rattle.std.specs.Io.KnownBytes.{Consumes}
 use Rattle.std.proofs.lemmas.List.Elements.{All-append, All-from_recursion}
-use Rattle.private_store.proofs.Tests.{true_false}
-use Rattle.private_store.proofs.KnownBytes.{Consumes-then}
+use Rattle.store_facts.proofs.Tests.{true_false}
+use Rattle.store_facts.proofs.KnownBytes.{Consumes-then}
 use Rattle.store_program.specs.declared.taking.TheConstants.{LONGEST_LINE}
 use Rattle.store_program.specs.Taken.{HasTaken, IsKeptByte, IsTaking, IsUnbroken}
 

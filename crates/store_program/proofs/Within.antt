@@ -6,13 +6,13 @@ use Rattle.obj_id.specs.declared.ids.JobNo.{JobNo}
 use Rattle.obj_id.specs.declared.works.DeviceAnswer.{DeviceAnswer}
 use Rattle.obj_id.specs.declared.messages.Place.{Place}
 use Rattle.obj_id.specs.declared.messages.Place.TheVariants.{Node, Directory}
-use Rattle.private_store.proofs.Tests.{true_false, both_right}
+use Rattle.store_facts.proofs.Tests.{true_false, both_right}
 use Rattle.private_store.specs.declared.schedules.Event.TheVariants as event
 use Rattle.private_store.specs.declared.schedules.Step.{Step}
 use Rattle.private_store.specs.declared.schedules.Step.TheVariants.{At, Deliver}
 use Rattle.schedule_text.specs.declared.line.Line.TheVariants as line
 use Rattle.schedule_text.specs.declared.line.Outcome.{Outcome}
-use Rattle.schedule_text.proofs.Within.{is_there, is_finish, line_within, spelled_within}
+use Rattle.schedule_text.proofs.ForCallers.{is_there, is_finish, line_within, spelled_within}
 use Rattle.world_core.specs.Worlds.{is_place, is_within}
 use Rattle.store_program.specs.Lines.{Says}
 

@@ -5,7 +5,7 @@ use Rattle.std.proofs.lemmas.Bool.Decides.{nat_tests}
 use Rattle.augmented_tree.specs.declared.Node.{Node}
 use Rattle.augmented_tree.specs.Lists.{AllOf}
 use Rattle.augmented_tree.specs.Shape.{items}
-use Rattle.augmented_tree.proofs.Order.{all_map}
+use Rattle.augmented_tree.proofs.ForCallers.{all_map}
 use Rattle.use_tree.specs.declared.choices.Choice.{Choice}
 use Rattle.use_tree.specs.declared.choices.Choices.{Choices}
 use Rattle.use_tree.specs.declared.uses.Use.{Use}

@@ -23,7 +23,7 @@ use Rattle.private_store.specs.Trace.{is_no_memory, cluster_until}
 use Rattle.private_store.specs.Shared.{AskedWork, LiveJob, leaves, waiting, asked_by, works_asked_by, outcome_works, lives_step, is_admission, is_live_at, goes_to_live, deliver_answer, shared_answer, answer_due}
 use Rattle.private_store.specs.Shared as shared
 use Rattle.job_admission.specs.Admissions.{Admissions, live_at, lives_of}
-use Rattle.job_admission.proofs.Lookups.{any_live}
+use Rattle.job_admission.proofs.ForCallers.{any_live}
 use Rattle.owner_directory.specs.Locations.{locations_of}
 use Rattle.world_core.specs.Logs.{sent_of, message_in}
 use Rattle.private_store.specs.declared.schedules.NodeEvent.TheVariants.{Arrive}

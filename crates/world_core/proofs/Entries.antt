@@ -10,7 +10,7 @@ use Rattle.private_store.specs.Private.{view_step}
 use Rattle.private_store.specs.Cluster.{at_node, cluster_from, told_from}
 use Rattle.private_store.specs.Trace.{hands_at, hands_step, out_after, cluster_until, reply_of, is_answered}
 use Rattle.private_store.specs.Shared.{AskedWork, LiveJob, leaves, asked_by, lives_step, is_admission, answer_due}
-use Rattle.private_store.proofs.Runs.{inputs_now}
+use Rattle.store_facts.proofs.Runs.{inputs_now}
 use Rattle.spill_work.specs.declared.queue.Queued.{Queued}
 use Rattle.job_admission.specs.Admissions.{Admissions}
 use Rattle.private_store.specs.declared.schedules.NodeEvent.{NodeEvent}

@@ -23,7 +23,7 @@ use Rattle.private_store.specs.Cluster.{Cluster, arrival_of, deliver, unmoved, i
 use Rattle.private_store.specs.NodeInputs.{wants_memory}
 use Rattle.private_store.specs.Shared.{deliver_answer}
 use Rattle.private_store.specs.Trace.{is_no_memory, cluster_until}
-use Rattle.private_store.proofs.Tests.{some_value, none_some, true_false}
+use Rattle.store_facts.proofs.Tests.{some_value, none_some, true_false}
 use Rattle.job_admission.specs.Admissions.{live_at}
 use Rattle.node_core.specs.Steps.{Given, answered, stale_unless}
 use Rattle.world_core.specs.Logs.{sent_of, message_in}

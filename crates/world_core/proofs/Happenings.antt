@@ -34,10 +34,10 @@ use Rattle.private_store.specs.Cluster.{Told as ToldTo}
 use Rattle.private_store.specs.Trace.{hands_by, hands_step, hands_at, is_no_memory, out_after, is_out, cluster_until, reply_of, is_answered}
 use Rattle.private_store.specs.Shared.{AskedWork, LiveJob, leaves, waiting, works_asked_by, outcome_works, is_admission, first_refusal, ok_unless, can_widen, holds_quota, store_at, admit_answer, requota_answer, take_answer, given_of, is_live_at, shared_answer, answer_due, lives_step}
 use Rattle.private_store.specs.Shared as shared
-use Rattle.private_store.proofs.Tests.{true_false, false_true, some_value, none_some, both_left, both_right, both}
-use Rattle.private_store.proofs.Runs.{cluster_until-step}
+use Rattle.store_facts.proofs.Tests.{true_false, false_true, some_value, none_some, both_left, both_right, both}
+use Rattle.store_facts.proofs.Runs.{cluster_until-step}
 use Rattle.job_admission.specs.Admissions.{Admissions, lives_of, live_at, admit_check, admitted, place_for}
-use Rattle.job_admission.proofs.Lookups.{any_live}
+use Rattle.job_admission.proofs.ForCallers.{any_live}
 use Rattle.spill_work.specs.declared.queue.Asked.{Asked}
 use Rattle.spill_work.specs.declared.queue.Queued.{Queued}
 use Rattle.spill_work.specs.Line.{is_at, is_of, front_of}
@@ -47,7 +47,7 @@ use Rattle.node_core.specs.Hosted.{Hosted}
 use Rattle.node_core.specs.Steps.{is_taken, line_left, work_of, take_told, answered, end_check, requota_check, stale_unless, IsEventAnswer, admissions_after, lives_after, IsGiven}
 use Rattle.node_core.specs.Steps as steps
 use Rattle.world_core.specs.Worlds.{is_waiting, asked_of, untaken, IsNodeAfter}
-use Rattle.private_store.proofs.StepInputs.{given_there, want_same, own_is, inputs_are}
+use Rattle.store_facts.proofs.StepInputs.{given_there, want_same, own_is, inputs_are}
 use Rattle.world_core.proofs.Clusters.{input_found, own_of, own_told}
 use Rattle.world_core.proofs.Entries.{IsEntry}
 use Rattle.world_core.proofs.Lines.{any_filter, filter_all, untaken_filter, is_taken_taken, untaken_taken}

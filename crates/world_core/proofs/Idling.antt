@@ -17,7 +17,7 @@ use Rattle.private_store.specs.Cluster.{Cluster, ClusterInput, deliver, cluster_
 use Rattle.private_store.specs.Trace.{Given, hands_at, hands_step, out_after, is_out, is_no_memory, own_input, notes, for_job, inputs_until, cluster_until, reply_of, is_answered}
 use Rattle.private_store.specs.Shared.{AskedWork, LiveJob, leaves, waiting, asked_by, works_asked_by, lives_step, is_admission, answer_due}
 use Rattle.private_store.specs.Shared as shared
-use Rattle.private_store.proofs.Runs.{inputs_now, cluster_until-step}
+use Rattle.store_facts.proofs.Runs.{inputs_now, cluster_until-step}
 use Rattle.owner_directory.specs.Locations.{locations_of}
 use Rattle.world_core.specs.Logs.{sent_of}
 use Rattle.node_core.specs.Hosted.{Hosted}

@@ -1,7 +1,7 @@
 mod Numbers
 mod Logging
 mod Numbering
-pub mod Places
+mod Places
 mod Stores
 mod Clusters
 mod Lines
@@ -13,3 +13,4 @@ mod Deliveries
 mod HandedOver
 mod Turning
 mod Running
+pub mod ForCallers

@@ -12,7 +12,7 @@ use Rattle.obj_id.specs.declared.messages.Place.{Place}
 use Rattle.obj_id.specs.declared.messages.Place.TheVariants.{Node, Directory}
 use Rattle.obj_id.specs.contracts.messages.PlacePartialEq.TheImpl as place
 use Rattle.private_store.specs.Cluster.{Sent, same_place, messages_between}
-use Rattle.private_store.proofs.Tests.{both_left, both_right}
+use Rattle.store_facts.proofs.Tests.{both_left, both_right}
 use Rattle.world_core.proofs.Numbers.{turned, same_number}
 use Rattle.world_core.specs.declared.messages.Link.{Link}
 use Rattle.world_core.specs.declared.messages.Numbered.{Numbered}

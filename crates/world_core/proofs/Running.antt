@@ -14,7 +14,7 @@ use Rattle.private_store.specs.Private.{view_of}
 use Rattle.private_store.specs.Cluster.{Sent, private_run}
 use Rattle.private_store.specs.Trace.{replies_of, is_answered, Agree, IsPrivate}
 use Rattle.private_store.specs.Shared.{AreSharedAnswers}
-use Rattle.private_store.proofs.Tests.{both, both_right}
+use Rattle.store_facts.proofs.Tests.{both, both_right}
 use Rattle.job_admission.specs.Admissions.{lives_of}
 use Rattle.owner_directory.specs.Locations.{Rows, locations_of}
 use Rattle.world_core.specs.Logs.{sent_of}

@@ -18,9 +18,9 @@ use Rattle.private_store.specs.Cluster.{Told as ToldTo}
 use Rattle.private_store.specs.Trace.{hands_at, is_out, out_after, granted_bytes, inputs_until, cluster_until, reply_of, replies_of, is_answered}
 use Rattle.private_store.specs.Shared.{is_admission, waiting}
 use Rattle.private_store.specs.Shared as shared
-use Rattle.private_store.proofs.Tests.{some_value}
-use Rattle.private_store.proofs.Runs.{inputs_now, told_from-append}
-use Rattle.private_store.proofs.Stamped.{view_of_run}
+use Rattle.store_facts.proofs.Tests.{some_value}
+use Rattle.store_facts.proofs.Runs.{inputs_now, told_from-append}
+use Rattle.store_facts.proofs.Stamped.{view_of_run}
 use Rattle.job_admission.specs.Admissions.{Admissions, place_for, live_at}
 use Rattle.std.specs.Map.{set_value}
 use Rattle.private_store.specs.Jobs.{same_job}

@@ -10,8 +10,8 @@ use Rattle.private_store.specs.declared.inputs.Input.{Input}
 use Rattle.private_store.specs.declared.inputs.Input.TheVariants.{Arrive}
 use Rattle.private_store.specs.Private.{Store, no_store, private_outcome, private_step}
 use Rattle.private_store.specs.Cluster.{Cluster, ClusterInput, at_node, deliver, input_at, moved_at, unmoved, message_at, damaged, handed_over, handed_to_directory, arrival_of, cluster_step, cluster_from, stores_of, no_cluster}
-use Rattle.private_store.proofs.Tests.{none_some, some_value}
-use Rattle.private_store.proofs.Stamped.{IsStamped, private_step_IsStamped, no_store_IsStamped}
+use Rattle.store_facts.proofs.Tests.{none_some, some_value}
+use Rattle.store_facts.proofs.Stamped.{IsStamped, private_step_IsStamped, no_store_IsStamped}
 use Rattle.world_core.proofs.Places.{length-slice_set, slice_get-slice_set, slice_get-slice_set_other, found_within}
 
 -- so many stores, each with its stamps

@@ -16,15 +16,15 @@ use Rattle.private_store.specs.declared.schedules.NodeEvent.TheVariants.{Own}
 use Rattle.private_store.specs.NodeInputs.{before_at, own_due}
 use Rattle.private_store.specs.Private.{Store}
 use Rattle.private_store.specs.Trace.{is_no_memory}
-use Rattle.private_store.proofs.StepInputs.{want_same}
-use Rattle.private_store.proofs.Tests.{true_false}
+use Rattle.store_facts.proofs.StepInputs.{want_same}
+use Rattle.store_facts.proofs.Tests.{true_false}
 use Rattle.node_core.specs.Steps.{Given, IsGiven, StepsFrom}
 use Rattle.world_core.specs.Worlds.{Hosting, IsNodeAfter, IsAfter, is_within}
 use Rattle.world_core.specs.Moves.{Moves, as_damaged, Hands, to_directory, past_directory, to_node, past_node, nothing, hands, Turns, at, delivers, wants, Happens}
 use Rattle.world_core.proofs.Numbers.{is_less}
 use Rattle.world_core.proofs.Places.{length-slice_set}
 use Rattle.world_core.proofs.Stepping.{here, view_at, shown, before_same, after_event}
-use Rattle.node_core.proofs.Never.{told_never}
+use Rattle.node_core.proofs.ForCallers.{told_never}
 use Rattle.world_core.proofs.Happenings.{is_entry}
 use Rattle.world_core.proofs.Idling.{after_wanting}
 use Rattle.world_core.proofs.Deliveries.{no_step, no_answer, after_nothing}

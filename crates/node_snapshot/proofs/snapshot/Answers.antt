@@ -3,7 +3,7 @@ use Rattle.std.specs.Option.{option_copied}
 use Rattle.grants.specs.Private.{as_given}
 use Rattle.grants.specs.Table.{given_by}
 use Rattle.node_table.specs.Row.{beside_of, shape_of}
-use Rattle.node_table.proofs.Getting.{each_ok}
+use Rattle.node_table.proofs.ForCallers.{each_ok}
 use Rattle.node_snapshot.proofs.Briefs.{row_told, bare_told}
 use Rattle.node_snapshot.proofs.snapshot.Goals as goal
 

@@ -1,7 +1,7 @@
 use Rattle.std.proofs.Common.{ap, map, is_some, sym, ◌∙◌, arith}
 use Rattle.std.specs.Option.{option_copied_mut}
 use Rattle.private_store.specs.Extents.{is_apart}
-use Rattle.private_store.proofs.Tests.{both_left, both_right}
+use Rattle.store_facts.proofs.Tests.{both_left, both_right}
 use Rattle.job_admission.specs.declared.Live.{Live}
 use Rattle.private_store.specs.Jobs.{same_job}
 use Rattle.job_admission.specs.Admissions.{Admissions, lives_of, live_at, is_live_kept, window_of, resize_check}

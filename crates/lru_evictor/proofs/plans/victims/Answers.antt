@@ -2,7 +2,7 @@ use Rattle.std.proofs.Common.{sym, ap, subst, ◌∙◌, filter}
 use Rattle.std.specs.Prelude.{unwrap_or}
 use Rattle.std.specs.Option.{option_map}
 use Rattle.std.specs.List.{list_all}
-use Rattle.private_store.proofs.Tests.{none_some}
+use Rattle.store_facts.proofs.Tests.{none_some}
 use Rattle.private_store.specs.Kept.{IsOrderOfUse}
 use Rattle.private_store.specs.Room.{plan}
 use Rattle.use_tree.specs.declared.choices.Choice.TheVariants.{Evictable}

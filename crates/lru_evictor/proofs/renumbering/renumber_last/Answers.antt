@@ -5,7 +5,7 @@ use Rattle.std.specs.Map.{lookup, set_value}
 use Rattle.std.specs.Map.Iter.{deref_pair}
 use Rattle.lru.specs.LruCache.{promoted}
 use Rattle.obj_id.specs.Ids.{id_eq}
-use Rattle.private_store.proofs.Tests.{true_false, none_some}
+use Rattle.store_facts.proofs.Tests.{true_false, none_some}
 use Rattle.use_tree.specs.Uses.{IsRising, take_use, has_use}
 use Rattle.lru_evictor.specs.Indexed.{use_of, with_turn}
 use Rattle.lru_evictor.proofs.Truths.{some_is}

@@ -13,7 +13,7 @@ use Rattle.node_core.specs.Judged.{arrived}
 use Rattle.node_core.specs.Late.{is_accepted, IsLate}
 use Rattle.node_core.specs.Outcomes.{with_no_notes}
 use Rattle.node_core.specs.Steps.{Given, answered, stale_unless, Steps}
-use Rattle.private_store.proofs.Tests.{false_true}
+use Rattle.store_facts.proofs.Tests.{false_true}
 use Rattle.node_core.proofs.Arriving.{stale_steps, row_steps, row_judged}
 use Rattle.node_core.proofs.Asking.{live-is}
 use Rattle.node_core.proofs.Calling.{always_err}

@@ -13,7 +13,7 @@ use Rattle.private_store.specs.declared.schedules.NodeEvent.TheVariants.{Own}
 use Rattle.private_store.specs.Hands.{Hand, hands_sorted, hands_ended, hands_left, is_of_task}
 use Rattle.private_store.specs.Jobs.{same_job}
 use Rattle.grants.specs.Table.{AreHands}
-use Rattle.grants.proofs.Left.{left_are_hands}
+use Rattle.grants.proofs.ForCallers.{left_are_hands}
 use Rattle.node_table.specs.Checks.{end_task_check}
 use Rattle.node_table.specs.EndingTasks.{beside_after}
 use Rattle.node_table.specs.Erased.{keys_of}

@@ -10,7 +10,7 @@ use Rattle.private_store.specs.declared.schedules.NodeEvent.TheVariants.{Own}
 use Rattle.private_store.specs.Hands.{Hand, new_hand, with_hand}
 use Rattle.private_store.specs.Jobs.{same_job}
 use Rattle.grants.specs.Table.{AreHands}
-use Rattle.grants.proofs.Private.{made_for}
+use Rattle.grants.proofs.ForCallers.{made_for}
 use Rattle.node_table.specs.Outcomes.{given_of as row_given_of}
 use Rattle.node_table.specs.Shown.{only}
 use Rattle.node_core.specs.declared.outcome.Note.{Note}

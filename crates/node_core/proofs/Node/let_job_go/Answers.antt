@@ -1,7 +1,7 @@
 use Rattle.std.proofs.Common.{refl, sym, ap, subst, ◌∙◌}
 use Rattle.private_store.specs.Hands.{is_given_by}
 use Rattle.grants.specs.Table.{AreHands, ends_found}
-use Rattle.grants.proofs.Left.{left_are_hands}
+use Rattle.grants.proofs.ForCallers.{left_are_hands}
 use Rattle.node_core.specs.Hosted.{Hosted}
 use Rattle.node_core.specs.JobEnds.{LetsJobGo}
 use Rattle.node_core.proofs.Ending.{finished_hosted}

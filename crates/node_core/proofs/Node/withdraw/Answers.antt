@@ -11,8 +11,7 @@ use Rattle.private_store.specs.declared.schedules.NodeEvent.TheVariants.{Own}
 use Rattle.private_store.specs.Hands.{Hand, hands_ended, hands_left, is_withdrawn}
 use Rattle.private_store.specs.Jobs.{same_job}
 use Rattle.grants.specs.Table.{AreHands, is_first}
-use Rattle.grants.proofs.Left.{left_are_hands}
-use Rattle.grants.proofs.Told.{few_end}
+use Rattle.grants.proofs.ForCallers.{left_are_hands, few_end}
 use Rattle.node_table.specs.Outcomes.{given_of as row_given_of}
 use Rattle.node_core.specs.declared.outcome.Note.{Note}
 use Rattle.node_core.specs.Foreseen.{takers_told, AreTakers}

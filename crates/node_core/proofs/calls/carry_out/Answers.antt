@@ -3,12 +3,12 @@ use Rattle.std.specs.Prelude.{OnOk}
 use Rattle.std.proofs.lemmas.Bool.{eqb-true}
 use Rattle.obj_id.specs.declared.commands.Command.TheVariants as command
 use Rattle.private_store.specs.declared.inputs.Input.TheVariants as input
-use Rattle.private_store.proofs.Tests.{true_false}
+use Rattle.store_facts.proofs.Tests.{true_false}
 use Rattle.node_table.specs.Asked.{HasAsked}
 use Rattle.node_table.specs.Outcomes.{given_of}
 use Rattle.node_table.specs.Row.{beside_of}
 use Rattle.node_table.specs.Shown.{IsShown, TakesStep}
-use Rattle.node_table.proofs.Getting.{each_err}
+use Rattle.node_table.proofs.ForCallers.{each_err}
 use Rattle.node_core.specs.Calls.{is_own, is_plain}
 use Rattle.node_core.specs.Late.{IsRoomDue, IsUnrefused}
 use Rattle.node_core.proofs.Calling.{if_ok, always_ok, always_err, both_err, no_err, not_granted, plain_waits_not}

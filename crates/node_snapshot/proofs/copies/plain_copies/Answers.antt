@@ -2,8 +2,8 @@ use Rattle.std.proofs.Common.{◌++◌, sym, ap, ◌∙◌, append-nil}
 use Rattle.std.specs.FinMap.{is_sorted}
 use Rattle.std.proofs.lemmas.List.{drop_all}
 use Rattle.obj_id.specs.Ids.{id_cmp}
-use Rattle.private_store.proofs.Tests.{T_true}
-use Rattle.node_table.proofs.CopyTables.{sorted-copies}
+use Rattle.store_facts.proofs.Tests.{T_true}
+use Rattle.node_table.proofs.ForCallers.{sorted-copies}
 use Rattle.node_snapshot.proofs.Gathered.{gathered, gathered_all}
 use Rattle.node_snapshot.proofs.copies.plain_copies.Goals as goal
 

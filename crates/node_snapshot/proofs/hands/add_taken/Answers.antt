@@ -2,7 +2,7 @@ use Rattle.std.proofs.Common.{◌∷◌, [], ◌++◌, sym, ap, ◌∙◌}
 use Rattle.std.specs.Option.{option_map_or, option_copied_mut}
 use Rattle.private_store.specs.Tables.{at, with_entry}
 use Rattle.private_store.specs.Shape.{Seen}
-use Rattle.private_store.proofs.ObjectMaps.{at-lookup, with_entry-insert, with_entry-set}
+use Rattle.store_facts.proofs.ObjectMaps.{at-lookup, with_entry-insert, with_entry-set}
 use Rattle.grants.specs.Private.{as_taken}
 use Rattle.node_snapshot.proofs.hands.add_taken.Goals as goal
 

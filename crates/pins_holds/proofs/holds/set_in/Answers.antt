@@ -1,7 +1,7 @@
 use Rattle.std.proofs.Common.{◌∙◌}
 use Rattle.pins_holds.proofs.SessionLemmas.{set_value-put}
 use Rattle.pins_holds.proofs.holds.set_in.Goals as goal
-use Rattle.private_store.proofs.Tests.{T_true}
+use Rattle.store_facts.proofs.Tests.{T_true}
 
 pub returns-in-Some : goal.returns-in-Some
 returns-in-Some c =

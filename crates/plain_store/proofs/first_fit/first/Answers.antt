@@ -1,5 +1,5 @@
 use Rattle.std.proofs.Common.{◌∙◌, sym, arith}
-use Rattle.private_store.proofs.Tests.{not_true, passed}
+use Rattle.store_facts.proofs.Tests.{not_true, passed}
 use Rattle.plain_store.proofs.FirstFits.{walk-start, walk-clear, walk-met, walk-end, walk-past}
 use Rattle.plain_store.proofs.first_fit.first.Goals as goal
 use Rattle.plain_store.proofs.first_fit.first.Goals.{then-meets, else-meets}

@@ -1,5 +1,5 @@
 use Rattle.std.proofs.Common.{◌∙◌, sym, ap, is_some}
-use Rattle.private_store.proofs.ObjectMaps.{at-lookup}
+use Rattle.store_facts.proofs.ObjectMaps.{at-lookup}
 use Rattle.plain_store.proofs.order.has.Goals as goal
 
 pub returns : goal.returns

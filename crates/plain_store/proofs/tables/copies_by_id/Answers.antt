@@ -1,5 +1,5 @@
 use Rattle.std.specs.Vec.Iter.{into_iter_items}
-use Rattle.private_store.proofs.Tests.{T_true}
+use Rattle.store_facts.proofs.Tests.{T_true}
 use Rattle.plain_store.proofs.Sorting.{put-more}
 use Rattle.plain_store.proofs.tables.copies_by_id.Goals as goal
 

@@ -1,5 +1,5 @@
 use Rattle.std.proofs.Common.{◌∙◌}
-use Rattle.private_store.proofs.ObjectMaps.{with_entry-insert}
+use Rattle.store_facts.proofs.ObjectMaps.{with_entry-insert}
 use Rattle.plain_store.proofs.tables.put.Goals as goal
 
 pub returns : goal.returns

@@ -1,6 +1,6 @@
 use Rattle.std.proofs.Common.{[], ◌∷◌, ◌++◌, ap, sym, ◌∙◌}
 use Rattle.std.specs.Prelude.{if◌then◌else◌}
-use Rattle.private_store.proofs.Tests.{none_here}
+use Rattle.store_facts.proofs.Tests.{none_here}
 use Rattle.indexmap.proofs.CallerLemmas.{insert_entry-new}
 use Rattle.spill_work.specs.Line.{same_job}
 use Rattle.spill_work.proofs.by_job.enter.Goals as goal

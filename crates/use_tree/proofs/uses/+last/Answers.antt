@@ -1,8 +1,7 @@
 use Rattle.std.proofs.Common.{Some, None, refl, sym, ◌∙◌, ap, subst, arith}
 use Rattle.std.specs.Prelude.{if◌then◌else◌}
 use Rattle.augmented_tree.specs.Shape.{items}
-use Rattle.augmented_tree.proofs.Order.{rising_front, rising_back}
-use Rattle.augmented_tree.proofs.Kept.{told_at, items_at, depth_at}
+use Rattle.augmented_tree.proofs.ForCallers.{rising_front, rising_back, told_at, items_at, depth_at}
 use Rattle.use_tree.specs.Uses.{turn_of, IsAny, AreOf, IsRising, last_chosen}
 use Rattle.use_tree.proofs.Last.{last_unchosen, nowhere, on_right, on_left, at_the_node}
 use Rattle.use_tree.proofs.uses.+last.Goals as goal

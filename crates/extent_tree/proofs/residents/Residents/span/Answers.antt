@@ -1,7 +1,7 @@
 use Rattle.std.proofs.Common.{subst}
 use Rattle.augmented_tree.specs.Lists.{AllOf}
 use Rattle.extent_tree.specs.Residents.{offset_of, Fits, AreOf, IsRising}
-use Rattle.augmented_tree.proofs.Kept.{told, rises, all_fit}
+use Rattle.augmented_tree.proofs.ForCallers.{told, rises, all_fit}
 use Rattle.extent_tree.proofs.residents.Residents.span.Goals as goal
 
 pub summary-requires : goal.summary-requires

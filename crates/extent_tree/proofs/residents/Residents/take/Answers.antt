@@ -1,6 +1,6 @@
 use Rattle.std.proofs.Common.{subst}
 use Rattle.extent_tree.specs.Residents.{offset_of, Fits, AreOf, IsRising}
-use Rattle.augmented_tree.proofs.Kept.{rises}
+use Rattle.augmented_tree.proofs.ForCallers.{rises}
 use Rattle.extent_tree.proofs.residents.Residents.take.Goals as goal
 
 pub returns-clause-rising : goal.returns-clause-rising

@@ -1,6 +1,6 @@
 use Rattle.std.proofs.Common.{sym, subst}
 use Rattle.private_store.specs.Listed.{IsBriefKept}
-use Rattle.private_store.proofs.BriefKept.{brief_keeps}
+use Rattle.store_facts.proofs.BriefKept.{brief_keeps}
 use Rattle.journal_replay.proofs.jobs.JobReplay.step.Goals as goal
 
 pub invariant_of-result : goal.invariant_of-result

@@ -1,6 +1,6 @@
 use Rattle.std.proofs.Common.{◌≤◌, sym, subst}
 use Rattle.augmented_tree.specs.Lists.{AllOf}
-use Rattle.augmented_tree.proofs.Order.{all_changed}
+use Rattle.augmented_tree.proofs.ForCallers.{all_changed}
 use Rattle.use_tree.specs.declared.uses.Use.{Use}
 use Rattle.use_tree.specs.Uses.{turn_of, with_choices}
 use Rattle.lru_evictor.proofs.index.Index.choose_use.Goals as goal

@@ -1,5 +1,5 @@
 use Rattle.std.proofs.Common.{ap, subst, sym, ◌∙◌, ◌∷◌, is_some}
-use Rattle.private_store.proofs.Tests.{true_false}
+use Rattle.store_facts.proofs.Tests.{true_false}
 use Rattle.use_tree.specs.Uses.{IsRising, take_use, has_use}
 use Rattle.lru_evictor.specs.Indexed.{use_of}
 use Rattle.lru_evictor.proofs.Spread.{spread-front, front-apart}

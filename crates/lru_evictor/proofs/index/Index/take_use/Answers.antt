@@ -1,6 +1,6 @@
 use Rattle.std.proofs.Common.{◌≤◌, sym, subst}
 use Rattle.augmented_tree.specs.Lists.{AllOf}
-use Rattle.augmented_tree.proofs.Order.{all_taken}
+use Rattle.augmented_tree.proofs.ForCallers.{all_taken}
 use Rattle.use_tree.specs.declared.uses.Use.{Use}
 use Rattle.use_tree.specs.Uses.{turn_of}
 use Rattle.lru_evictor.proofs.index.Index.take_use.Goals as goal

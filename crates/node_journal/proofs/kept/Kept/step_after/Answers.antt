@@ -1,5 +1,5 @@
 use Rattle.std.proofs.Common.{◌≢◌, ◌==◌, refl, sym, ◌∙◌}
-use Rattle.private_store.proofs.Tests.{true_false}
+use Rattle.store_facts.proofs.Tests.{true_false}
 use Rattle.node_journal.specs.declared.entries.Agreement.TheVariants.{No}
 use Rattle.node_journal.specs.Journals.{agreement}
 use Rattle.node_journal.specs.Logs.{journal_of}

@@ -3,7 +3,7 @@ use Rattle.std.specs.FinMap.{is_sorted}
 use Rattle.std.proofs.lemmas.Fn.{always_returns_same}
 use Rattle.obj_id.specs.declared.commands.OwnItem.{OwnItem}
 use Rattle.obj_id.specs.Ids.{id_cmp}
-use Rattle.private_store.proofs.Tests.{true_T}
+use Rattle.store_facts.proofs.Tests.{true_T}
 use Rattle.node_table.proofs.Rising.{rising-sorted}
 use Rattle.node_table.proofs.Listed.{none_listed, next_listed, all_listed, listed}
 use Rattle.node_table.proofs.copies.Copies.items.Goals as goal

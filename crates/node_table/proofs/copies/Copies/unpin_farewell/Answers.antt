@@ -4,7 +4,7 @@ use Rattle.obj_id.specs.declared.refusals.Refusal.{Refusal}
 use Rattle.obj_id.specs.declared.refusals.Refusal.TheVariants.{Absent}
 use Rattle.obj_id.specs.declared.ids.TaskNo.{TaskNo}
 use Rattle.obj_id.specs.Ids.{same_task}
-use Rattle.pins_holds.proofs.TaskLemmas.{task_eq, task_eq-same}
+use Rattle.pins_holds.proofs.ForCallers.{task_eq, task_eq-same}
 use Rattle.node_table.specs.Checks.{unpin_check_of}
 use Rattle.node_table.specs.Kept.{Kept}
 use Rattle.node_table.proofs.copies.Copies.unpin_farewell.Goals as goal

@@ -1,7 +1,7 @@
 use Rattle.std.proofs.Common.{◌≡◌, Bool, cond, sym, ap, ◌∙◌}
 use Rattle.obj_id.specs.declared.ids.TaskNo.{TaskNo}
 use Rattle.obj_id.specs.Ids.{same_task}
-use Rattle.pins_holds.proofs.TaskLemmas.{task_eq, task_eq-same}
+use Rattle.pins_holds.proofs.ForCallers.{task_eq, task_eq-same}
 use Rattle.node_table.specs.Kept.{ungranted}
 use Rattle.node_table.proofs.copy.RowCopy.end_hands.Goals as goal
 

@@ -5,7 +5,7 @@ use Rattle.obj_id.specs.declared.commands.Reply.TheVariants as reply
 use Rattle.obj_id.specs.declared.refusals.Refusal.TheVariants.{Gone}
 use Rattle.private_store.specs.declared.inputs.Input.TheVariants as input
 use Rattle.private_store.specs.Kept.{is_remembered}
-use Rattle.private_store.proofs.Tests.{true_false}
+use Rattle.store_facts.proofs.Tests.{true_false}
 use Rattle.node_table.specs.Checks.{borrow_check}
 use Rattle.node_table.specs.Shown.{only, TakesStep}
 use Rattle.node_table.proofs.Scoping.{borrow_refused, borrow_done_so}

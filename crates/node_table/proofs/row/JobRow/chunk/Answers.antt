@@ -5,7 +5,7 @@ use Rattle.obj_id.specs.declared.messages.Arrival.TheVariants as arrival
 use Rattle.obj_id.specs.declared.messages.PeerMessage.TheVariants as peer
 use Rattle.private_store.specs.declared.inputs.Input.TheVariants as input
 use Rattle.private_store.specs.Tables.{at}
-use Rattle.private_store.proofs.Tests.{not_true}
+use Rattle.store_facts.proofs.Tests.{not_true}
 use Rattle.node_table.specs.Arriving.{fills, lacks_only, gap_closed}
 use Rattle.node_table.specs.Scope.{with_copy}
 use Rattle.node_table.specs.Shown.{only, TakesStep}

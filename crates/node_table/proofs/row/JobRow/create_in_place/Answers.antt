@@ -8,7 +8,7 @@ use Rattle.private_store.specs.Copies.{is_sealed}
 use Rattle.private_store.specs.Extents.{rounded}
 use Rattle.private_store.specs.Private.{Post}
 use Rattle.private_store.specs.Tables.{is_among}
-use Rattle.private_store.proofs.Tests.{true_false}
+use Rattle.store_facts.proofs.Tests.{true_false}
 use Rattle.node_table.specs.Evicting.{IsReplaced, has_place, replaced, removals}
 use Rattle.node_table.specs.Kept.{Kept, new_kept}
 use Rattle.node_table.specs.Shown.{TakesStep}

@@ -2,7 +2,7 @@ use Rattle.std.proofs.Common.{◌≡◌, Bool, not, ◌&&◌, ◌++◌, cond, sy
 use Rattle.std.proofs.lemmas.List.{append-nil}
 use Rattle.obj_id.specs.declared.ids.TaskNo.{TaskNo}
 use Rattle.obj_id.specs.Ids.{same_task}
-use Rattle.pins_holds.proofs.TaskLemmas.{task_eq, task_eq-same}
+use Rattle.pins_holds.proofs.ForCallers.{task_eq, task_eq-same}
 use Rattle.node_table.specs.Dropping.{settled_row}
 use Rattle.node_table.specs.Kept.{doomed}
 use Rattle.node_table.specs.Scope.{farewell_at, posted, with_copy}

@@ -5,7 +5,7 @@ use Rattle.node_table.specs.Kept.{Kept, fetched_kept}
 use Rattle.node_table.specs.Row.{Row, place_of, ArePlaced}
 use Rattle.node_table.proofs.Changes.{put_back, of_err, of_ok}
 use Rattle.node_table.proofs.Places.{entered_placed}
-use Rattle.private_store.proofs.Rows.{at-put_here}
+use Rattle.store_facts.proofs.Rows.{at-put_here}
 use Rattle.lru_evictor.specs.Facts.{nowhere}
 use Rattle.lru_evictor.specs.Orders.{ids_of}
 use Rattle.node_table.specs.Followed.{is_followed, AreFollowed}

@@ -9,7 +9,7 @@ use Rattle.private_store.specs.Private.{to_directory}
 use Rattle.fetch_core.specs.Fetching.{missing_of}
 use Rattle.fetch_core.specs.Stages.{phase_of}
 use Rattle.private_store.specs.Shape.{locating, sized, pulling, failed}
-use Rattle.private_store.proofs.Tests.{some_value}
+use Rattle.store_facts.proofs.Tests.{some_value}
 use Rattle.node_table.specs.Checks.{IsInPhase}
 use Rattle.node_table.specs.Kept.{Kept, fetch_of}
 use Rattle.node_table.specs.Row.{beside_of}

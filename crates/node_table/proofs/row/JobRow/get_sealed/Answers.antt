@@ -1,6 +1,6 @@
 use Rattle.std.proofs.Common.{rules, ◌≡◌, sym, ◌∙◌}
 use Rattle.obj_id.specs.declared.refusals.Refusal.TheVariants.{NoMemory}
-use Rattle.private_store.proofs.Tests.{true_false}
+use Rattle.store_facts.proofs.Tests.{true_false}
 use Rattle.node_table.proofs.Getting.{sealed_held, sealed_refused}
 use Rattle.node_table.proofs.Late.{held_due}
 use Rattle.node_table.proofs.row.JobRow.get_sealed.Goals as goal

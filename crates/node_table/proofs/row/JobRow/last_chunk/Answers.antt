@@ -7,7 +7,7 @@ use Rattle.private_store.specs.declared.faults.FetchFault.TheVariants.{Damaged}
 use Rattle.private_store.specs.declared.inputs.Input.TheVariants as input
 use Rattle.private_store.specs.Tables.{at}
 use Rattle.private_store.specs.Contents.{has_digest}
-use Rattle.private_store.proofs.Tests.{some_value}
+use Rattle.store_facts.proofs.Tests.{some_value}
 use Rattle.job_region.specs.Region.{bytes_at as placed_bytes}
 use Rattle.node_table.specs.Arriving.{brought, unfetched_row}
 use Rattle.node_table.specs.Kept.{Kept}

@@ -3,7 +3,7 @@ use Rattle.std.specs.Prelude.{nat_le}
 use Rattle.std.proofs.lemmas.Bool.Decides.{nat_tests}
 use Rattle.private_store.specs.Limits.{most_works, has_numbers}
 use Rattle.node_table.specs.Usages.{total, device_bytes}
-use Rattle.private_store.proofs.Tests.{both, none_here}
+use Rattle.store_facts.proofs.Tests.{both, none_here}
 use Rattle.spill_work.specs.Line.{in_flight}
 use Rattle.node_table.specs.Row.{beside_of}
 use Rattle.node_table.proofs.Planning.{asks-kind, asks-numbers, all_listed, place_exit, plan_exit}

@@ -13,7 +13,7 @@ use Rattle.private_store.specs.Private.{Post}
 use Rattle.private_store.specs.Room.{make_room}
 use Rattle.private_store.specs.Shape.{sized}
 use Rattle.private_store.specs.Tables.{at}
-use Rattle.private_store.proofs.Tests.{some_value, true_false}
+use Rattle.store_facts.proofs.Tests.{some_value, true_false}
 use Rattle.node_table.specs.Evicting.{IsReplaced, has_place, placed_without, replaced, removals}
 use Rattle.node_table.specs.Kept.{Kept, pulled}
 use Rattle.node_table.specs.RoomPlans.{MakesPlace}

@@ -1,5 +1,5 @@
 use Rattle.std.proofs.Common.{sym, ap, subst, ◌∙◌}
-use Rattle.pins_holds.proofs.TaskLemmas.{insert_key-new}
+use Rattle.pins_holds.proofs.ForCallers.{insert_key-new}
 use Rattle.private_store.specs.Kept.{is_remembered}
 use Rattle.private_store.specs.Tables.{at}
 use Rattle.node_table.specs.EndingTasks.{task_row}

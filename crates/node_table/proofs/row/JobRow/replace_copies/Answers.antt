@@ -5,7 +5,7 @@ use Rattle.private_store.specs.Copies.{extent_of}
 use Rattle.obj_id.specs.declared.ids.ObjectId.{ObjectId}
 use Rattle.private_store.specs.Tables.{ById, at, with_entry, without_entry, is_among}
 use Rattle.private_store.specs.Extents.{first}
-use Rattle.private_store.proofs.Tests.{some_value, not_true}
+use Rattle.store_facts.proofs.Tests.{some_value, not_true}
 use Rattle.job_region.specs.Region.{Region, extents_of, put_in}
 use Rattle.lru_evictor.specs.Orders.{ids_of, without_id}
 use Rattle.node_table.specs.Evicting.{all_evicted, placed_without, replaced, without_missing}

@@ -8,7 +8,7 @@ use Rattle.private_store.specs.Kept.{is_remembered}
 use Rattle.private_store.specs.Limits.{most_works, has_numbers}
 use Rattle.private_store.specs.Room.{make_room}
 use Rattle.private_store.specs.Tables.{at}
-use Rattle.private_store.proofs.Tests.{some_value}
+use Rattle.store_facts.proofs.Tests.{some_value}
 use Rattle.spill_work.specs.Line.{in_flight, same_job, used_by}
 use Rattle.node_table.specs.Checks.{visible_state, fault_at}
 use Rattle.node_table.specs.Evicting.{MayGo}

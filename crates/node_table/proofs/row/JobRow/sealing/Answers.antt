@@ -5,7 +5,7 @@ use Rattle.obj_id.specs.declared.refusals.Refusal.TheVariants.{Absent}
 use Rattle.private_store.specs.Contents.{digest_of}
 use Rattle.private_store.specs.Copies.{extent_of}
 use Rattle.private_store.specs.Tables.{at}
-use Rattle.private_store.proofs.Tests.{some_value}
+use Rattle.store_facts.proofs.Tests.{some_value}
 use Rattle.job_region.specs.Region.{bytes_at as placed_bytes}
 use Rattle.node_table.specs.Checks.{seal_check_of}
 use Rattle.node_table.specs.Kept.{Kept}

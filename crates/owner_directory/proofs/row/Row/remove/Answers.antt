@@ -4,7 +4,7 @@ use Rattle.std.specs.Map.{set_value}
 use Rattle.private_store.specs.Tables.{without_entry}
 use Rattle.private_store.specs.Directory.{entries_at, with_entries, without_node}
 use Rattle.owner_directory.specs.Locations.{Locations}
-use Rattle.private_store.proofs.ObjectMaps.{is_id}
+use Rattle.store_facts.proofs.ObjectMaps.{is_id}
 use Rattle.owner_directory.proofs.Objects.{removed_some, removed_last, removed_absent, true_or_not}
 use Rattle.owner_directory.proofs.row.Row.remove.Goals as goal
 

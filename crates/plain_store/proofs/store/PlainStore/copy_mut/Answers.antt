@@ -1,7 +1,7 @@
 use Rattle.std.proofs.Common.{◌∙◌, sym, ap}
 use Rattle.std.specs.Option.{option_copied_mut}
 use Rattle.private_store.specs.Tables.{at}
-use Rattle.private_store.proofs.ObjectMaps.{at-lookup, with_entry-set}
+use Rattle.store_facts.proofs.ObjectMaps.{at-lookup, with_entry-set}
 use Rattle.plain_store.specs.Lending.{with_copy}
 use Rattle.plain_store.specs.contracts.store.PlainStore.{the_view}
 use Rattle.plain_store.proofs.Changing.{with_copies, lent}

@@ -1,5 +1,5 @@
 use Rattle.std.proofs.Common.{◌∙◌, ap}
-use Rattle.private_store.proofs.ObjectMaps.{without_entry-remove}
+use Rattle.store_facts.proofs.ObjectMaps.{without_entry-remove}
 use Rattle.plain_store.specs.Lending.{without_copy}
 use Rattle.plain_store.specs.contracts.store.PlainStore.{the_view}
 use Rattle.plain_store.proofs.Changing.{with_copies}

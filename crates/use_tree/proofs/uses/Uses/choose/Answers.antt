@@ -1,5 +1,5 @@
 use Rattle.std.proofs.Common.{subst}
-use Rattle.augmented_tree.proofs.Kept.{rises}
+use Rattle.augmented_tree.proofs.ForCallers.{rises}
 use Rattle.use_tree.specs.Uses.{turn_of, IsAny, AreOf, IsRising, start}
 use Rattle.use_tree.proofs.uses.Uses.choose.Goals as goal
 

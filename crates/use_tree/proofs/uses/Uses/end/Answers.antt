@@ -1,8 +1,7 @@
 use Rattle.std.proofs.Common.{◌<◌, subst}
 use Rattle.augmented_tree.specs.Lists.{AllOf}
 use Rattle.augmented_tree.specs.Shape.{items}
-use Rattle.augmented_tree.proofs.Order.{all_map}
-use Rattle.augmented_tree.proofs.Kept.{in_range, Within}
+use Rattle.augmented_tree.proofs.ForCallers.{all_map, in_range, Within}
 use Rattle.use_tree.specs.declared.uses.Use.{Use}
 use Rattle.use_tree.specs.Uses.{turn_of, IsAny, AreOf, start}
 use Rattle.use_tree.proofs.uses.Uses.end.Goals as goal

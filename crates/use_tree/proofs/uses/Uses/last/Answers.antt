@@ -1,4 +1,4 @@
-use Rattle.augmented_tree.proofs.Kept.{told, rises}
+use Rattle.augmented_tree.proofs.ForCallers.{told, rises}
 use Rattle.std.proofs.Common.{subst}
 use Rattle.use_tree.specs.Uses.{turn_of, IsAny, AreOf, IsRising, start}
 use Rattle.use_tree.proofs.uses.Uses.last.Goals as goal

@@ -1,6 +1,6 @@
 use Rattle.std.proofs.Common.{rules, ◌≡◌, ◌+◌, ◌-◌, ap, ◌∙◌, arith}
 use Rattle.std.specs.Prelude.{slice_get}
-use Rattle.obj_id.proofs.RefusalTables.{option_copied-item}
+use Rattle.store_facts.proofs.Ids.{option_copied-item}
 use Rattle.wire_frames.proofs.KindTables.{all_kinds, byte_at}
 use Rattle.wire_frames.proofs.kinds.FrameKind.from_byte.Goals as goal
 

@@ -1,0 +1,53 @@
+-- Every judged input keeps a store without contents, and so does every replay.
+use Rattle.std.proofs.Common.{◌≡◌, ℕ, ◌≤◌, Bool, true, false, cond, List, [], ◌∷◌, is_some, refl, sym, subst, arith}
+use Rattle.std.specs.Prelude.{count_by}
+use Rattle.obj_id.specs.declared.ids.ObjectId.{ObjectId}
+use Rattle.obj_id.specs.Ids.{same_id}
+use Rattle.private_store.specs.declared.inputs.Judged.{Judged}
+use Rattle.private_store.specs.Tables.{ById, at}
+use Rattle.private_store.specs.Shape.{Copy}
+use Rattle.private_store.specs.Kept.{IsOrderOfUse}
+use Rattle.private_store.specs.declared.inputs.Input.{Input}
+use Rattle.private_store.specs.Private.{view_of, no_store, store_from}
+use Rattle.private_store.specs.Replay.{Brief, Line, brief_of, unbegun_brief, brief_after, replayed, lines_from}
+use Rattle.private_store.specs.Listed.{IsOrderOf, IsBriefKept}
+use Rattle.store_facts.proofs.KeptStep.{step_keeps, unbegun_kept}
+use Rattle.store_facts.proofs.ExtentsKept.{extents_keep, unbegun_extents}
+use Rattle.store_facts.proofs.DeviceKept.{device_keeps, unbegun_device}
+use Rattle.store_facts.proofs.ReplayLemmas.{replayed-lines}
+use Rattle.store_facts.proofs.Stamped.{view_of_run, no_store_IsStamped}
+use Rattle.store_facts.proofs.ListsKept.{lists_keep, order_keeps, unbegun_lists}
+
+-- an order of the copies has no id twice
+pub order_once : (order : List ObjectId) (copies : ById Copy) → IsOrderOf order copies → IsOrderOfUse order
+order_once order copies h id = at_most (is_some (at copies id)) (count_by (same_id id) order) (h id)
+  where
+    at_most : (b : Bool) (n : ℕ) → n ≡ cond b 1 0 → n ≤ 1
+    at_most true n e = omega (arith, e)
+    at_most false n e = omega (arith, e)
+
+pub brief_keeps : (brief : Brief) (x : Judged) → IsBriefKept brief → IsBriefKept (brief_after brief x)
+brief_keeps brief x h = record {
+  order = order_keeps brief.order brief.shape x h.order;
+  shape = step_keeps brief.order brief.shape x (order_once brief.order brief.shape.copies h.order) h.shape;
+  extents = extents_keep brief.order brief.shape x h.shape h.extents;
+  device = device_keeps brief.order brief.shape x h.shape h.device;
+  lists = lists_keep brief.order brief.shape x h.lists;
+}
+
+pub unbegun_brief_kept : (job : ℕ) → IsBriefKept (unbegun_brief job)
+unbegun_brief_kept job = record { order = λ id. refl; shape = unbegun_kept job; extents = unbegun_extents job; device = unbegun_device job; lists = unbegun_lists job }
+
+replayed_keeps : (brief : Brief) (lines : List Line) → IsBriefKept brief → IsBriefKept (replayed brief lines)
+replayed_keeps brief [] h = h
+replayed_keeps brief (line ∷ lines) h = replayed_keeps (brief_after brief line.input) lines (brief_keeps brief line.input h)
+
+pub replay_keeps : (job : ℕ) (lines : List Line) → IsBriefKept (replayed (unbegun_brief job) lines)
+replay_keeps job lines = replayed_keeps (unbegun_brief job) lines (unbegun_brief_kept job)
+
+-- and so does every run, whose lines replay to what it shows
+pub run_keeps_brief : (node job : ℕ) (xs : List Input) → IsBriefKept (brief_of (view_of (store_from node (no_store job) xs)))
+run_keeps_brief node job xs =
+    let start = view_of (no_store job) in
+    subst (λ view. IsBriefKept (brief_of view)) (sym (view_of_run node (no_store job) xs (no_store_IsStamped job)))
+    (subst IsBriefKept (replayed-lines node start xs) (replay_keeps job (lines_from node start xs)))

@@ -1,0 +1,32 @@
+-- A store stays its own job's, whatever the input.
+use Rattle.std.proofs.Common.{◌≡◌, List, Option, refl, ◌∙◌}
+use Rattle.obj_id.specs.declared.ids.ObjectId.{ObjectId}
+use Rattle.private_store.specs.declared.inputs.Judged.{Judged}
+use Rattle.private_store.specs.Shape.{Shape}
+use Rattle.private_store.specs.Made.{Edit, marks, drops, creates, fetches, asks, finishes, flags, ends_task, gives, leaves, receives, loses, begins, requotas, ends, Edits, none, then_edit}
+use Rattle.private_store.specs.Step.{step}
+use Rattle.store_facts.proofs.EachStep.{step_made}
+
+edit_job : {x : Judged} {used : Option ObjectId} (store after : Shape) → Edit x used store after → after.job ≡ store.job
+edit_job store after (marks id copy d found marked) = refl
+edit_job store after (drops id copy found goes) = refl
+edit_job store after (creates id kind n offset is) = refl
+edit_job store after (fetches id is absent fine) = refl
+edit_job store after (asks writes id) = refl
+edit_job store after (finishes number) = refl
+edit_job store after (flags failed) = refl
+edit_job store after (ends_task task) = refl
+edit_job store after (gives hand) = refl
+edit_job store after (leaves stands) = refl
+edit_job store after (receives id n giver depth is) = refl
+edit_job store after (loses id giver depth seen found) = refl
+edit_job store after (begins quota fresh fine) = refl
+edit_job store after (requotas quota fine fits) = refl
+edit_job store after (ends is) = refl
+
+edits_job : {x : Judged} {used : Option ObjectId} (store after : Shape) → Edits x used store after → after.job ≡ store.job
+edits_job store after none = refl
+edits_job store after (then_edit {mid} before last) = edit_job mid after last ∙ edits_job store mid before
+
+pub step_keeps_job : (order : List ObjectId) (store : Shape) (x : Judged) → (step order store x).shape.job ≡ store.job
+step_keeps_job order store x = edits_job store (step order store x).shape (step_made order store x).edits

@@ -1,0 +1,11 @@
+mod Completing
+mod ExampleWords
+mod ExamplesOfRoom
+mod ExamplesOfDevices
+mod ExamplesOfTasks
+mod ExamplesOfGrants
+mod ExamplesOfFetches
+mod ExamplesOfQuotas
+mod ExamplesOfFrames
+mod RefusingLemmas
+mod NumbersRise
