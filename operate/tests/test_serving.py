@@ -240,6 +240,15 @@ class Limits(unittest.TestCase):
             self.assertEqual(self.limit(place), 300)
             self.assertIn("limit of 300 descriptors: 2074 are needed for 1024 sessions at each of 2 nodes", place.log())
 
+    def test_the_allocator_gives_memory_back_unless_it_is_set_otherwise(self) -> None:
+        for names, kept in (({}, "1048576"), ({"MALLOC_MMAP_THRESHOLD_": "65536"}, "65536")):
+            with self.subTest(names=names), Place() as place:
+                place.start_ready(names=names)
+                given = Path(f"/proc/{place.server()}/environ").read_bytes().split(b"\0")
+                self.assertIn(f"MALLOC_MMAP_THRESHOLD_={kept}".encode(), given)
+                self.assertIn(b"MALLOC_ARENA_MAX=4", given)
+                self.assertIn(b"MALLOC_TRIM_THRESHOLD_=1048576", given)
+
     def test_a_limit_of_files_fails_a_spill_and_nothing_else(self) -> None:
         with Place(jobs=(1, 2)) as place:
             # blocks of 1,024 bytes
