@@ -1,6 +1,6 @@
 -- Lists of holes by rising offset.
 use Rattle.std.specs.Prelude.{◌≡◌, ℕ, Bool, max, nat_le, if◌then◌else◌, List, [], ◌∷◌, Option, Some, None}
-use Rattle.augmented_tree.specs.Lists.{IsRisingBy, put_item, take_item, has_item}
+use Rattle.augmented_tree.specs.Lists.{IsRisingBy, put_item, take_item, has_item, find_item}
 use Rattle.hole_tree.specs.declared.Hole.{Hole}
 
 abbrev pub offset_of : Hole → ℕ
@@ -25,6 +25,10 @@ take_hole = take_item offset_of
 -- whether there is a hole at an offset
 abbrev pub has_hole : ℕ → List Hole → Bool
 has_hole = has_item offset_of
+
+-- the hole at an offset, if there is one
+abbrev pub hole_at : ℕ → List Hole → Option Hole
+hole_at = find_item offset_of
 
 -- the length of the greatest hole
 abbrev pub greatest : List Hole → ℕ

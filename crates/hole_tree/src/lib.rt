@@ -7,7 +7,7 @@ mod tests;
 
 ghost use Rattle.std.specs.Prelude.{◌≡◌, ◌^◌, ◌<◌, ◌≤◌, [], is_some};
 ghost use Rattle.augmented_tree.specs.Shape.{items, depth, IsTold};
-ghost use Rattle.hole_tree.specs.Holes.{offset_of, IsAny, IsGreatest, put_hole, take_hole, has_hole, first_fitting};
+ghost use Rattle.hole_tree.specs.Holes.{offset_of, IsAny, IsGreatest, IsRising, put_hole, take_hole, has_hole, hole_at, first_fitting};
 
 use augmented_tree::{Keyed, Tree, summary};
 use std::alloc::{AllocError, Global};
@@ -137,6 +137,14 @@ impl Holes {
         ensures visits { result.1 ≤ 30 }
     {
         first_fit(&self.tree, need)
+    }
+
+    /// The hole at an offset, if there is one.
+    pub fn at(&self, offset: u64) -> Option<Hole>
+        ensures hole { result ≡ hole_at offset self.now }
+        ensures rising { IsRising self.now }
+    {
+        augmented_tree::find(&self.tree, offset, 0, END)
     }
 
     /// Takes out all holes. Takes no memory.

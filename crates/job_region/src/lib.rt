@@ -2,30 +2,33 @@
 //! quota and its extents by rising offset, each with its bytes; the buffers and the holes are hidden.
 #![tactic(auto)]
 
-ghost use Rattle.std.specs.Prelude.{◌≡◌, ◌≢◌, ◌↔◌, ℕ, ◌+◌, ◌-◌, ◌*◌, ◌/◌, ◌%◌, ◌^◌, ◌<◌, ◌≤◌, ◌++◌, List, [], ◌∷◌, Some, None, true, false, not, nat_eq, IfOk, OnOk, OnErr, IfSome, IsSome, IsErrOf, IsOk, IsTrue, IsSomeAnd, unwrap_or, length, take, drop, filter, replicate};
-ghost use Rattle.std.specs.List.{list_any, list_all};
+ghost use Rattle.std.specs.Prelude.{◌≡◌, ◌≢◌, ◌↔◌, ℕ, ◌+◌, ◌^◌, ◌<◌, ◌≤◌, [], Some, None, false, nat_eq, IfOk, OnOk, OnErr, IfSome, IsErrOf, IsOk, length, take, replicate, vec_len};
 ghost use Rattle.std.specs.List.Sorted.{IsNonDecreasingBy};
 ghost use Rattle.obj_id.specs.declared.works.Extent.{Extent};
 ghost use Rattle.std.specs.Map.{lookup, remove_entry, set_value};
 ghost use Rattle.obj_id.specs.declared.refusals.Refusal.{Refusal};
-ghost use Rattle.obj_id.specs.declared.refusals.Refusal.TheVariants.{BadSize, Full, OutOfBounds, NoMemory};
+ghost use Rattle.obj_id.specs.declared.refusals.Refusal.TheVariants.{BadSize, OutOfBounds, NoMemory};
 ghost use Rattle.private_store.specs.Limits.{is_window as is_window_lem};
 ghost use Rattle.private_store.specs.Extents.{rounded as rounded_lem, is_size, first};
 ghost use Rattle.private_store.specs.Contents.{digest_of, overwritten};
 ghost use Rattle.job_region.specs.Region.{extents_of, place_for, place_check, put_in, without, IsAt, bytes_at, resize_check as resize_check_lem};
-ghost use Rattle.std.specs.Prelude.{vec_len, vec_capacity, find, slice_index_or};
-ghost use Rattle.hole_tree.specs.Holes.{has_hole, take_hole};
-ghost use Rattle.job_region.specs.Layout.{LaidFrom, AreFilled, zipped, Before, After, gap, gap_among, kept, put_extent, without_extent, last_end, first_start};
-ghost use Rattle.job_region.specs.Gaps.{gaps, put_then, cut_hole, mend_holes, stretch as stretch_lem};
+ghost use Rattle.job_region.specs.Layout.{LaidFrom, zipped};
 
 mod buffer;
+mod extents;
+mod holes;
 mod spent;
 mod zeros;
 
 use buffer::Buffer;
 use bytes::Bytes;
+use extents::{
+    adopt_at, buffer_at, compare_at, end_of_last, expect_at, freeze_at, least_without, put,
+    reserve_places, write_at,
+};
 use hashed_bytes::Hashed;
 use hole_tree::{Hole, Holes, Room};
+use holes::{cut, end_at, free_all, free_at, reserve, reserve_to_grow};
 use obj_id::limits::{LONGEST_OBJECT, UNIT, WIDEST_WINDOW};
 use obj_id::{Digest, Extent, Refusal};
 use private_store::rounded;
@@ -195,31 +198,29 @@ impl Window {
         }
     }
 
-    /// Takes back these extents, which are given by rising offset, and places an extent of zeros for an
-    /// object of `len` bytes where it then fits first; the other extents stay. Takes a bisection and two
-    /// changes of the tree for each extent that goes, and no scan of those that stay.
+    /// Takes back these extents, which are given by rising offset, and places an extent of zeros for an object of `len` bytes at the
+    /// offset at which it then fits first, as `fits_without` says it; the other extents stay. Takes a bisection and two changes of the
+    /// tree for each extent that is taken back, no search for a place, and no scan of those that stay.
     ///
-    /// `BadSize` and `Full` as `place` would answer then, `NoMemory` last. A refusal changes nothing: the
-    /// extents are not taken back.
-    pub fn replace(&mut self, alloc: Global, gone: &[Extent], len: u32) -> Result<Extent, Refusal>
-        requires { IsNonDecreasingBy (λ (e : Extent). e.offset) gone.now }
+    /// The error is out of memory. It changes nothing: the extents are not taken back.
+    pub fn replace(
+        &mut self,
+        alloc: Global,
+        gone: &[Extent],
+        len: u32,
+        offset: u64,
+    ) -> Result<Extent, AllocError>
+        requires rising { IsNonDecreasingBy (λ (e : Extent). e.offset) gone.now }
+        requires some { 0 < len }
+        requires first { first (extents_of (without gone.now self.old.placed)) self.old.quota len ≡ Some offset }
         ensures least { IfOk result (λ e. first (extents_of (without gone.now self.old.placed)) self.old.quota len ≡ Some e.offset) }
         ensures length { IfOk result (λ e. e.length ≡ rounded_lem len) }
         ensures placed { IfOk result (λ e. self.new ≡ record self.old { placed = put_in (e.offset, replicate e.length 0) (without gone.now self.old.placed) }) }
-        ensures refused { (r : Refusal) → r ≢ NoMemory → IsErrOf result r → place_check (record self.old { placed = without gone.now self.old.placed }) len ≡ Some r }
-        ensures passed { IsOk result → place_check (record self.old { placed = without gone.now self.old.placed }) len ≡ None }
-        ensures memory { IsErrOf result NoMemory → place_check (record self.old { placed = without gone.now self.old.placed }) len ≡ None }
         ensures err { OnErr result (self.new ≡ self.old) }
         ensures fresh { IfOk result (λ e. lookup (nat_eq e.offset) (without gone.now self.old.placed) ≡ None) }
         ensures small { IfOk result (λ e. e.offset + e.length < 2 ^ 29) }
     {
         let need = rounded(len);
-        if len == 0 || len > LONGEST_OBJECT || need > self.quota {
-            return Err(Refusal::BadSize);
-        }
-        if self.fits_without(gone, len).is_none() {
-            return Err(Refusal::Full);
-        }
         reserve(&mut self.rooms, alloc, self.extents.len())?;
         reserve_places(&mut self.extents, &mut self.buffers)?;
         let buffer = Buffer::zeros(self.made.take(), alloc, need as usize)?;
@@ -232,7 +233,7 @@ impl Window {
             gone,
             self.quota,
         );
-        let Some(hole) = self.holes.first_fit(need).0 else {
+        let Some(hole) = self.holes.at(offset) else {
             unreachable!()
         };
         let extent = Extent {
@@ -462,387 +463,4 @@ fn is_window(quota: u64) -> bool
     ensures { result ≡ is_window_lem quota }
 {
     quota >= UNIT && quota <= WIDEST_WINDOW && quota % UNIT == 0
-}
-
-/// How many extents begin before an offset.
-fn place_of(extents: &[Extent], offset: u64) -> usize
-    requires { IsNonDecreasingBy (λ (e : Extent). e.offset) extents.now }
-    ensures within { result ≤ length extents.now }
-    ensures before { Before offset extents.now result }
-    ensures after { After offset extents.now result }
-{
-    extents.partition_point(|e| e.offset < offset)
-}
-
-/// Whether the extent at a place begins at an offset.
-fn is_at(extents: &[Extent], place: usize, offset: u64) -> bool
-    ensures yes { result ≡ true → (place < length extents.now) × ((d : Extent) → (slice_index_or extents.now place d).offset ≡ offset) }
-    ensures no { result ≡ false → place < length extents.now → (d : Extent) → (slice_index_or extents.now place d).offset ≢ offset }
-{
-    match extents.get(place) {
-        Some(extent) => extent.offset == offset,
-        None => false,
-    }
-}
-
-/// Makes room for one extent more, with its buffer.
-fn reserve_places(extents: &mut Vec<Extent>, buffers: &mut Vec<Buffer>) -> Result<(), AllocError>
-    ensures extents { extents.new.items ≡ extents.old.items }
-    ensures buffers { buffers.new.items ≡ buffers.old.items }
-    ensures ok { OnOk result ((length extents.new.items < vec_capacity extents.new) × (length buffers.new.items < vec_capacity buffers.new)) }
-{
-    extents.reserve(1)?;
-    buffers.reserve(1)?;
-    Ok(())
-}
-
-/// Puts an extent in its place, with its buffer.
-fn put(extents: &mut Vec<Extent>, buffers: &mut Vec<Buffer>, extent: Extent, buffer: Buffer)
-    requires rising { IsNonDecreasingBy (λ (e : Extent). e.offset) extents.old.items }
-    requires filled { AreFilled extents.old.items buffers.old.items }
-    requires fits { length buffer ≡ extent.length }
-    requires room { (length extents.old.items < vec_capacity extents.old) × (length buffers.old.items < vec_capacity buffers.old) }
-    ensures extents { extents.new.items ≡ put_extent extent extents.old.items }
-    ensures filled { AreFilled extents.new.items buffers.new.items }
-    ensures placed { zipped extents.new.items buffers.new.items ≡ put_in (extent.offset, buffer) (zipped extents.old.items buffers.old.items) }
-{
-    let at = place_of(extents, extent.offset);
-    extents.insert(at, extent).unwrap();
-    buffers.insert(at, buffer).unwrap();
-}
-
-/// Takes out the extent at an offset, if there is one. Its buffer is kept apart.
-fn take_out(
-    extents: &mut Vec<Extent>,
-    buffers: &mut Vec<Buffer>,
-    spent: &mut Spent,
-    offset: u64,
-) -> Option<Extent>
-    requires rising { IsNonDecreasingBy (λ (e : Extent). e.offset) extents.old.items }
-    requires filled { AreFilled extents.old.items buffers.old.items }
-    ensures left { extents.new.items ≡ without_extent offset extents.old.items }
-    ensures taken { result ≡ find (λ e. nat_eq offset e.offset) extents.old.items }
-    ensures capacity { vec_capacity extents.new ≡ vec_capacity extents.old }
-    ensures filled { AreFilled extents.new.items buffers.new.items }
-    ensures placed { zipped extents.new.items buffers.new.items ≡ remove_entry (nat_eq offset) (zipped extents.old.items buffers.old.items) }
-    ensures room { vec_capacity buffers.new ≡ vec_capacity buffers.old }
-{
-    let at = place_of(extents, offset);
-    if !is_at(extents, at, offset) {
-        return None;
-    }
-    let extent = extents.remove(at);
-    spent.keep(buffers.remove(at));
-    Some(extent)
-}
-
-/// The buffer of the extent at an offset.
-fn buffer_at<'a>(extents: &[Extent], buffers: &'a Vec<Buffer>, offset: u64) -> &'a Buffer
-    requires rising { IsNonDecreasingBy (λ (e : Extent). e.offset) extents.now }
-    requires filled { AreFilled extents.now buffers.now.items }
-    requires there { IsSome (lookup (nat_eq offset) (zipped extents.now buffers.now.items)) }
-    ensures { lookup (nat_eq offset) (zipped extents.now buffers.now.items) ≡ Some result.now }
-{
-    let at = place_of(extents, offset);
-    &buffers[at]
-}
-
-/// Freezes it.
-fn freeze_at(extents: &[Extent], buffers: &mut Vec<Buffer>, offset: u64, alloc: Global)
-    requires rising { IsNonDecreasingBy (λ (e : Extent). e.offset) extents.now }
-    requires filled { AreFilled extents.now buffers.old.items }
-    requires there { IsSome (lookup (nat_eq offset) (zipped extents.now buffers.old.items)) }
-    ensures { buffers.new.items ≡ buffers.old.items }
-{
-    let at = place_of(extents, offset);
-    buffers[at].freeze(alloc);
-}
-
-/// Takes bytes with their digest for it.
-fn expect_at(extents: &[Extent], buffers: &mut Vec<Buffer>, offset: u64, hashed: Hashed)
-    requires rising { IsNonDecreasingBy (λ (e : Extent). e.offset) extents.now }
-    requires filled { AreFilled extents.now buffers.old.items }
-    requires there { IsSome (lookup (nat_eq offset) (zipped extents.now buffers.old.items)) }
-    ensures { buffers.new.items ≡ buffers.old.items }
-{
-    let at = place_of(extents, offset);
-    buffers[at].expect(hashed);
-}
-
-/// Compares the next part of them.
-fn compare_at(extents: &[Extent], buffers: &mut Vec<Buffer>, offset: u64) -> bool
-    requires rising { IsNonDecreasingBy (λ (e : Extent). e.offset) extents.now }
-    requires filled { AreFilled extents.now buffers.old.items }
-    requires there { IsSome (lookup (nat_eq offset) (zipped extents.now buffers.old.items)) }
-    ensures { buffers.new.items ≡ buffers.old.items }
-{
-    let at = place_of(extents, offset);
-    buffers[at].compare()
-}
-
-/// Lets it have these bytes, and gives what was its own.
-fn adopt_at(
-    extents: &[Extent],
-    buffers: &mut Vec<Buffer>,
-    offset: u64,
-    alloc: Global,
-    bytes: Bytes,
-) -> Option<Vec<u8>>
-    requires rising { IsNonDecreasingBy (λ (e : Extent). e.offset) extents.now }
-    requires filled { AreFilled extents.now buffers.old.items }
-    requires there { IsSomeAnd (lookup (nat_eq offset) (zipped extents.now buffers.old.items)) (λ old. length bytes ≡ length old) }
-    ensures filled { AreFilled extents.now buffers.new.items }
-    ensures placed { zipped extents.now buffers.new.items ≡ set_value (nat_eq offset) (zipped extents.now buffers.old.items) bytes }
-{
-    let at = place_of(extents, offset);
-    buffers[at].adopt(alloc, bytes)
-}
-
-/// Writes bytes into it, from an offset in it on.
-fn write_at(extents: &[Extent], buffers: &mut Vec<Buffer>, offset: u64, off: usize, bytes: &[u8])
-    requires rising { IsNonDecreasingBy (λ (e : Extent). e.offset) extents.now }
-    requires filled { AreFilled extents.now buffers.old.items }
-    requires there { IsSomeAnd (lookup (nat_eq offset) (zipped extents.now buffers.old.items)) (λ old. off + length bytes.now ≤ length old) }
-    ensures filled { AreFilled extents.now buffers.new.items }
-    ensures placed { zipped extents.now buffers.new.items ≡ set_value (nat_eq offset) (zipped extents.now buffers.old.items) (overwritten (unwrap_or (lookup (nat_eq offset) (zipped extents.now buffers.old.items)) []) off bytes.now) }
-{
-    let at = place_of(extents, offset);
-    buffers[at].write(off, bytes);
-}
-
-/// Where the last of these extents ends, or `at` if there is none.
-fn end_of_last(at: u64, extents: &[Extent]) -> u64
-    requires { last_end at extents.now < 2 ^ 64 }
-    ensures { result ≡ last_end at extents.now }
-{
-    match extents.last() {
-        Some(last) => last.offset + last.length,
-        None => at,
-    }
-}
-
-/// Where the first of these extents begins, or the quota if there is none.
-fn start_of_first(extents: &[Extent], quota: u64) -> u64
-    ensures { result ≡ first_start quota extents.now }
-{
-    match extents.first() {
-        Some(first) => first.offset,
-        None => quota,
-    }
-}
-
-/// Where so many bytes go once these extents are gone, if they go to `found` before. Only what the extents
-/// that go join is looked at.
-fn least_without(
-    extents: &[Extent],
-    found: Option<u64>,
-    gone: &[Extent],
-    need: u64,
-    quota: u64,
-) -> Option<u64>
-    requires laid { LaidFrom quota 0 extents.now }
-    requires small { quota < 2 ^ 29 }
-    requires rising { IsNonDecreasingBy (λ (e : Extent). e.offset) gone.now }
-    requires found { found ≡ gap quota need 0 extents.now }
-    ensures { result ≡ gap quota need 0 (kept gone.now extents.now) }
-{
-    let mut least = found;
-    // Where the free bytes begin that end at the next extent that stays.
-    let mut start = 0;
-    let mut next = 0;
-    for e in gone {
-        let rest = &extents[next..];
-        let passed = place_of(rest, e.offset);
-        if !is_at(rest, passed, e.offset) {
-            continue;
-        }
-        start = end_of_last(start, &rest[..passed]);
-        next = next + passed + 1;
-        let end = start_of_first(&extents[next..], quota);
-        least = with_gap(least, start, end, need);
-    }
-    least
-}
-
-/// The lesser of the least place so far and `start`, if so many bytes fit from there to `end`.
-fn with_gap(least: Option<u64>, start: u64, end: u64, need: u64) -> Option<u64>
-    requires { start ≤ end }
-    ensures { result ≡ gap_among least start end need }
-{
-    if end - start < need {
-        return least;
-    }
-    match least {
-        Some(offset) => Some(offset.min(start)),
-        None => Some(start),
-    }
-}
-
-/// Makes room for one hole more than there are extents.
-fn reserve(rooms: &mut Vec<Room>, alloc: Global, extents: usize) -> Result<(), AllocError>
-    requires { extents ≤ vec_len rooms.old }
-    ensures ok { OnOk result (extents < vec_len rooms.new) }
-    ensures err { extents ≤ vec_len rooms.new }
-{
-    if extents < rooms.len() {
-        return Ok(());
-    }
-    rooms.push(Room::new(alloc)?)?;
-    Ok(())
-}
-
-/// The same if a quota is to grow.
-fn reserve_to_grow(
-    rooms: &mut Vec<Room>,
-    alloc: Global,
-    extents: usize,
-    from: u64,
-    to: u64,
-) -> Result<(), AllocError>
-    requires { extents ≤ vec_len rooms.old }
-    ensures ok { OnOk result (from < to → extents < vec_len rooms.new) }
-    ensures rooms { extents ≤ vec_len rooms.new }
-    ensures err { OnErr result (from < to) }
-{
-    if to <= from {
-        return Ok(());
-    }
-    reserve(rooms, alloc, extents)
-}
-
-/// Takes `need` bytes off the front of a hole.
-fn cut(holes: &mut Holes, hole: Hole, need: u64)
-    requires there { has_hole hole.offset holes.old ≡ true }
-    requires fits { need ≤ hole.length }
-    requires small { hole.offset + hole.length < 2 ^ 29 }
-    ensures { holes.new ≡ cut_hole hole need holes.old }
-{
-    let Some(room) = holes.take(hole.offset) else {
-        unreachable!()
-    };
-    if need < hole.length {
-        holes.put(
-            room,
-            Hole {
-                offset: hole.offset + need,
-                length: hole.length - need,
-            },
-        );
-    }
-}
-
-/// The free bytes round an offset that no extent has: where they begin and end.
-fn stretch(extents: &[Extent], offset: u64, quota: u64) -> (u64, u64)
-    requires laid { LaidFrom quota 0 extents.now }
-    requires small { quota < 2 ^ 29 }
-    ensures { result ≡ stretch_lem quota 0 offset extents.now }
-{
-    let place = place_of(extents, offset);
-    let start = end_of_last(0, &extents[..place]);
-    (start, start_of_first(&extents[place..], quota))
-}
-
-/// Takes back the extent at an offset, if there is one: its bytes and the holes on its sides become one
-/// hole. Takes no memory.
-fn free_at(
-    extents: &mut Vec<Extent>,
-    buffers: &mut Vec<Buffer>,
-    holes: &mut Holes,
-    rooms: &mut Vec<Room>,
-    spent: &mut Spent,
-    offset: u64,
-    quota: u64,
-)
-    requires laid { LaidFrom quota 0 extents.old.items }
-    requires small { quota < 2 ^ 29 }
-    requires free { holes.old ≡ gaps quota 0 extents.old.items }
-    requires spare { length extents.old.items ≤ vec_len rooms.old }
-    requires filled { AreFilled extents.old.items buffers.old.items }
-    ensures left { extents.new.items ≡ without_extent offset extents.old.items }
-    ensures filled { AreFilled extents.new.items buffers.new.items }
-    ensures placed { zipped extents.new.items buffers.new.items ≡ remove_entry (nat_eq offset) (zipped extents.old.items buffers.old.items) }
-    ensures room { vec_capacity buffers.new ≡ vec_capacity buffers.old }
-    ensures free { holes.new ≡ gaps quota 0 extents.new.items }
-    ensures spare { vec_len rooms.new + length extents.old.items ≡ vec_len rooms.old + length extents.new.items }
-    ensures capacity { vec_capacity extents.new ≡ vec_capacity extents.old }
-{
-    let Some(extent) = take_out(extents, buffers, spent, offset) else {
-        return;
-    };
-    let (start, end) = stretch(extents, offset, quota);
-    let Some(room) = rooms.pop() else {
-        unreachable!()
-    };
-    mend(holes, room, start, offset + extent.length, end);
-}
-
-/// Takes back these extents, as far as they are there. Takes no memory.
-fn free_all(
-    extents: &mut Vec<Extent>,
-    buffers: &mut Vec<Buffer>,
-    holes: &mut Holes,
-    rooms: &mut Vec<Room>,
-    spent: &mut Spent,
-    gone: &[Extent],
-    quota: u64,
-)
-    requires laid { LaidFrom quota 0 extents.old.items }
-    requires small { quota < 2 ^ 29 }
-    requires free { holes.old ≡ gaps quota 0 extents.old.items }
-    requires spare { length extents.old.items ≤ vec_len rooms.old }
-    requires filled { AreFilled extents.old.items buffers.old.items }
-    ensures left { extents.new.items ≡ kept gone.now extents.old.items }
-    ensures filled { AreFilled extents.new.items buffers.new.items }
-    ensures placed { zipped extents.new.items buffers.new.items ≡ without gone.now (zipped extents.old.items buffers.old.items) }
-    ensures room { vec_capacity buffers.new ≡ vec_capacity buffers.old }
-    ensures free { holes.new ≡ gaps quota 0 extents.new.items }
-    ensures spare { vec_len rooms.new + length extents.old.items ≡ vec_len rooms.old + length extents.new.items }
-    ensures capacity { vec_capacity extents.new ≡ vec_capacity extents.old }
-{
-    for e in gone {
-        free_at(extents, buffers, holes, rooms, spent, e.offset, quota);
-    }
-}
-
-/// Makes one hole of the bytes from `start` to `end`: those before `stop` were no hole, or begin one, and
-/// those from `stop` on too.
-fn mend(holes: &mut Holes, room: Room, start: u64, stop: u64, end: u64)
-    requires { (start ≤ end) × (start < 2 ^ 29) }
-    ensures { holes.new ≡ mend_holes start stop end holes.old }
-{
-    holes.take(start);
-    holes.take(stop);
-    holes.put(
-        room,
-        Hole {
-            offset: start,
-            length: end - start,
-        },
-    );
-}
-
-/// Makes the last hole, which begins at `end`, reach to the quota. Takes no memory.
-fn end_at(holes: &mut Holes, rooms: &mut Vec<Room>, extents: usize, end: u64, quota: u64)
-    requires rooms { extents ≤ vec_len rooms.old }
-    requires spare { end < quota → has_hole end holes.old ≡ false → extents < vec_len rooms.old }
-    requires small { quota < 2 ^ 29 }
-    ensures holes { holes.new ≡ put_then end quota (take_hole end holes.old) }
-    ensures rooms { extents ≤ vec_len rooms.new }
-{
-    let taken = holes.take(end);
-    if quota <= end {
-        return;
-    }
-    let hole = Hole {
-        offset: end,
-        length: quota - end,
-    };
-    if let Some(room) = taken {
-        holes.put(room, hole);
-        return;
-    }
-    let Some(room) = rooms.pop() else {
-        unreachable!()
-    };
-    holes.put(room, hole);
 }

@@ -69,7 +69,7 @@ module _ (store : Shape) (n : ℕ) (room : Room) where
       later before after more is some = grind (arith, nat_tests, is, some)
 
   grows : (p : RoomPlan) (ids : List ObjectId) → IsPlanned room store n p ids → refuses p ≡ false → HasPlace store room p ⊎ HasAskedWrites store room
-  grows Fits ids is may = inl (has_place Fits refl [] is)
+  grows (Fits offset) ids is may = inl (has_place (Fits offset) refl [] is)
   grows Evict ids is may = inl (has_place Evict refl ids is)
   grows (Ask count) ids is may = inr (has_asked ids is)
   grows TellFailedSpill ids is may = false_true may
@@ -77,7 +77,7 @@ module _ (store : Shape) (n : ℕ) (room : Room) where
 
 -- where there is a place nothing is refused
 pub placed_unrefused : (p : RoomPlan) → makes_place p ≡ true → refuses p ≡ false
-placed_unrefused Fits t = refl
+placed_unrefused (Fits offset) t = refl
 placed_unrefused Evict t = refl
 placed_unrefused (Ask count) t = true_false t
 placed_unrefused TellFailedSpill t = true_false t
@@ -98,7 +98,7 @@ place_planned_by row beside contents h n = by (planned_by row.order (shape_of ro
     s = shape_of row beside
 
     by : (p : RoomPlan) → IsPlanned (make_room row.order s n) s n p (listed (plan row.order s n)) → makes_place p ≡ true → (victims : List ObjectId) × MakesPlace (make_room row.order s n) s n victims
-    by Fits is t = ([], is)
+    by (Fits offset) is t = ([], is)
     by Evict is t = (listed (plan row.order s n), is)
     by (Ask count) is t = true_false t
     by TellFailedSpill is t = true_false t

@@ -1,5 +1,6 @@
 mod Changes
 mod CopyTables
+mod Placements
 mod Places
 mod Rising
 mod Received
@@ -56,5 +57,4 @@ mod Notes
 mod Peeking
 mod Granting
 mod FollowsCopies
-mod Placeless
 pub mod ForCallers

@@ -1,18 +1,17 @@
 -- The plan for room in a row's window, from the plan of the rule of room.
-use Rattle.std.proofs.Common.{◌≡◌, ℕ, ◌+◌, ◌<◌, ◌≤◌, Bool, true, false, not, cond, ◌==◌, List, [], ◌∷◌, ◌++◌, fold, length, take, Option, Some, None, option_map, is_some, refl, sym, ap, subst, ◌∙◌, arith}
-use Rattle.std.specs.Prelude.{nat_lt}
+use Rattle.std.proofs.Common.{◌≡◌, ℕ, ◌+◌, ◌<◌, ◌≤◌, Bool, true, false, cond, ◌==◌, List, [], ◌∷◌, ◌++◌, fold, length, take, Option, Some, None, option_map, is_some, refl, sym, ap, subst, ◌∙◌, arith}
+use Rattle.std.specs.Prelude.{nat_lt, unwrap_or}
 use Rattle.std.specs.List.{list_all}
 use Rattle.std.proofs.lemmas.Bool.Decides.{nat_tests}
 use Rattle.std.proofs.lemmas.List.{length-take}
 use Rattle.obj_id.specs.declared.ids.JobNo.{JobNo}
 use Rattle.obj_id.specs.declared.ids.ObjectId.{ObjectId}
-use Rattle.obj_id.specs.declared.refusals.Refusal.{Refusal}
-use Rattle.obj_id.specs.declared.refusals.Refusal.TheVariants.{BadSize, Full, Pending, TooMany, DeviceFailed}
+use Rattle.obj_id.specs.declared.refusals.Refusal.TheVariants.{Pending, TooMany, DeviceFailed}
 use Rattle.obj_id.specs.Ids.{same_id}
 use Rattle.store_facts.proofs.Ids.{same_id-itself}
 use Rattle.private_store.specs.Limits.{has_numbers}
 use Rattle.private_store.specs.Tables.{ById, at, is_among}
-use Rattle.private_store.specs.Extents.{is_size, first}
+use Rattle.private_store.specs.Extents.{first}
 use Rattle.private_store.specs.Shape.{Shape}
 use Rattle.private_store.specs.Copies.{is_evictable, is_passing, is_spillable, device_used}
 use Rattle.private_store.specs.Contents.{Contents}
@@ -22,12 +21,13 @@ use Rattle.store_facts.proofs.KeptLists.{count-take}
 use Rattle.store_facts.proofs.KeptPlan.{AreChosen, fewer_chosen, shortest_chosen}
 use Rattle.store_facts.proofs.VictimsMakeRoom.{victims_make_room}
 use Rattle.store_facts.proofs.Tests.{both, or_left, or_right, true_false}
-use Rattle.job_region.specs.Region.{Region, extents_of, place_for, place_check, without}
+use Rattle.job_region.specs.Region.{Region, extents_of, place_for, without}
 use Rattle.lru_evictor.specs.declared.facts.DeviceRoom.{DeviceRoom}
 use Rattle.lru_evictor.specs.declared.facts.Standing.{Standing}
+use Rattle.lru_evictor.specs.Facts.{Looked, fits_without}
 use Rattle.lru_evictor.specs.Orders.{ids_of}
 use Rattle.lru_evictor.specs.Plans.{IsDescribed, IsOfCopies}
-use Rattle.lru_evictor.proofs.ForCallers.{fits-described}
+use Rattle.lru_evictor.proofs.ForCallers.{offset-described}
 use Rattle.spill_work.specs.Line.{WorkLine, works_of, in_flight, used_by}
 use Rattle.node_table.specs.Kept.{Kept}
 use Rattle.node_table.specs.Row.{Row, Beside, shape_of, place_of, ArePlaced}
@@ -37,7 +37,7 @@ use Rattle.lru_evictor.specs.declared.facts.Plan.{Plan as Kind}
 use Rattle.lru_evictor.specs.declared.facts.Plan.TheVariants as kind
 use Rattle.lru_evictor.specs.Plans.{kind_of, listed}
 use Rattle.node_table.specs.Followed.{AreListed}
-use Rattle.node_table.specs.RoomPlans.{IsPlanned, MakesPlace, by_kind, plan_by, planned_by, facts_of}
+use Rattle.node_table.specs.RoomPlans.{IsPlanned, MakesPlace, by_kind, plan_by, planned_by, place_as_it_is, facts_of}
 use Rattle.node_table.specs.Usages.{total, device_bytes}
 use Rattle.node_table.proofs.Telling.{device_is}
 use Rattle.node_table.specs.declared.room.RoomPlan.{RoomPlan}
@@ -59,7 +59,7 @@ at_once test (x ∷ xs) t = ap (λ b. elim b [ true ↦ Some [] | false ↦ shor
 module _ (order : List ObjectId) (once : IsOrderOfUse order) (store : Shape) (n : ℕ) where
   -- what a plan does is what is to be done
   abbrev IsDone : Plan → Type 0
-  IsDone p = IsPlanned (room_by store n p) store n (plan_by store.works_asked store.spill_failed p) (listed p)
+  IsDone p = IsPlanned (room_by store n p) store n (plan_by store.works_asked store.spill_failed (place_as_it_is store n) p) (listed p)
 
   evicts : (ids : List ObjectId) → victims order store n ≡ Some ids → MakesPlace (room_by store n (evict ids)) store n ids
   evicts ids e =
@@ -118,50 +118,42 @@ module _ (order : List ObjectId) (once : IsOrderOfUse order) (store : Shape) (n 
       by (Some (id ∷ ids)) e = evicts (id ∷ ids) e
 
   -- nothing goes where the bytes fit as it is
-  pub fits_planned : is_some (offset_without store n []) ≡ true → planned_by order store n ≡ Fits
+  pub fits_planned : is_some (offset_without store n []) ≡ true → planned_by order store n ≡ Fits (place_as_it_is store n)
   fits_planned fit =
-      ap (λ v. plan_by store.works_asked store.spill_failed (elim v [ Some [] ↦ fits | Some (id ∷ ids) ↦ evict (id ∷ ids) | None ↦ then_spilled (spilled order store n) ]))
+      ap (λ v. plan_by store.works_asked store.spill_failed (place_as_it_is store n) (elim v [ Some [] ↦ fits | Some (id ∷ ids) ↦ evict (id ∷ ids) | None ↦ then_spilled (spilled order store n) ]))
       (at_once (λ out. is_some (offset_without store n out)) (in_order store order (is_evictable store)) fit)
 
 -- ---- of a row
 
-none_go : (placed : List (ℕ × List ℕ)) → without [] placed ≡ placed
+pub none_go : (placed : List (ℕ × List ℕ)) → without [] placed ≡ placed
 none_go [] = refl
 none_go (p ∷ placed) = ap (λ ps. p ∷ ps) (none_go placed)
 
-passes_check : (window : Region) (n : ℕ) → place_check window n ≡ None → is_some (place_for window n) ≡ true
-passes_check window n = by (is_size window.quota n) (is_some (place_for window n))
-  where
-    by : (size place : Bool) → cond (not size) (Some BadSize) (cond place None (Some Full)) ≡ None → place ≡ true
-    by true true e = refl
-    by true false e = absurd cc
-    by false place e = absurd cc
-
 -- which kind of plan it is that evicts, or asks for so many writes
-pub evicts-kind : (used : ℕ) (failed : Bool) (k : Kind) → by_kind used failed k ≡ Evict → k ≡ kind.Evict
-evicts-kind used failed kind.Fits e = absurd cc
-evicts-kind used failed kind.Evict e = refl
-evicts-kind used failed kind.Wait e = absurd cc
-evicts-kind used failed kind.Full e = absurd cc
-evicts-kind used failed kind.Busy e = absurd cc
-evicts-kind used failed (kind.Spill count) e = by failed (has_numbers used count) e
+pub evicts-kind : (used : ℕ) (failed : Bool) (offset : ℕ) (k : Kind) → by_kind used failed offset k ≡ Evict → k ≡ kind.Evict
+evicts-kind used failed offset kind.Fits e = absurd cc
+evicts-kind used failed offset kind.Evict e = refl
+evicts-kind used failed offset kind.Wait e = absurd cc
+evicts-kind used failed offset kind.Full e = absurd cc
+evicts-kind used failed offset kind.Busy e = absurd cc
+evicts-kind used failed offset (kind.Spill count) e = by failed (has_numbers used count) e
   where
     by : (f fine : Bool) → cond f TellFailedSpill (cond fine (Ask count) (Refuse TooMany)) ≡ Evict → kind.Spill count ≡ kind.Evict
     by true fine e = absurd cc
     by false true e = absurd cc
     by false false e = absurd cc
 
-pub asks-kind : (used : ℕ) (failed : Bool) (k : Kind) (n : ℕ) → by_kind used failed k ≡ Ask n → k ≡ kind.Spill n
-asks-kind used failed kind.Fits n e = absurd cc
-asks-kind used failed kind.Evict n e = absurd cc
-asks-kind used failed kind.Wait n e = absurd cc
-asks-kind used failed kind.Full n e = absurd cc
-asks-kind used failed kind.Busy n e = absurd cc
-asks-kind used failed (kind.Spill count) n e = by failed (has_numbers used count) e
+pub asks-kind : (used : ℕ) (failed : Bool) (offset : ℕ) (k : Kind) (n : ℕ) → by_kind used failed offset k ≡ Ask n → k ≡ kind.Spill n
+asks-kind used failed offset kind.Fits n e = absurd cc
+asks-kind used failed offset kind.Evict n e = absurd cc
+asks-kind used failed offset kind.Wait n e = absurd cc
+asks-kind used failed offset kind.Full n e = absurd cc
+asks-kind used failed offset kind.Busy n e = absurd cc
+asks-kind used failed offset (kind.Spill count) n e = by failed (has_numbers used count) e
   where
     count_of : RoomPlan → ℕ
     count_of (Ask c) = c
-    count_of Fits = count
+    count_of (Fits o) = count
     count_of Evict = count
     count_of TellFailedSpill = count
     count_of (Refuse r) = count
@@ -172,17 +164,17 @@ asks-kind used failed (kind.Spill count) n e = by failed (has_numbers used count
     by false false e = absurd cc
 
 -- and they are no more than there are numbers for
-pub asks-numbers : (used : ℕ) (failed : Bool) (k : Kind) (n : ℕ) → by_kind used failed k ≡ Ask n → has_numbers used n ≡ true
-asks-numbers used failed kind.Fits n e = absurd cc
-asks-numbers used failed kind.Evict n e = absurd cc
-asks-numbers used failed kind.Wait n e = absurd cc
-asks-numbers used failed kind.Full n e = absurd cc
-asks-numbers used failed kind.Busy n e = absurd cc
-asks-numbers used failed (kind.Spill count) n e = by failed (has_numbers used count) refl e
+pub asks-numbers : (used : ℕ) (failed : Bool) (offset : ℕ) (k : Kind) (n : ℕ) → by_kind used failed offset k ≡ Ask n → has_numbers used n ≡ true
+asks-numbers used failed offset kind.Fits n e = absurd cc
+asks-numbers used failed offset kind.Evict n e = absurd cc
+asks-numbers used failed offset kind.Wait n e = absurd cc
+asks-numbers used failed offset kind.Full n e = absurd cc
+asks-numbers used failed offset kind.Busy n e = absurd cc
+asks-numbers used failed offset (kind.Spill count) n e = by failed (has_numbers used count) refl e
   where
     count_of : RoomPlan → ℕ
     count_of (Ask c) = c
-    count_of Fits = count
+    count_of (Fits o) = count
     count_of Evict = count
     count_of TellFailedSpill = count
     count_of (Refuse r) = count
@@ -191,6 +183,36 @@ asks-numbers used failed (kind.Spill count) n e = by failed (has_numbers used co
     by true fine is e = absurd cc
     by false true is e = ap (λ p. has_numbers used (count_of p)) (sym e) ∙ is
     by false false is e = absurd cc
+
+-- it is the plan of an object that fits alone that places it as it is
+pub fits-kind : (used : ℕ) (failed : Bool) (offset : ℕ) (k : Kind) (o : ℕ) → by_kind used failed offset k ≡ Fits o → k ≡ kind.Fits
+fits-kind used failed offset kind.Fits o e = refl
+fits-kind used failed offset kind.Evict o e = absurd cc
+fits-kind used failed offset kind.Wait o e = absurd cc
+fits-kind used failed offset kind.Full o e = absurd cc
+fits-kind used failed offset kind.Busy o e = absurd cc
+fits-kind used failed offset (kind.Spill count) o e = by failed (has_numbers used count) e
+  where
+    by : (f fine : Bool) → cond f TellFailedSpill (cond fine (Ask count) (Refuse TooMany)) ≡ Fits o → kind.Spill count ≡ kind.Fits
+    by true fine e = absurd cc
+    by false true e = absurd cc
+    by false false e = absurd cc
+
+-- which an object without a place doesn't have
+pub fits-nowhere : (window : Region) (facts : Looked) (n : ℕ) (place : Option ℕ) → place ≡ place_for window n → place ≡ None → fits_without window facts n [] ≡ true → ⊥
+fits-nowhere window facts n place is none there =
+    true_false (sym (ap (λ ps. is_some (first (extents_of ps) window.quota n)) (none_go window.placed) ∙ ap is_some (sym is ∙ none)) ∙ there)
+
+-- where it fits as it is
+pub fits-at : (o p : ℕ) → Fits o ≡ Fits p → o ≡ p
+fits-at o p e = ap place_of_plan e
+  where
+    place_of_plan : RoomPlan → ℕ
+    place_of_plan (Fits x) = x
+    place_of_plan Evict = o
+    place_of_plan (Ask c) = o
+    place_of_plan TellFailedSpill = o
+    place_of_plan (Refuse r) = o
 
 -- what room does is what is planned for it
 pub planned : (row : Row) (beside : Beside) (contents : Contents) → IsShown row beside contents → (n : ℕ)
@@ -235,17 +257,17 @@ module _ (row : Row) (beside : Beside) (contents : Contents) (h : IsShown row be
   described_as window here copies same =
       subst (λ w. IsDescribed s w device_here (facts_at copies)) (sym here) (subst (λ t. IsDescribed s row.window device_here (facts_at t)) (sym same) (described row beside contents h placed device_here refl refl refl))
 
-  pub place_planned : place_check row.window n ≡ None → planned_by row.order s n ≡ Fits
-  place_planned none =
-      fits_planned row.order h.kept.order s n
-      (sym (fits-described s row.window device_here (facts_at row.copies) (described row beside contents h placed device_here refl refl refl) n [])
-      ∙ ap (λ ps. is_some (first (extents_of ps) row.window.quota n)) (none_go row.window.placed)
-      ∙ passes_check row.window n none)
+  pub place_planned : (o : ℕ) → place_for row.window n ≡ Some o → planned_by row.order s n ≡ Fits o
+  place_planned o found =
+      let there : offset_without s n [] ≡ Some o =
+      sym (offset-described s row.window device_here (facts_at row.copies) (described row beside contents h placed device_here refl refl refl) n [])
+      ∙ ap (λ ps. first (extents_of ps) row.window.quota n) (none_go row.window.placed) ∙ found in
+      fits_planned row.order h.kept.order s n (ap is_some there) ∙ ap (λ (p : Option ℕ). Fits (unwrap_or p 0)) there
 
   -- ---- the exits of the plan
 
-  pub place_exit : (window : Region) → window ≡ row.window → (check : Option Refusal) → check ≡ place_check window n → check ≡ None → planned_by row.order s n ≡ Fits
-  place_exit window here check is none = place_planned (ap (λ w. place_check w n) (sym here) ∙ sym is ∙ none)
+  pub place_exit : (window : Region) → window ≡ row.window → (o : ℕ) → place_for window n ≡ Some o → planned_by row.order s n ≡ Fits o
+  place_exit window here o found = place_planned o (ap (λ w. place_for w n) (sym here) ∙ found)
 
   module _ (job : JobNo) (own : job ≡ record { 0 = row.job }) where
     module _ (window : Region) (here : window ≡ row.window) (copies : ById Kept) (same : copies ≡ row.copies) (quota used works : ℕ)
@@ -260,6 +282,6 @@ module _ (row : Row) (beside : Beside) (contents : Contents) (h : IsShown row be
           (walked ∙ ap (total device_bytes) same ∙ device_is row beside contents h) (counted ∙ ap (in_flight line) own ∙ ap length (sym works_are))))
 
       pub plan_exit : (p : Kind) → ((store : Shape) → IsDescribed store window device (facts_at copies) → p ≡ kind_of (plan row.order store n))
-          → (asked : ℕ) → asked ≡ used_by line job → (failed : Bool) → failed ≡ row.spill_failed → (told : RoomPlan) → told ≡ by_kind asked failed p → told ≡ planned_by row.order s n
+          → (asked : ℕ) → asked ≡ used_by line job → (failed : Bool) → failed ≡ row.spill_failed → (told : RoomPlan) → ((offset : ℕ) → told ≡ by_kind asked failed offset p) → told ≡ planned_by row.order s n
       plan_exit p is_plan asked is_asked failed is_failed told is =
-          is ∙ (λ i. by_kind ((is_asked ∙ ap (used_by line) own ∙ sym used_is) i) (is_failed i) (is_plan s as_described i))
+          is (place_as_it_is s n) ∙ (λ i. by_kind ((is_asked ∙ ap (used_by line) own ∙ sym used_is) i) (is_failed i) (place_as_it_is s n) (is_plan s as_described i))

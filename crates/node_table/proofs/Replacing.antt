@@ -40,7 +40,7 @@ level m n t = grind (arith, nat_tests, t)
 -- ---- the extents that go
 
 module _ (es : ById Kept) where
-  abbrev gone : List ObjectId → List Extent
+  abbrev pub gone : List ObjectId → List Extent
   gone victims = gone_of (λ id. option_map facts_of (at es id)) victims
 
   extent_is : (v : ObjectId) → option_and_then (λ f. f.extent) (option_map facts_of (at es v)) ≡ place_of es v

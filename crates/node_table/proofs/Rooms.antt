@@ -45,7 +45,7 @@ use Rattle.lru_evictor.specs.Orders.{AreThere}
 use Rattle.lru_evictor.specs.declared.facts.DeviceRoom.{DeviceRoom}
 use Rattle.lru_evictor.proofs.ForCallers.{offset-described, reordered-unused}
 use Rattle.node_table.specs.Entries.{changed}
-use Rattle.node_table.specs.Evicting.{has_secondary, evicted_one, all_evicted, removals, placed_without, has_place, MayGo, replaced}
+use Rattle.node_table.specs.Evicting.{has_secondary, evicted_one, all_evicted, removals, placed_without, MayGo, replaced}
 use Rattle.node_table.specs.Kept.{Kept, unplaced, is_sealed_at}
 use Rattle.node_table.specs.MadeRooms.{BringsNothing, TellsRoom}
 use Rattle.node_table.specs.RoomPlans.{MakesPlace, facts_of, is_idle as is_idle_here}
@@ -227,9 +227,9 @@ module _ (row : Row) (beside : Beside) (contents : Contents) (h : IsShown row be
     pub same_place : first (extents_of (placed_without row victims)) row.window.quota n ≡ offset_without st n victims
     same_place = offset-described st row.window device (facts_at row.copies) (described row beside contents h placed device refl refl refl) n victims
 
-    -- an object of a size has a place there
-    pub place_there : 0 < n → n ≤ longest_object → has_place row n victims ≡ true
-    place_there some small = both (is_size row.window.quota n) _ (size_is (first (extents_of (placed_without row victims)) row.window.quota n) refl there) there
+    -- what has a place there isn't wider than the window
+    pub size_there : 0 < n → n ≤ longest_object → is_size row.window.quota n ≡ true
+    size_there some small = size_is (first (extents_of (placed_without row victims)) row.window.quota n) refl there
       where
         there : is_some (first (extents_of (placed_without row victims)) row.window.quota n) ≡ true
         there = ap is_some same_place ∙ makes.place

@@ -1,6 +1,7 @@
 -- A row in which copies were evicted, and one took a place.
-use Rattle.std.specs.Prelude.{◌≡◌, ℕ, ◌+◌, ◌^◌, ◌<◌, ◌≤◌, nat_eq, Bool, true, false, not, ◌&&◌, if◌then◌else◌, List, length, ◌++◌, replicate, filter, flat_map, fold, Option, Some, None, is_none, is_some, option_to_list}
+use Rattle.std.specs.Prelude.{◌≡◌, ℕ, ◌+◌, ◌^◌, ◌<◌, ◌≤◌, nat_eq, Bool, true, false, not, ◌&&◌, if◌then◌else◌, List, length, ◌++◌, replicate, filter, flat_map, fold, Option, Some, None, is_none, option_to_list}
 use Rattle.std.specs.List.{list_all}
+use Rattle.std.specs.List.Sorted.{IsNonDecreasingBy}
 use Rattle.std.specs.Option.{option_map, option_map_or}
 use Rattle.std.specs.Map.{lookup}
 use Rattle.obj_id.specs.declared.ids.ObjectId.{ObjectId}
@@ -8,7 +9,7 @@ use Rattle.obj_id.specs.declared.works.Extent.{Extent}
 use Rattle.obj_id.specs.declared.messages.DirectoryMessage.TheVariants.{RemoveLocation}
 use Rattle.obj_id.specs.Kinds.{is_primary}
 use Rattle.private_store.specs.Tables.{ById, at, with_entry, without_entry, is_among}
-use Rattle.private_store.specs.Extents.{rounded, first, is_size}
+use Rattle.private_store.specs.Extents.{rounded, first}
 use Rattle.private_store.specs.Private.{Post, to_directory}
 use Rattle.private_store.specs.Step.{is_used}
 use Rattle.job_region.specs.Region.{put_in, without, extents_of}
@@ -17,6 +18,7 @@ use Rattle.node_table.specs.Entries.{changed}
 use Rattle.node_table.specs.Kept.{Kept, unplaced, is_sealed_at}
 use Rattle.node_table.specs.RoomPlans.{facts_of}
 use Rattle.node_table.specs.Row.{Row}
+use Rattle.node_table.specs.declared.room.Placement.{Placement}
 
 -- ---- copies
 
@@ -55,9 +57,11 @@ extents_gone row victims = gone_of (λ id. option_map facts_of (at row.copies id
 abbrev pub placed_without : Row → List ObjectId → List (ℕ × List ℕ)
 placed_without row victims = without (extents_gone row victims) row.window.placed
 
--- whether an object of n bytes has a place once these copies are evicted
-abbrev pub has_place : Row → ℕ → List ObjectId → Bool
-has_place row n victims = is_size row.window.quota n && is_some (first (extents_of (placed_without row victims)) row.window.quota n)
+-- the copies of a placement have these extents, and without them an object of n bytes goes there
+pub record IsPlacement (row : Row) (n : ℕ) (p : Placement) : Type 0 where
+  pub gone : without p.gone.items row.window.placed ≡ placed_without row p.victims
+  pub rising : IsNonDecreasingBy (λ (e : Extent). e.offset) p.gone.items
+  pub first : first (extents_of (placed_without row p.victims)) row.window.quota n ≡ Some p.offset
 
 -- these ids are of sealed copies, and no more than there are
 pub record MayGo (copies : ById Kept) (victims : List ObjectId) : Type 0 where

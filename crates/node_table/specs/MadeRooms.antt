@@ -12,7 +12,7 @@ use Rattle.private_store.specs.Room.{make_room}
 use Rattle.private_store.specs.Change.{erasing, in_room}
 use Rattle.private_store.specs.Step.{step}
 use Rattle.spill_work.specs.Line.{WorkLine}
-use Rattle.node_table.specs.Evicting.{MayGo}
+use Rattle.node_table.specs.Evicting.{MayGo, IsPlacement}
 use Rattle.node_table.specs.Row.{Row, Beside, beside_of, shape_of}
 use Rattle.node_table.specs.RoomPlans.{MakesPlace, planned_by, refuses}
 use Rattle.node_table.specs.Shown.{seen, only, IsShown, TakesStep}
@@ -34,13 +34,13 @@ pub record TellsRoom (old : Row) (before : Beside) (contents : Contents) (n : �
 
 -- what was made is what room for n bytes does
 abbrev pub IsMade : MadeRoom → Row → Beside → Contents → ℕ → Row → Beside → Type 0
-IsMade (Place victims) old before contents n new after = MakesPlace (make_room old.order (shape_of old before) n) (shape_of old before) n victims
+IsMade (Place placement) old before contents n new after = MakesPlace (make_room old.order (shape_of old before) n) (shape_of old before) n placement.victims
 IsMade (Told refusal) old before contents n new after = TellsRoom old before contents n refusal new after
 
 -- where there is a place once copies are evicted these may go, and nothing has changed yet
-abbrev pub WaitsForPlace : MadeRoom → Row → WorkLine → Row → WorkLine → Type 0
-WaitsForPlace (Place victims) old before new after = (new ≡ old) × (after ≡ before) × MayGo old.copies victims
-WaitsForPlace (Told refusal) old before new after = Unit {0}
+abbrev pub WaitsForPlace : MadeRoom → Row → WorkLine → ℕ → Row → WorkLine → Type 0
+WaitsForPlace (Place placement) old before n new after = (new ≡ old) × (after ≡ before) × MayGo old.copies placement.victims × IsPlacement old n placement
+WaitsForPlace (Told refusal) old before n new after = Unit {0}
 
 -- the plan for room for n bytes in this row, beside this line of works, is no refusal
 abbrev pub IsPlannedFor : Row → WorkLine → ℕ → Type 0
@@ -50,5 +50,5 @@ IsPlannedFor row line n =
 
 -- whether there is none
 abbrev pub is_told : MadeRoom → Bool
-is_told (Place victims) = false
+is_told (Place placement) = false
 is_told (Told refusal) = true

@@ -1,5 +1,5 @@
 -- What is to be done for room in a row's window, and what a plan reads of the copies that a row keeps.
-use Rattle.std.specs.Prelude.{◌≡◌, ℕ, ◌<◌, ◌≤◌, Bool, true, false, not, ◌&&◌, if◌then◌else◌, List, [], length, fold, is_some, is_none}
+use Rattle.std.specs.Prelude.{◌≡◌, ℕ, ◌<◌, ◌≤◌, Bool, true, false, not, ◌&&◌, if◌then◌else◌, List, [], length, fold, is_some, is_none, unwrap_or}
 use Rattle.std.specs.List.{list_all}
 use Rattle.std.specs.Option.{option_map_or}
 use Rattle.obj_id.specs.declared.ids.ObjectId.{ObjectId}
@@ -37,26 +37,31 @@ facts_of kept =
 
 -- ---- what is to be done
 
--- what a kind of plan is to a job whose works had numbers up to this one, and of which a spill failed or not
-abbrev pub by_kind : ℕ → Bool → Kind → RoomPlan
-by_kind used failed kind.Fits = Fits
-by_kind used failed kind.Evict = Evict
-by_kind used failed kind.Wait = Refuse Pending
-by_kind used failed kind.Full = Refuse Full
-by_kind used failed kind.Busy = Refuse Busy
-by_kind used failed (kind.Spill count) = if failed then TellFailedSpill else (if has_numbers used count then Ask count else Refuse TooMany)
+-- what a kind of plan is to a job whose works had numbers up to this one, of which a spill failed or not, if the object goes to this
+-- offset as it is
+abbrev pub by_kind : ℕ → Bool → ℕ → Kind → RoomPlan
+by_kind used failed offset kind.Fits = Fits offset
+by_kind used failed offset kind.Evict = Evict
+by_kind used failed offset kind.Wait = Refuse Pending
+by_kind used failed offset kind.Full = Refuse Full
+by_kind used failed offset kind.Busy = Refuse Busy
+by_kind used failed offset (kind.Spill count) = if failed then TellFailedSpill else (if has_numbers used count then Ask count else Refuse TooMany)
 
 -- and a plan
-abbrev pub plan_by : ℕ → Bool → Plan → RoomPlan
-plan_by used failed plan = by_kind used failed (kind_of plan)
+abbrev pub plan_by : ℕ → Bool → ℕ → Plan → RoomPlan
+plan_by used failed offset plan = by_kind used failed offset (kind_of plan)
+
+-- where n bytes go in this store as it is, or 0 if they go nowhere
+abbrev pub place_as_it_is : Shape → ℕ → ℕ
+place_as_it_is store n = unwrap_or (offset_without store n []) 0
 
 -- what is to be done for room for n bytes in this store
 abbrev pub planned_by : List ObjectId → Shape → ℕ → RoomPlan
-planned_by order store n = plan_by store.works_asked store.spill_failed (plan order store n)
+planned_by order store n = plan_by store.works_asked store.spill_failed (place_as_it_is store n) (plan order store n)
 
 -- whether it is that a refusal is told, and nothing grows
 abbrev pub refuses : RoomPlan → Bool
-refuses Fits = false
+refuses (Fits offset) = false
 refuses Evict = false
 refuses (Ask count) = false
 refuses TellFailedSpill = true
@@ -64,7 +69,7 @@ refuses (Refuse refusal) = true
 
 -- whether it is that there is a place, at once or once copies were evicted
 abbrev pub makes_place : RoomPlan → Bool
-makes_place Fits = true
+makes_place (Fits offset) = true
 makes_place Evict = true
 makes_place _ = false
 
@@ -90,7 +95,7 @@ pub record AsksWrites (room : Room) (store : Shape) (ids : List ObjectId) : Type
 
 -- what room for n bytes does is what is to be done, with these copies where the plan names some
 abbrev pub IsPlanned : Room → Shape → ℕ → RoomPlan → List ObjectId → Type 0
-IsPlanned room store n Fits ids = MakesPlace room store n []
+IsPlanned room store n (Fits offset) ids = MakesPlace room store n []
 IsPlanned room store n Evict ids = MakesPlace room store n ids
 IsPlanned room store n (Ask count) ids = AsksWrites room store ids
 IsPlanned room store n TellFailedSpill ids = room ≡ no_room (record store { spill_failed = false }) DeviceFailed

@@ -15,7 +15,7 @@ ghost use Rattle.node_table.specs.Outcomes.{given_of};
 ghost use Rattle.std.specs.Option.{option_map_or};
 ghost use Rattle.std.specs.Prelude.{unwrap_or};
 ghost use Rattle.obj_id.specs.declared.messages.PeerMessage.TheVariants.{Pull};
-ghost use Rattle.node_table.specs.Evicting.{MayGo};
+ghost use Rattle.node_table.specs.Evicting.{IsPlacement, MayGo};
 ghost use Rattle.private_store.specs.Commands.{counted, chunk_count};
 ghost use Rattle.private_store.specs.Contents.{no_digest};
 ghost use Rattle.private_store.specs.Private.{to_peer};
@@ -31,10 +31,10 @@ use crate::copy::{Awaited, RowCopy};
 use crate::create_command::removals;
 use crate::get_command::{pending, told};
 use crate::outcome::Outcome;
-use crate::room::MadeRoom;
+use crate::room::{MadeRoom, Placement};
 use crate::row::JobRow;
 use fetch_core::{Stage, all_chunks};
-use obj_id::{Items, Message, ObjectId, PeerMessage, Place, Refusal};
+use obj_id::{Items, Message, ObjectId, PeerMessage, Place};
 use spill_work::Works;
 use std::alloc::{AllocError, Global};
 
@@ -69,40 +69,38 @@ impl JobRow {
         let _place = copy.offset();
         let len = copy.length();
         match self.room_for(alloc, works, id.job(), len)? {
-            MadeRoom::Place(victims) => {
-                self.pull_in_place(alloc, node, id, len, victims.as_slice())
-            }
+            MadeRoom::Place(placement) => self.pull_in_place(alloc, node, id, len, &placement),
             MadeRoom::Told(refusal) => told(alloc, refusal),
         }
     }
 
-    /// The place is taken where the victims were, which the directory is told of, and the bytes are asked for.
+    /// The place is taken, the directory is told of the victims, and the bytes are asked for.
     fn pull_in_place(
         &mut self,
         alloc: Global,
         node: u32,
         id: &ObjectId,
         len: u32,
-        victims: &[ObjectId],
+        placement: &Placement,
     ) -> Result<Outcome, AllocError>
         requires alive { is_remembered self.old.ended_tasks id.now.task ≡ false }
         requires visible { visible_state (at self.old.copies id.now) ≡ Ok (Some Fetching) }
         requires sized { can_pull_at self.old id.now ≡ true }
         requires waits { option_map_or (waits_for_place len) (at self.old.copies id.now) false ≡ true }
-        requires may_go { MayGo self.old.copies victims.now }
+        requires may_go { MayGo self.old.copies placement.now.victims }
+        requires place { IsPlacement self.old len placement.now }
         ensures ok { IfOk result (λ o. (session : ℕ) (beside : Beside) (contents : Contents) → (id.now.job.0 == self.old.job) ≡ true → IsShown self.old beside contents
-            → MakesPlace (make_room self.old.order (shape_of self.old beside) len) (shape_of self.old beside) len victims.now
+            → MakesPlace (make_room self.old.order (shape_of self.old beside) len) (shape_of self.old beside) len placement.now.victims
             → TakesStep node self.old beside contents (input.Call session (command.Get id.now)) (given_of o) self.new beside) }
         ensures few { IfOk result (λ o. length o.messages ≤ length self.old.copies + 1) }
         ensures err { OnErr result (self.new ≡ self.old) }
     {
+        let victims = placement.victims.as_slice();
         let mut messages = removals(alloc, node, self.copies(), victims)?;
         messages.push(self.question(alloc, id)?)?;
         let missing = all_chunks(alloc, len)?;
         let awaited = Awaited::Chunks(missing);
-        let Some(_extent) = self.place_copy(alloc, id, len, victims, awaited)? else {
-            return told(alloc, Refusal::Full);
-        };
+        self.place_copy(alloc, id, len, placement, awaited)?;
         Ok(pending(messages))
     }
 

@@ -1,7 +1,7 @@
 //! One copy of a row.
 ghost use Rattle.std.specs.Prelude.{◌≡◌, ◌≢◌, ◌&&◌, ◌==◌, if◌then◌else◌, true, false, Some, None, IfOk, IfErr, IfSome, IfNone, OnOk, OnErr, IsErrOf, IsOk, is_some, option_map};
 ghost use Rattle.std.specs.List.{list_all};
-ghost use Rattle.std.specs.Option.{option_copied, option_map_or};
+ghost use Rattle.std.specs.Option.{option_and_then, option_copied, option_map_or};
 ghost use Rattle.obj_id.specs.declared.refusals.Refusal.{Refusal};
 ghost use Rattle.obj_id.specs.declared.refusals.Refusal.TheVariants.{NoMemory};
 ghost use Rattle.obj_id.specs.Ids.{same_task};
@@ -641,4 +641,11 @@ fn are_all(indexes: &[u32], index: u32) -> bool
     ensures { result ≡ list_all (λ i. i == index) indexes.now }
 {
     indexes.iter().all(|i| *i == index)
+}
+
+/// Where the copy lies in the window, if there is one and it is resident.
+pub(crate) fn extent_of_any(copy: Option<&RowCopy>) -> Option<Extent>
+    ensures { result ≡ option_and_then (λ k. extent_of k.copy) (option_copied copy.entry) }
+{
+    copy?.extent()
 }

@@ -9,7 +9,7 @@ ghost use Rattle.private_store.specs.Hands.{Hand};
 ghost use Rattle.spill_work.specs.Line.{same_job, IsSameFor};
 ghost use Rattle.node_table.specs.Asked.{HasAsked};
 ghost use Rattle.node_table.specs.Checks.{create_check as create_check_lem};
-ghost use Rattle.node_table.specs.Evicting.{MayGo, removals as removals_lem};
+ghost use Rattle.node_table.specs.Evicting.{IsPlacement, MayGo, removals as removals_lem};
 ghost use Rattle.node_table.specs.Late.{IsDueMore};
 ghost use Rattle.node_table.specs.Outcomes.{given_of};
 ghost use Rattle.node_table.specs.RoomPlans.{MakesPlace};
@@ -19,9 +19,9 @@ ghost use Rattle.node_table.specs.Shown.{IsShown, TakesStep};
 use crate::copies::Copies;
 use crate::get_command::told;
 use crate::outcome::{Erase, Outcome};
-use crate::room::MadeRoom;
+use crate::room::{MadeRoom, Placement};
 use crate::row::JobRow;
-use obj_id::{DirectoryMessage, Items, Kind, Message, ObjectId, Place, Refusal, Reply};
+use obj_id::{DirectoryMessage, Items, Kind, Message, ObjectId, Place, Reply};
 use spill_work::Works;
 use std::alloc::{AllocError, Global};
 
@@ -55,14 +55,14 @@ impl JobRow {
             return told(alloc, refusal);
         }
         match self.room_for(alloc, works, id.job(), len)? {
-            MadeRoom::Place(victims) => {
-                self.create_in_place(alloc, node, id, kind, len, victims.as_slice())
+            MadeRoom::Place(placement) => {
+                self.create_in_place(alloc, node, id, kind, len, &placement)
             }
             MadeRoom::Told(refusal) => told(alloc, refusal),
         }
     }
 
-    /// The new copy where the victims were, which the directory is told of.
+    /// The new copy in its place. The directory is told of the victims.
     fn create_in_place(
         &mut self,
         alloc: Global,
@@ -70,20 +70,20 @@ impl JobRow {
         id: &ObjectId,
         kind: Kind,
         len: u32,
-        victims: &[ObjectId],
+        placement: &Placement,
     ) -> Result<Outcome, AllocError>
         requires checked { create_check_lem self.old id.now len ≡ None }
-        requires may_go { MayGo self.old.copies victims.now }
+        requires may_go { MayGo self.old.copies placement.now.victims }
+        requires place { IsPlacement self.old len placement.now }
         ensures ok { IfOk result (λ o. (session : ℕ) (beside : Beside) (contents : Contents) → (id.now.job.0 == self.old.job) ≡ true → IsShown self.old beside contents
-            → MakesPlace (make_room self.old.order (shape_of self.old beside) len) (shape_of self.old beside) len victims.now
+            → MakesPlace (make_room self.old.order (shape_of self.old beside) len) (shape_of self.old beside) len placement.now.victims
             → TakesStep node self.old beside contents (input.Call session (command.Create id.now kind len)) (given_of o) self.new beside) }
         ensures few { IfOk result (λ o. length o.messages ≤ length self.old.copies) }
         ensures err { OnErr result (self.new ≡ self.old) }
     {
+        let victims = placement.victims.as_slice();
         let messages = removals(alloc, node, self.copies(), victims)?;
-        let Some(extent) = self.replace_copies(alloc, id, kind, len, victims)? else {
-            return told(alloc, Refusal::Full);
-        };
+        let extent = self.replace_copies(alloc, id, kind, len, placement)?;
         Ok(Outcome {
             reply: Reply::Placed(extent.offset as u32, extent.length as u32),
             messages,

@@ -1,5 +1,5 @@
 //! Bytes of a copy that are lent, and may be shared.
-ghost use Rattle.std.specs.Prelude.{◌≡◌, take, drop, [], None, IfOk, IfSome};
+ghost use Rattle.std.specs.Prelude.{◌≡◌, take, drop, [], None, IfOk, IfSome, option_map};
 
 use bytes::Bytes;
 use std::alloc::{AllocError, Global};
@@ -64,4 +64,18 @@ fn part_of(bytes: &[u8], offset: u32, len: u32) -> &[u8]
     let start = (offset as usize).min(bytes.len());
     let left = &bytes[start..];
     &left[..(len as usize).min(left.len())]
+}
+
+/// The first `len` of bytes that are shared, or all of them if there are fewer.
+pub(crate) fn first_shared(shared: Option<Bytes>, len: u32) -> Option<Bytes>
+    ensures { result ≡ option_map (take len) shared }
+{
+    Some(shared_part(shared?, 0, len))
+}
+
+/// The first `len` bytes, or all of them if there are fewer.
+pub(crate) fn first_bytes(bytes: &[u8], len: u32) -> &[u8]
+    ensures { result.now ≡ take len bytes.now }
+{
+    part_of(bytes, 0, len)
 }

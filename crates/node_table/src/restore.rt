@@ -14,11 +14,12 @@ ghost use Rattle.std.specs.Map.{lookup};
 ghost use Rattle.std.specs.Option.{option_map_or};
 ghost use Rattle.private_store.specs.Limits.{most_works, has_numbers};
 ghost use Rattle.private_store.specs.Room.{make_room};
-ghost use Rattle.node_table.specs.Evicting.{MayGo};
+ghost use Rattle.node_table.specs.Evicting.{IsPlacement, MayGo};
 ghost use Rattle.node_table.specs.Kept.{waits_for_place};
 ghost use Rattle.node_table.specs.Late.{IsDueMore};
 ghost use Rattle.node_table.specs.RoomPlans.{MakesPlace, planned_by, refuses, makes_place};
-ghost use Rattle.node_table.specs.declared.room.RoomPlan.TheVariants.{Ask};
+ghost use Rattle.node_table.specs.declared.room.RoomPlan.TheVariants.{Fits, Ask};
+ghost use Rattle.job_region.specs.Region.{place_for};
 ghost use Rattle.node_table.specs.Asked.{HasAsked};
 ghost use Rattle.node_table.specs.Checks.{fault_at, visible_state};
 ghost use Rattle.node_table.specs.Outcomes.{given_of};
@@ -29,7 +30,7 @@ use crate::copy::Awaited;
 use crate::create_command::removals;
 use crate::get_command::{pending, told};
 use crate::outcome::Outcome;
-use crate::room::{MadeRoom, RoomPlan};
+use crate::room::{MadeRoom, Placement, RoomPlan};
 use crate::row::JobRow;
 use obj_id::limits::MOST_WORKS;
 use obj_id::{JobNo, ObjectId, Refusal, WorkKind};
@@ -94,6 +95,7 @@ impl JobRow {
         requires sound { fault_at self.old.copies id.now ≡ None }
         requires idle { in_flight works.old job < most_works }
         requires waits { option_map_or (waits_for_place len) (at self.old.copies id.now) false ≡ true }
+        requires fits { (offset : ℕ) → plan ≡ Fits offset → place_for self.old.window len ≡ Some offset }
         requires asks { (count : ℕ) → plan ≡ Ask count → room_for works.old job count ≡ true }
         requires numbered { makes_place plan ≡ true → has_numbers (used_by works.old job) 1 ≡ true }
         requires fresh { used_by works.old job ≡ 0 → lookup (same_job job) works.old.used ≡ None }
@@ -109,15 +111,14 @@ impl JobRow {
         ensures works { OnErr result (works.new ≡ works.old) }
     {
         match self.room_by(alloc, works, job, len, plan)? {
-            MadeRoom::Place(victims) => {
-                self.restore_in_place(alloc, node, works, job, id, len, victims.as_slice())
+            MadeRoom::Place(placement) => {
+                self.restore_in_place(alloc, node, works, job, id, len, &placement)
             }
             MadeRoom::Told(refusal) => told(alloc, refusal),
         }
     }
 
-    /// The place is taken where the victims were, which the directory is told of, and the read is asked for. The answer is `Full` if
-    /// there is none.
+    /// The place is taken, the directory is told of the victims, and the read is asked for.
     fn restore_in_place(
         &mut self,
         alloc: Global,
@@ -126,18 +127,19 @@ impl JobRow {
         job: JobNo,
         id: &ObjectId,
         len: u32,
-        victims: &[ObjectId],
+        placement: &Placement,
     ) -> Result<Outcome, AllocError>
         requires visible { visible_state (at self.old.copies id.now) ≡ Ok (Some Away) }
         requires sound { fault_at self.old.copies id.now ≡ None }
         requires idle { in_flight works.old job < most_works }
         requires waits { option_map_or (waits_for_place len) (at self.old.copies id.now) false ≡ true }
-        requires may_go { MayGo self.old.copies victims.now }
+        requires may_go { MayGo self.old.copies placement.now.victims }
+        requires place { IsPlacement self.old len placement.now }
         requires numbered { has_numbers (used_by works.old job) 1 ≡ true }
         requires fresh { used_by works.old job ≡ 0 → lookup (same_job job) works.old.used ≡ None }
         ensures ok { IfOk result (λ o. (session : ℕ) (hands : List Hand) (bytes : ObjectId → List ℕ) (contents : Contents) → job ≡ record { 0 = self.old.job } → (id.now.job.0 == self.old.job) ≡ true
             → is_remembered self.old.ended_tasks id.now.task ≡ false → IsShown self.old (beside_of works.old hands bytes self.old.job) contents
-            → MakesPlace (make_room self.old.order (shape_of self.old (beside_of works.old hands bytes self.old.job)) len) (shape_of self.old (beside_of works.old hands bytes self.old.job)) len victims.now
+            → MakesPlace (make_room self.old.order (shape_of self.old (beside_of works.old hands bytes self.old.job)) len) (shape_of self.old (beside_of works.old hands bytes self.old.job)) len placement.now.victims
             → TakesStep node self.old (beside_of works.old hands bytes self.old.job) contents (input.Call session (command.Get id.now)) (given_of o) self.new (beside_of works.new hands bytes self.old.job)) }
         ensures few { IfOk result (λ o. length o.messages ≤ length self.old.copies + 1) }
         ensures line { OnOk result (HasAsked works.old job works.new) }
@@ -145,14 +147,15 @@ impl JobRow {
         ensures err { OnErr result (self.new ≡ self.old) }
         ensures works { OnErr result (works.new ≡ works.old) }
     {
+        let victims = placement.victims.as_slice();
         let messages = removals(alloc, node, self.copies(), victims)?;
+        // a copy that is away has some bytes, and the plan found a place for them
+        if !self.window().may_have(len) {
+            return told(alloc, Refusal::Full);
+        }
         let number = ask_read(works, job, *id)?;
-        match self.place_copy(alloc, id, len, victims, Awaited::Device) {
-            Ok(Some(_)) => Ok(pending(messages)),
-            Ok(None) => {
-                works.take_back(job, number);
-                told(alloc, Refusal::Full)
-            }
+        match self.place_copy(alloc, id, len, placement, Awaited::Device) {
+            Ok(_) => Ok(pending(messages)),
             Err(error) => {
                 works.take_back(job, number);
                 Err(error)

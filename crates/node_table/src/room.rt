@@ -1,5 +1,5 @@
 //! How room is made in a row's window.
-ghost use Rattle.std.specs.Prelude.{◌≡◌, ℕ, ◌≤◌, List, true, false, length, IfOk, OnOk, OnErr};
+ghost use Rattle.std.specs.Prelude.{◌≡◌, ◌≢◌, ℕ, ◌≤◌, List, Some, true, false, length, IfOk, OnOk, OnErr};
 ghost use Rattle.obj_id.specs.declared.ids.JobNo.{JobNo};
 ghost use Rattle.spill_work.specs.Line.{same_job, IsSameFor, room_for as room_for_lem};
 ghost use Rattle.node_table.specs.Asked.{HasAsked};
@@ -9,25 +9,27 @@ ghost use Rattle.obj_id.specs.declared.ids.ObjectId.{ObjectId};
 ghost use Rattle.private_store.specs.Room.{make_room, plan};
 ghost use Rattle.private_store.specs.Hands.{Hand};
 ghost use Rattle.private_store.specs.Contents.{Contents};
-ghost use Rattle.node_table.specs.Row.{beside_of, shape_of};
+ghost use Rattle.node_table.specs.Row.{Beside, beside_of, shape_of};
 ghost use Rattle.node_table.specs.Shown.{IsShown};
-ghost use Rattle.node_table.specs.RoomPlans.{AsksWrites, by_kind, planned_by, refuses, makes_place as makes_place_lem};
+ghost use Rattle.node_table.specs.RoomPlans.{AsksWrites, MakesPlace, by_kind, planned_by, refuses, makes_place as makes_place_lem};
 ghost use Rattle.lru_evictor.specs.Plans.{listed};
-ghost use Rattle.node_table.specs.declared.room.RoomPlan.TheVariants.{Evict, Ask};
+ghost use Rattle.node_table.specs.declared.room.RoomPlan.TheVariants.{Fits, Evict, Ask};
+ghost use Rattle.lru_evictor.specs.declared.facts.Plan.TheVariants as found;
+ghost use Rattle.job_region.specs.Region.{place_for};
 ghost use Rattle.spill_work.specs.Line.{WorkLine};
 
 use crate::copies::Copies;
 use crate::row::JobRow;
-use lru_evictor::{CopyFacts, CopyLookup, DeviceRoom, Plan};
-use obj_id::{Items, JobNo, ObjectId, Refusal, WorkKind};
+use lru_evictor::{CopyFacts, CopyLookup, DeviceRoom, Plan, extents_by_offset};
+use obj_id::{Extent, Items, JobNo, ObjectId, Refusal, WorkKind};
 use spill_work::Works;
 use std::alloc::{AllocError, Global};
 
 /// What is to be done for room in a window.
 #[derive(Clone, Copy, Debug)]
 pub(crate) enum RoomPlan {
-    /// Nothing: there is a place as it is.
-    Fits,
+    /// Nothing: there is a place as it is, at this offset.
+    Fits(u64),
     /// Copies are to be evicted, and then there is a place.
     Evict,
     /// Writes of so many copies are to be asked for, and the answer is `Pending`.
@@ -40,11 +42,22 @@ pub(crate) enum RoomPlan {
     Refuse(Refusal),
 }
 
+/// Where an object goes in the window.
+#[derive(Drop)]
+pub(crate) struct Placement {
+    /// The copies that are to be evicted for it, in this order and perhaps none.
+    pub(crate) victims: Items<ObjectId>,
+    /// Their extents, by rising offset.
+    pub(crate) gone: Vec<Extent>,
+    /// Where it fits first once they are evicted.
+    pub(crate) offset: u64,
+}
+
 /// What making room came to.
 #[derive(Drop)]
 pub(crate) enum MadeRoom {
-    /// There is a place once these copies are evicted, in this order and perhaps none. Nothing has changed yet.
-    Place(Items<ObjectId>),
+    /// There is this place. Nothing has changed yet.
+    Place(Placement),
     /// There is none: this is to be told, and nothing else is to be done.
     Told(Refusal),
 }
@@ -54,7 +67,7 @@ impl RoomPlan {
     pub(crate) fn makes_place(self) -> bool
         ensures { result ≡ makes_place_lem self }
     {
-        matches!(self, RoomPlan::Fits | RoomPlan::Evict)
+        matches!(self, RoomPlan::Fits(_) | RoomPlan::Evict)
     }
 }
 
@@ -78,6 +91,7 @@ impl JobRow {
     /// If there is a place as it is, takes one descent of the window's tree of holes. Otherwise it
     /// takes what `UseOrder::plan` does; what the copies take of the device is counted.
     pub(crate) fn plan_room(&mut self, works: &Works, job: JobNo, len: u32) -> RoomPlan
+        ensures fits { (offset : ℕ) → result ≡ Fits offset → place_for self.old.window len ≡ Some offset }
         ensures plan { (hands : List Hand) (bytes : ObjectId → List ℕ) (contents : Contents) → job ≡ record { 0 = self.old.job } → IsShown self.old (beside_of works.now hands bytes self.old.job) contents
             → result ≡ planned_by self.old.order (shape_of self.old (beside_of works.now hands bytes self.old.job)) len }
         ensures asks { (count : ℕ) → result ≡ Ask count → room_for_lem works.now job count ≡ true }
@@ -88,8 +102,8 @@ impl JobRow {
             used: self.copies().device_bytes(),
             works: works.in_flight(job),
         };
-        if self.window().check(len).is_none() {
-            return RoomPlan::Fits;
+        if let Some(offset) = self.window().search(len).0 {
+            return RoomPlan::Fits(offset);
         }
         let failed = self.spill_failed();
         let plan = self.plan(len, device);
@@ -130,7 +144,7 @@ impl JobRow {
     ) -> Result<MadeRoom, AllocError>
         ensures ok { IfOk result (λ made. (hands : List Hand) (bytes : ObjectId → List ℕ) (contents : Contents) → job ≡ record { 0 = self.old.job } → IsShown self.old (beside_of works.old hands bytes self.old.job) contents
             → IsMade made self.old (beside_of works.old hands bytes self.old.job) contents len self.new (beside_of works.new hands bytes self.old.job)) }
-        ensures place { IfOk result (λ made. WaitsForPlace made self.old works.old self.new works.new) }
+        ensures place { IfOk result (λ made. WaitsForPlace made self.old works.old len self.new works.new) }
         ensures made { IfOk result (λ made. is_told made ≡ false → job ≡ record { 0 = self.old.job } → IsPlannedFor self.old works.old len) }
         ensures line { OnOk result (HasAsked works.old job works.new) }
         ensures others { (other : JobNo) → same_job job other ≡ false → IsSameFor other works.old works.new }
@@ -151,11 +165,12 @@ impl JobRow {
         len: u32,
         plan: RoomPlan,
     ) -> Result<MadeRoom, AllocError>
-        requires { (count : ℕ) → plan ≡ Ask count → room_for_lem works.old job count ≡ true }
+        requires fits { (offset : ℕ) → plan ≡ Fits offset → place_for self.old.window len ≡ Some offset }
+        requires asks { (count : ℕ) → plan ≡ Ask count → room_for_lem works.old job count ≡ true }
         ensures ok { IfOk result (λ made. (hands : List Hand) (bytes : ObjectId → List ℕ) (contents : Contents) → job ≡ record { 0 = self.old.job } → IsShown self.old (beside_of works.old hands bytes self.old.job) contents
             → plan ≡ planned_by self.old.order (shape_of self.old (beside_of works.old hands bytes self.old.job)) len
             → IsMade made self.old (beside_of works.old hands bytes self.old.job) contents len self.new (beside_of works.new hands bytes self.old.job)) }
-        ensures place { IfOk result (λ made. WaitsForPlace made self.old works.old self.new works.new) }
+        ensures place { IfOk result (λ made. WaitsForPlace made self.old works.old len self.new works.new) }
         ensures made { IfOk result (λ made. is_told made ≡ false → makes_place_lem plan ≡ true) }
         ensures line { OnOk result (HasAsked works.old job works.new) }
         ensures others { (other : JobNo) → same_job job other ≡ false → IsSameFor other works.old works.new }
@@ -164,10 +179,14 @@ impl JobRow {
         ensures works { OnErr result (works.new ≡ works.old) }
     {
         match plan {
-            RoomPlan::Fits => Ok(MadeRoom::Place(Items::new(alloc))),
+            RoomPlan::Fits(offset) => Ok(MadeRoom::Place(Placement {
+                victims: Items::new(alloc),
+                gone: Vec::new(alloc),
+                offset,
+            })),
             RoomPlan::Evict => {
                 let victims = self.victims(alloc, len)?;
-                Ok(MadeRoom::Place(victims))
+                self.place_of_victims(alloc, len, victims)
             }
             RoomPlan::Ask(count) => {
                 let ids = self.spillable(alloc, count)?;
@@ -179,6 +198,30 @@ impl JobRow {
             }
             RoomPlan::Refuse(refusal) => Ok(MadeRoom::Told(refusal)),
         }
+    }
+
+    /// The place that there is for an object of `len` bytes once these copies are evicted, and otherwise `Full`.
+    fn place_of_victims(
+        &self,
+        alloc: Global,
+        len: u32,
+        victims: Items<ObjectId>,
+    ) -> Result<MadeRoom, AllocError>
+        requires { MayGo self.now.copies victims }
+        ensures place { IfOk result (λ made. (line : WorkLine) → WaitsForPlace made self.now line len self.now line) }
+        ensures ok { IfOk result (λ made. (beside : Beside) (contents : Contents) → IsShown self.now beside contents
+            → MakesPlace (make_room self.now.order (shape_of self.now beside) len) (shape_of self.now beside) len victims
+            → IsMade made self.now beside contents len self.now beside) }
+    {
+        let gone = extents_by_offset(alloc, self.copies(), victims.as_slice())?;
+        let Some(offset) = self.window().fits_without(&gone, len) else {
+            return Ok(MadeRoom::Told(Refusal::Full));
+        };
+        Ok(MadeRoom::Place(Placement {
+            victims,
+            gone,
+            offset,
+        }))
     }
 
     /// Asks for the job's writes of these copies, which is told `Pending`.
@@ -205,12 +248,14 @@ impl JobRow {
     }
 }
 
-/// What a plan is to a job whose works had numbers up to this one, and of which a spill failed or not.
+/// What a plan for an object that doesn't fit as it is is to a job whose works had numbers up to this one, and of which a spill failed
+/// or not.
 fn room_plan(asked: u64, failed: bool, plan: Plan) -> RoomPlan
-    ensures { result ≡ by_kind asked failed plan }
+    requires { plan ≢ found.Fits }
+    ensures { (offset : ℕ) → result ≡ by_kind asked failed offset plan }
 {
     match plan {
-        Plan::Fits => RoomPlan::Fits,
+        Plan::Fits => unreachable!(),
         Plan::Evict => RoomPlan::Evict,
         Plan::Wait => RoomPlan::Refuse(Refusal::Pending),
         Plan::Full => RoomPlan::Refuse(Refusal::Full),

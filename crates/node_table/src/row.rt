@@ -1,5 +1,5 @@
 //! The row of one job.
-ghost use Rattle.std.specs.Prelude.{◌≡◌, ◌≢◌, ◌↔◌, ℕ, ◌+◌, ◌^◌, ◌≤◌, ◌<◌, nat_eq, take, length, true, false, Some, None, IfOk, IfErr, IfSome, IfNone, OnOk, OnErr, IsOk, IsErr, IsErrOf, option_to_list, option_map};
+ghost use Rattle.std.specs.Prelude.{◌≡◌, ◌≢◌, ◌↔◌, ℕ, ◌+◌, ◌^◌, ◌≤◌, ◌<◌, [], nat_eq, take, length, true, false, Some, None, IfOk, IfErr, IfSome, IfNone, OnOk, OnErr, IsOk, IsErr, IsErrOf, option_to_list};
 ghost use Rattle.std.specs.Map.{set_value};
 ghost use Rattle.obj_id.specs.declared.works.Extent.{Extent};
 ghost use Rattle.obj_id.specs.declared.refusals.Refusal.{Refusal};
@@ -9,7 +9,8 @@ ghost use Rattle.private_store.specs.Tables.{at, with_entry, is_among};
 ghost use Rattle.private_store.specs.Copies.{extent_of};
 ghost use Rattle.private_store.specs.Contents.{digest_of, overwritten};
 ghost use Rattle.job_region.specs.Region.{IsAt, bytes_at as placed_bytes, resize_check};
-ghost use Rattle.std.specs.Option.{option_map_or, option_and_then, option_copied};
+ghost use Rattle.lru_evictor.specs.Facts.{fits_without as is_room_without};
+ghost use Rattle.std.specs.Option.{option_map_or};
 ghost use Rattle.private_store.specs.Kept.{is_remembered};
 ghost use Rattle.node_table.specs.Answering.{written_row, refilled, lost_row};
 ghost use Rattle.lru_evictor.specs.Orders.{last_used, ids_of};
@@ -29,21 +30,22 @@ ghost use Rattle.node_table.specs.Row.{Row, new_row, place_of, ArePlaced};
 ghost use Rattle.node_table.specs.EndingTasks.{task_row};
 ghost use Rattle.node_table.specs.Dropping.{dropped, is_over_at, settled_row, keys_settled};
 ghost use Rattle.node_table.specs.Holding.{IsUnreadyAt, IsHoldRefusedAt, IsRowHeld};
-ghost use Rattle.node_table.specs.Evicting.{has_place, IsReplaced};
+ghost use Rattle.node_table.specs.Evicting.{IsPlacement, IsReplaced};
 ghost use Rattle.node_table.specs.Arriving.{located, unfetched_row};
 
 use crate::copies::Copies;
-use crate::copy::{AfterChange, Awaited, RowCopy};
+use crate::copy::{AfterChange, Awaited, RowCopy, extent_of_any};
 use crate::following::{evict_for, follow_each};
-use crate::lent::Lent;
+use crate::lent::{Lent, first_bytes, first_shared};
 use crate::marks::Mark;
-use crate::prepared::Prepared;
+use crate::prepared::{Prepared, filling};
+use crate::room::Placement;
 use bytes::Bytes;
 use extent_tree::Room;
-use hashed_bytes::{Hashed, are_same, digest_by};
+use hashed_bytes::{Hashed, digest_by};
 use indexmap::IndexSet;
 use job_region::Window;
-use lru_evictor::{DeviceRoom, Plan, UseOrder, extents_by_offset};
+use lru_evictor::{DeviceRoom, Plan, UseOrder};
 use obj_id::{
     DeviceKey, Digest, Extent, Items, JobNo, Kind, Location, ObjectId, Quota, Refusal, TaskNo,
 };
@@ -204,6 +206,7 @@ impl JobRow {
     pub(crate) fn plan(&mut self, len: u32, device: DeviceRoom) -> Plan
         ensures plan { (store : Shape) → AreListed self.old.copies self.old.order → IsDescribed store self.old.window device (facts_in self.old.copies)
             → result ≡ kind_of (room_plan self.old.order store len) }
+        ensures room { result ≡ plan_kind.Fits → is_room_without self.old.window (facts_in self.old.copies) len [] ≡ true }
         ensures left { (k : ℕ) → result ≡ plan_kind.Spill k → k + device.works ≤ most_works }
         ensures same { self.new ≡ self.old }
         ensures placed { ArePlaced self.old.window.placed (place_of self.old.copies) }
@@ -444,84 +447,80 @@ impl JobRow {
         Ok(())
     }
 
-    /// The victims, which are other copies, are evicted, and the job has a copy of the object to be written, at the first place for
-    /// its `len` bytes that there is then, of zeros; it is the most recently used one. `None` if there is no place. The error is out
-    /// of memory. Without a place and after an error nothing has changed.
+    /// The victims of the placement, which are other copies, are evicted, and the job has a copy of the object to be written, in this
+    /// place for its `len` bytes, of zeros; it is the most recently used one. The error is out of memory, and then nothing has changed.
     pub(crate) fn replace_copies(
         &mut self,
         alloc: Global,
         id: &ObjectId,
         kind: Kind,
         len: u32,
-        victims: &[ObjectId],
-    ) -> Result<Option<Extent>, AllocError>
+        placement: &Placement,
+    ) -> Result<Extent, AllocError>
+        requires some { 0 < len }
         requires absent { at self.old.copies id.now ≡ None }
-        requires stays { is_among victims.now id.now ≡ false }
-        ensures placed { ArePlaced self.old.window.placed (place_of self.old.copies) }
-        ensures some { IfOk result (λ o. IfSome o (λ e. is_among self.old.order id.now ≡ false → IsReplaced self.old (Some id.now) id.now (new_kept kind len) len victims.now e self.new)) }
-        ensures small { IfOk result (λ o. IfSome o (λ e. e.offset + e.length < 2 ^ 32)) }
-        ensures none { IfOk result (λ o. IfNone o (has_place self.old len victims.now ≡ false)) }
-        ensures same { IfOk result (λ o. IfNone o (self.new ≡ self.old)) }
+        requires stays { is_among placement.now.victims id.now ≡ false }
+        requires place { IsPlacement self.old len placement.now }
+        ensures placed { OnOk result (ArePlaced self.old.window.placed (place_of self.old.copies)) }
+        ensures ok { IfOk result (λ e. is_among self.old.order id.now ≡ false → IsReplaced self.old (Some id.now) id.now (new_kept kind len) len placement.now.victims e self.new) }
+        ensures small { IfOk result (λ e. e.offset + e.length < 2 ^ 32) }
         ensures err { OnErr result (self.new ≡ self.old) }
     {
-        let gone = extents_by_offset(alloc, &self.copies, victims)?;
-        let Some(offset) = self.window.fits_without(&gone, len) else {
-            return Ok(None);
-        };
         let room = Room::new(alloc)?;
-        self.copies
-            .insert(*id, RowCopy::created(alloc, kind, len, offset))?;
+        let copy = RowCopy::created(alloc, kind, len, placement.offset);
+        self.copies.insert(*id, copy)?;
         // it lies nowhere, as far as the order knows, until the victims have gone
         let Ok(entered) = self.order.enter_new(*id) else {
             self.copies.remove(id);
             return Err(AllocError);
         };
-        match self.window.replace(alloc, &gone, len) {
-            Err(refusal) => {
+        match self
+            .window
+            .replace(alloc, &placement.gone, len, placement.offset)
+        {
+            Err(error) => {
                 self.copies.remove(id);
                 if entered {
                     self.order.forget(*id);
                 }
-                no_place(refusal)
+                Err(error)
             }
             Ok(extent) => {
+                let victims = placement.victims.as_slice();
                 evict_for(&mut self.order, &mut self.copies, victims, id, room, extent);
-                Ok(Some(extent))
+                Ok(extent)
             }
         }
     }
 
-    /// The victims, which are other copies, are evicted, and the copy of the id, which has no place, takes the first one for its `len`
-    /// bytes that there is then: of zeros, and it waits for this there. `None` if there is no place. The error is out of memory.
-    /// Without a place and after an error nothing has changed.
+    /// The victims of the placement, which are other copies, are evicted, and the copy of the id, which has no place, takes this one
+    /// for its `len` bytes: of zeros, and it waits for this there. The error is out of memory, and then nothing has changed.
     pub(crate) fn place_copy(
         &mut self,
         alloc: Global,
         id: &ObjectId,
         len: u32,
-        victims: &[ObjectId],
+        placement: &Placement,
         awaited: Awaited,
-    ) -> Result<Option<Extent>, AllocError>
-        requires stays { is_among victims.now id.now ≡ false }
+    ) -> Result<Extent, AllocError>
+        requires some { 0 < len }
+        requires stays { is_among placement.now.victims id.now ≡ false }
+        requires place { IsPlacement self.old len placement.now }
         requires waits { option_map_or (waits_for_place len) (at self.old.copies id.now) false ≡ true }
         requires awaits { (k : Kept) → at self.old.copies id.now ≡ Some k → CanAwait awaited k }
-        ensures placed { ArePlaced self.old.window.placed (place_of self.old.copies) }
-        ensures some { IfOk result (λ o. IfSome o (λ e. (k : Kept) → at self.old.copies id.now ≡ Some k → IsReplaced self.old None id.now (λ offset. placed_for awaited offset k) len victims.now e self.new)) }
-        ensures none { IfOk result (λ o. IfNone o (has_place self.old len victims.now ≡ false)) }
-        ensures same { IfOk result (λ o. IfNone o (self.new ≡ self.old)) }
+        ensures placed { OnOk result (ArePlaced self.old.window.placed (place_of self.old.copies)) }
+        ensures ok { IfOk result (λ e. (k : Kept) → at self.old.copies id.now ≡ Some k → IsReplaced self.old None id.now (λ offset. placed_for awaited offset k) len placement.now.victims e self.new) }
         ensures err { OnErr result (self.new ≡ self.old) }
     {
-        let gone = extents_by_offset(alloc, &self.copies, victims)?;
         let room = Room::new(alloc)?;
-        match self.window.replace(alloc, &gone, len) {
-            Err(refusal) => no_place(refusal),
-            Ok(extent) => {
-                let offset = extent.offset;
-                self.copies.apply(id, Mark::Placed { offset, awaited });
-                evict_for(&mut self.order, &mut self.copies, victims, id, room, extent);
-                Ok(Some(extent))
-            }
-        }
+        let extent = self
+            .window
+            .replace(alloc, &placement.gone, len, placement.offset)?;
+        let offset = extent.offset;
+        self.copies.apply(id, Mark::Placed { offset, awaited });
+        let victims = placement.victims.as_slice();
+        evict_for(&mut self.order, &mut self.copies, victims, id, room, extent);
+        Ok(extent)
     }
 
     /// The directory's answer at this node, which counts for the copy's fetch of this number while its source isn't
@@ -684,68 +683,4 @@ impl JobRow {
             None => self.put_bytes(id, 0, bytes),
         }
     }
-}
-
-/// What a window's refusal of a place comes to: there is none, or there is no memory.
-fn no_place(refusal: Refusal) -> Result<Option<Extent>, AllocError>
-    ensures none { IfOk result (λ o. (o ≡ None) × (refusal ≢ NoMemory)) }
-{
-    match refusal {
-        Refusal::NoMemory => Err(AllocError),
-        _ => Ok(None),
-    }
-}
-
-/// Where the copy lies in the window, if there is one and it is resident.
-fn extent_of_any(copy: Option<&RowCopy>) -> Option<Extent>
-    ensures { result ≡ option_and_then (λ k. extent_of k.copy) (option_copied copy.entry) }
-{
-    copy?.extent()
-}
-
-/// What lies in an extent once these bytes are written into it from its first byte on: shared, if they fill it, or what was prepared
-/// does so with them. Nothing if neither does.
-fn filling(lies: &[u8], bytes: &Bytes, filled: Option<&Bytes>) -> Option<Bytes>
-    ensures length { IfSome result (λ filling. length filling ≡ length lies.now) }
-    ensures bytes { IfSome result (λ filling. filling ≡ overwritten lies.now 0 bytes.now) }
-{
-    if bytes.len() == lies.len() {
-        return bytes.clone().ok();
-    }
-    let filled = filled?;
-    if !is_filling(filled, bytes, lies) {
-        return None;
-    }
-    filled.clone().ok()
-}
-
-/// Whether the first is what lies in an extent once these bytes are written into it from its first byte on.
-fn is_filling(filled: &[u8], bytes: &[u8], lies: &[u8]) -> bool
-    ensures length { result ≡ true → length filled.now ≡ length lies.now }
-    ensures bytes { result ≡ true → filled.now ≡ overwritten lies.now 0 bytes.now }
-{
-    let len = bytes.len();
-    if filled.len() != lies.len() || len > lies.len() {
-        return false;
-    }
-    if !are_same(&filled[..len], bytes) {
-        return false;
-    }
-    are_same(&filled[len..], &lies[len..])
-}
-
-/// The first `len` of bytes that are shared, or all of them if there are fewer.
-fn first_shared(shared: Option<Bytes>, len: u32) -> Option<Bytes>
-    ensures { result ≡ option_map (take len) shared }
-{
-    let mut first = shared?;
-    first.truncate(len as usize);
-    Some(first)
-}
-
-/// The first `len` bytes, or all of them if there are fewer.
-fn first_bytes(bytes: &[u8], len: u32) -> &[u8]
-    ensures { result.now ≡ take len bytes.now }
-{
-    &bytes[..(len as usize).min(bytes.len())]
 }

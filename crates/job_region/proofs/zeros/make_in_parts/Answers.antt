@@ -1,4 +1,4 @@
-use Rattle.std.proofs.Common.{◌≡◌, ◌*◌, ◌/◌, ◌+◌, ◌≤◌, ◌∙◌, arith}
+use Rattle.std.proofs.Common.{◌*◌, ◌+◌, ◌≤◌, ◌∙◌, arith}
 use Rattle.job_region.proofs.Refilled.{more_zeros}
 use Rattle.job_region.proofs.zeros.make_in_parts.Goals as goal
 

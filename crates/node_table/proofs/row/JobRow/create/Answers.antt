@@ -1,5 +1,5 @@
 use Rattle.std.proofs.Common.{◌≡◌, ◌==◌, true, sym, ap, subst, ◌∙◌}
-use Rattle.node_table.specs.Evicting.{MayGo}
+use Rattle.node_table.specs.Evicting.{IsPlacement, MayGo}
 use Rattle.obj_id.specs.declared.commands.Command.TheVariants as command
 use Rattle.private_store.specs.declared.inputs.Input.TheVariants as input
 use Rattle.private_store.specs.Room.{make_room}
@@ -23,18 +23,18 @@ returns-in-Some-clause-ok c = each_ok c.told.result (λ o said session hands byt
 pub returns-in-Place-clause-ok : goal.returns-in-Place-clause-ok
 returns-in-Place-clause-ok c = each_ok c.create_in_place.result (λ o told session hands bytes contents mine h.
     let own = c.job.ensures.value ∙ own_job c.args.id.now.job c.args.self.now.job mine in
-    let kept = subst (λ m. WaitsForPlace m c.args.self.now c.args.works.now c.room_for.new.self c.room_for.new.works) c.in-Place.is c.in_ok-victims.ensures.place in
-    let makes = subst (λ m. IsMade m c.args.self.now (beside_of c.args.works.now hands bytes c.args.self.now.job) contents c.args.len c.room_for.new.self (beside_of c.room_for.new.works hands bytes c.args.self.now.job)) c.in-Place.is (c.in_ok-victims.ensures.ok hands bytes contents own h) in
+    let kept = subst (λ m. WaitsForPlace m c.args.self.now c.args.works.now c.args.len c.room_for.new.self c.room_for.new.works) c.in-Place.is c.in_ok-placement.ensures.place in
+    let makes = subst (λ m. IsMade m c.args.self.now (beside_of c.args.works.now hands bytes c.args.self.now.job) contents c.args.len c.room_for.new.self (beside_of c.room_for.new.works hands bytes c.args.self.now.job)) c.in-Place.is (c.in_ok-placement.ensures.ok hands bytes contents own h) in
     subst (λ w. TakesStep c.args.node c.args.self.now (beside_of c.args.works.now hands bytes c.args.self.now.job) contents (input.Call session (command.Create c.args.id.now c.args.kind c.args.len)) (given_of o) c.create_in_place.new.self (beside_of w hands bytes c.args.self.now.job)) (sym kept.1)
-    (subst (λ r. (c.args.id.now.job.0 == r.job) ≡ true → IsShown r (beside_of c.args.works.now hands bytes c.args.self.now.job) contents → MakesPlace (make_room r.order (shape_of r (beside_of c.args.works.now hands bytes c.args.self.now.job)) c.args.len) (shape_of r (beside_of c.args.works.now hands bytes c.args.self.now.job)) c.args.len c.as_slice.result.now
+    (subst (λ r. (c.args.id.now.job.0 == r.job) ≡ true → IsShown r (beside_of c.args.works.now hands bytes c.args.self.now.job) contents → MakesPlace (make_room r.order (shape_of r (beside_of c.args.works.now hands bytes c.args.self.now.job)) c.args.len) (shape_of r (beside_of c.args.works.now hands bytes c.args.self.now.job)) c.args.len c.in-Place.placement.victims
     → TakesStep c.args.node r (beside_of c.args.works.now hands bytes c.args.self.now.job) contents (input.Call session (command.Create c.args.id.now c.args.kind c.args.len)) (given_of o) c.create_in_place.new.self (beside_of c.args.works.now hands bytes c.args.self.now.job)) kept.0 (told session (beside_of c.args.works.now hands bytes c.args.self.now.job) contents) mine h
-    (subst (MakesPlace (make_room c.args.self.now.order (shape_of c.args.self.now (beside_of c.args.works.now hands bytes c.args.self.now.job)) c.args.len) (shape_of c.args.self.now (beside_of c.args.works.now hands bytes c.args.self.now.job)) c.args.len) (sym c.as_slice.ensures) makes))) c.create_in_place.ensures.ok
+    makes)) c.create_in_place.ensures.ok
 
 pub returns-in-Told-clause-ok : goal.returns-in-Told-clause-ok
 returns-in-Told-clause-ok c = each_ok c.told-in-Told.result (λ o said session hands bytes contents mine h.
     let passed = sym c.create_check.ensures ∙ c.in_default.is in
     let own = c.job.ensures.value ∙ own_job c.args.id.now.job c.args.self.now.job mine in
-    let made = subst (λ m. IsMade m c.args.self.now (beside_of c.args.works.now hands bytes c.args.self.now.job) contents c.args.len c.room_for.new.self (beside_of c.room_for.new.works hands bytes c.args.self.now.job)) c.in-Told.is (c.in_ok-victims.ensures.ok hands bytes contents own h) in
+    let made = subst (λ m. IsMade m c.args.self.now (beside_of c.args.works.now hands bytes c.args.self.now.job) contents c.args.len c.room_for.new.self (beside_of c.room_for.new.works hands bytes c.args.self.now.job)) c.in-Told.is (c.in_ok-placement.ensures.ok hands bytes contents own h) in
     subst (λ t. TakesStep c.args.node c.args.self.now (beside_of c.args.works.now hands bytes c.args.self.now.job) contents (input.Call session (command.Create c.args.id.now c.args.kind c.args.len)) t c.room_for.new.self (beside_of c.room_for.new.works hands bytes c.args.self.now.job)) (sym said)
     (made.tells c.args.node (x c.args.node c.args.self.now (beside_of c.args.works.now hands bytes c.args.self.now.job) contents session c.args.id.now c.args.kind c.args.len mine h)
     (created c.args.id.now c.args.kind c.args.len) (quiet c.args.node c.args.self.now (beside_of c.args.works.now hands bytes c.args.self.now.job) contents session c.args.id.now c.args.kind c.args.len mine h)
@@ -42,15 +42,20 @@ returns-in-Told-clause-ok c = each_ok c.told-in-Told.result (λ o said session h
 
 pub create_in_place-requires-clause-may_go : goal.create_in_place-requires-clause-may_go
 create_in_place-requires-clause-may_go c =
-    let kept = subst (λ m. WaitsForPlace m c.args.self.now c.args.works.now c.room_for.new.self c.room_for.new.works) c.in-Place.is c.in_ok-victims.ensures.place in
-    subst (λ (r : Row). MayGo r.copies c.as_slice.result.now) (sym kept.0) (subst (MayGo c.args.self.now.copies) (sym c.as_slice.ensures) kept.2)
+    let kept = subst (λ m. WaitsForPlace m c.args.self.now c.args.works.now c.args.len c.room_for.new.self c.room_for.new.works) c.in-Place.is c.in_ok-placement.ensures.place in
+    subst (λ (r : Row). MayGo r.copies c.in-Place.placement.victims) (sym kept.0) kept.2
 
-pub returns-in_err-victims-clause-late : goal.returns-in_err-victims-clause-late
-returns-in_err-victims-clause-late c =
+pub returns-in_err-placement-clause-late : goal.returns-in_err-placement-clause-late
+returns-in_err-placement-clause-late c =
     always_err c.from_residual.result (λ mine. create_due c.args.node c.args.self.now c.args.works.now c.args.id.now c.args.kind c.args.len (sym c.create_check.ensures ∙ c.in_default.is)
-    (c.in_err-victims.ensures.late (c.job.ensures.value ∙ own_job c.args.id.now.job c.args.self.now.job mine)) mine)
+    (c.in_err-placement.ensures.late (c.job.ensures.value ∙ own_job c.args.id.now.job c.args.self.now.job mine)) mine)
 
 pub returns-in-Place-clause-late : goal.returns-in-Place-clause-late
 returns-in-Place-clause-late c =
     always_err c.create_in_place.result (λ mine. create_due c.args.node c.args.self.now c.args.works.now c.args.id.now c.args.kind c.args.len (sym c.create_check.ensures ∙ c.in_default.is)
-    (c.in_ok-victims.ensures.made (ap is_told c.in-Place.is) (c.job.ensures.value ∙ own_job c.args.id.now.job c.args.self.now.job mine)) mine)
+    (c.in_ok-placement.ensures.made (ap is_told c.in-Place.is) (c.job.ensures.value ∙ own_job c.args.id.now.job c.args.self.now.job mine)) mine)
+
+pub create_in_place-requires-clause-place : goal.create_in_place-requires-clause-place
+create_in_place-requires-clause-place c =
+    let kept = subst (λ m. WaitsForPlace m c.args.self.now c.args.works.now c.args.len c.room_for.new.self c.room_for.new.works) c.in-Place.is c.in_ok-placement.ensures.place in
+    subst (λ (r : Row). IsPlacement r c.args.len c.in-Place.placement) (sym kept.0) kept.3

@@ -1,17 +1,32 @@
-use Rattle.std.proofs.Common.{◌+◌, refl, sym, ap, ◌∙◌, arith}
+use Rattle.std.proofs.Common.{◌+◌, Some, refl, sym, ap, ◌∙◌, arith}
 use Rattle.std.specs.Prelude.{nat_le}
 use Rattle.std.proofs.lemmas.Bool.Decides.{nat_tests}
 use Rattle.private_store.specs.Limits.{most_works, has_numbers}
 use Rattle.node_table.specs.Usages.{total, device_bytes}
-use Rattle.store_facts.proofs.Tests.{both, none_here}
+use Rattle.node_table.specs.Followed.{facts_in}
+use Rattle.store_facts.proofs.Tests.{both}
+use Rattle.job_region.specs.Region.{place_for}
 use Rattle.spill_work.specs.Line.{in_flight}
 use Rattle.node_table.specs.Row.{beside_of}
-use Rattle.node_table.proofs.Planning.{asks-kind, asks-numbers, all_listed, place_exit, plan_exit}
+use Rattle.node_table.proofs.Planning.{asks-kind, asks-numbers, all_listed, place_exit, plan_exit, fits-at, fits-kind, fits-nowhere}
 use Rattle.node_table.proofs.row.JobRow.plan_room.Goals as goal
 
-pub returns-then-is_none-clause-plan : goal.returns-then-is_none-clause-plan
-returns-then-is_none-clause-plan c hands bytes contents own h =
-    sym (place_exit c.args.self.now (beside_of c.args.works.now hands bytes c.args.self.now.job) contents h c.copies.ensures.placed c.args.len c.window.result.now c.window.ensures c.check.result c.check.ensures (none_here c.check.result c.if-is_none.ensures))
+pub returns-in-Some-clause-plan : goal.returns-in-Some-clause-plan
+returns-in-Some-clause-plan c hands bytes contents own h =
+    sym (place_exit c.args.self.now (beside_of c.args.works.now hands bytes c.args.self.now.job) contents h c.copies.ensures.placed c.args.len c.window.result.now c.window.ensures c.in-Some.offset (sym c.search.ensures.offset ∙ c.in-Some.is))
+
+pub returns-in-Some-clause-fits : goal.returns-in-Some-clause-fits
+returns-in-Some-clause-fits c offset fits =
+    ap (λ w. place_for w c.args.len) (sym c.window.ensures) ∙ sym c.search.ensures.offset ∙ c.in-Some.is ∙ ap Some (fits-at c.in-Some.offset offset fits)
+
+pub room_plan-requires : goal.room_plan-requires
+room_plan-requires c fits =
+    fits-nowhere c.args.self.now.window (facts_in c.args.self.now.copies) c.args.len c.search.result.0 (c.search.ensures.offset ∙ ap (λ w. place_for w c.args.len) c.window.ensures) c.in_default.is (c.plan-plan.ensures.room fits)
+
+pub returns-clause-fits : goal.returns-clause-fits
+returns-clause-fits c offset fits =
+    absurd (fits-nowhere c.args.self.now.window (facts_in c.args.self.now.copies) c.args.len c.search.result.0 (c.search.ensures.offset ∙ ap (λ w. place_for w c.args.len) c.window.ensures) c.in_default.is
+    (c.plan-plan.ensures.room (fits-kind c.asked.result c.spill_failed-failed.result 0 c.plan-plan.result offset (sym (c.room_plan.ensures 0) ∙ fits))))
 
 pub returns-clause-plan : goal.returns-clause-plan
 returns-clause-plan c hands bytes contents own h =
@@ -23,8 +38,8 @@ returns-clause-plan c hands bytes contents own h =
 
 pub returns-clause-asks : goal.returns-clause-asks
 returns-clause-asks c count asks =
-    let is = sym c.room_plan.ensures ∙ asks in
-    let left = c.plan-plan.ensures.left count (asks-kind c.asked.result c.spill_failed-failed.result c.plan-plan.result count is) in
+    let is = sym (c.room_plan.ensures 0) ∙ asks in
+    let left = c.plan-plan.ensures.left count (asks-kind c.asked.result c.spill_failed-failed.result 0 c.plan-plan.result count is) in
     let works = c.in_flight.ensures in
     both (nat_le (in_flight c.args.works.now c.args.job + count) most_works) _ (grind (arith, nat_tests, left, works))
-    (ap (λ n. has_numbers n count) (sym c.asked.ensures.last) ∙ asks-numbers c.asked.result c.spill_failed-failed.result c.plan-plan.result count is)
+    (ap (λ n. has_numbers n count) (sym c.asked.ensures.last) ∙ asks-numbers c.asked.result c.spill_failed-failed.result 0 c.plan-plan.result count is)

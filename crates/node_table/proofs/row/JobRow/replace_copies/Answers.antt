@@ -6,40 +6,31 @@ use Rattle.obj_id.specs.declared.ids.ObjectId.{ObjectId}
 use Rattle.private_store.specs.Tables.{ById, at, with_entry, without_entry, is_among}
 use Rattle.private_store.specs.Extents.{first}
 use Rattle.store_facts.proofs.Tests.{some_value, not_true}
-use Rattle.job_region.specs.Region.{Region, extents_of, put_in}
+use Rattle.job_region.specs.Region.{Region, extents_of, put_in, without}
 use Rattle.lru_evictor.specs.Orders.{ids_of, without_id}
 use Rattle.node_table.specs.Evicting.{all_evicted, placed_without, replaced, without_missing}
 use Rattle.node_table.specs.Kept.{Kept, new_kept}
 use Rattle.node_table.specs.Row.{Row, place_of, ArePlaced}
 use Rattle.node_table.proofs.Changes.{put_back}
-use Rattle.node_table.proofs.Getting.{each_ok, always_err}
-use Rattle.node_table.proofs.Placeless.{placeless, none_so}
-use Rattle.node_table.proofs.Replacing.{left_sorted, forgotten, new_lies, replaced_placed, alone}
+use Rattle.node_table.proofs.Replacing.{forgotten, new_lies, replaced_placed, alone}
 use Rattle.node_table.specs.Followed.{is_followed, AreFollowed, AreFollowedBut}
 use Rattle.node_table.proofs.FollowsCopies.{put_but, removed_but, others_still, one_spared, entered_unknown, placed_unknown}
 use Rattle.node_table.proofs.row.JobRow.replace_copies.Goals as goal
 use Rattle.node_table.proofs.row.JobRow.replace_copies.Goals.{then-entered, else-entered}
 
-pub returns-in_default-clause-none : goal.returns-in_default-clause-none
-returns-in_default-clause-none c =
-    let left = left_sorted c.self.inside.copies c.args.victims.now c.self.inside.window.placed c.in_ok-gone.gone.items c.deref.result.now c.in_ok-gone.ensures.permutation c.deref.ensures.value in
-    placeless c.args.self.now c.args.len c.args.victims.now
-    (ap (λ (r : Row). first (extents_of (placed_without r c.args.victims.now)) r.window.quota c.args.len) (sym c.self.view_is)
-    ∙ ap (λ ps. first (extents_of ps) c.self.inside.window.quota c.args.len) (sym left) ∙ sym c.fits_without.ensures ∙ c.in_default.is)
-
-pub invariant_of-self-in_default-enter_new : goal.invariant_of-self-in_default-enter_new
-invariant_of-self-in_default-enter_new c =
+pub invariant_of-self-in_default : goal.invariant_of-self-in_default
+invariant_of-self-in_default c =
     let none : at c.self.inside.copies c.args.id.now ≡ None = ap (λ r. at r.copies c.args.id.now) c.self.view_is ∙ c.requires.absent in
     let back = c.remove.ensures ∙ ap (λ t. without_entry t c.args.id.now) c.in_ok-insert.ensures.ok ∙ put_back c.args.id.now c.self.inside.copies _ none in (
       subst (λ t. ArePlaced c.self.inside.window.placed (place_of t)) (sym back) c.self.invariant.0,
-      subst (λ t. AreFollowed t c.enter_new.new.self) (sym back) (subst (AreFollowed c.self.inside.copies) (sym c.in_default-enter_new.ensures.err) c.self.invariant.1),
+      subst (λ t. AreFollowed t c.enter_new.new.self) (sym back) (subst (AreFollowed c.self.inside.copies) (sym c.in_default.ensures.err) c.self.invariant.1),
     )
 
-pub returns-in_default-enter_new-clause-err : goal.returns-in_default-enter_new-clause-err
-returns-in_default-enter_new-clause-err c =
+pub returns-in_default-clause-err : goal.returns-in_default-clause-err
+returns-in_default-clause-err c =
     let none : at c.self.inside.copies c.args.id.now ≡ None = ap (λ r. at r.copies c.args.id.now) c.self.view_is ∙ c.requires.absent in
     let back = c.remove.ensures ∙ ap (λ t. without_entry t c.args.id.now) c.in_ok-insert.ensures.ok ∙ put_back c.args.id.now c.self.inside.copies _ none in
-    (λ i. row_of (back i) (ids_of (c.in_default-enter_new.ensures.err i))) ∙ c.self.view_is
+    (λ i. row_of (back i) (ids_of (c.in_default.ensures.err i))) ∙ c.self.view_is
   where
     row_of : ById Kept → List ObjectId → Row
     row_of copies order = record { job = c.self.inside.job.0; window = c.self.inside.window; device = c.self.inside.device; copies = copies; order = order; fetches_begun = c.self.inside.fetches_begun; spill_failed = c.self.inside.spill_failed; ended_tasks = c.self.inside.ended_tasks.keys }
@@ -64,8 +55,8 @@ invariant_of-self-else-entered c =
       subst (λ t. AreFollowed t c.enter_new.new.self) (sym back) (subst (AreFollowed c.self.inside.copies) (sym (c.in-Ok.ensures.same c.if-entered.false)) c.self.invariant.1),
     )
 
-pub returns-in-Err-clause-same : goal.returns-in-Err-clause-same
-returns-in-Err-clause-same c =
+pub returns-after-entered-clause-err : goal.returns-after-entered-clause-err
+returns-after-entered-clause-err c =
     let none : at c.self.inside.copies c.args.id.now ≡ None = ap (λ r. at r.copies c.args.id.now) c.self.view_is ∙ c.requires.absent in
     let back = c.remove-in-Err.ensures ∙ ap (λ t. without_entry t c.args.id.now) c.in_ok-insert.ensures.ok ∙ put_back c.args.id.now c.self.inside.copies _ none in
     let undone : c.if-entered.self ≡ c.args.self.now = elim c.if-entered.branch [
@@ -77,25 +68,7 @@ returns-in-Err-clause-same c =
           let order = ap ids_of (c.in-Ok.ensures.same w.if-entered.false) in
           w.self-is ∙ (λ i. row_of (c.in-Err.ensures.err i) (back i) (order i)) ∙ c.self.view_is
     ] in
-    each_ok c.no_place.result (λ o none. none_so o none.0 undone) c.no_place.ensures.none
-  where
-    row_of : Region → ById Kept → List ObjectId → Row
-    row_of window copies order = record { job = c.self.inside.job.0; window = window; device = c.self.inside.device; copies = copies; order = order; fetches_begun = c.self.inside.fetches_begun; spill_failed = c.self.inside.spill_failed; ended_tasks = c.self.inside.ended_tasks.keys }
-
-pub returns-in-Err-clause-err : goal.returns-in-Err-clause-err
-returns-in-Err-clause-err c =
-    let none : at c.self.inside.copies c.args.id.now ≡ None = ap (λ r. at r.copies c.args.id.now) c.self.view_is ∙ c.requires.absent in
-    let back = c.remove-in-Err.ensures ∙ ap (λ t. without_entry t c.args.id.now) c.in_ok-insert.ensures.ok ∙ put_back c.args.id.now c.self.inside.copies _ none in
-    let undone : c.if-entered.self ≡ c.args.self.now = elim c.if-entered.branch [
-      | then-entered w ↦
-          let unlisted = not_true (is_among (ids_of c.self.inside.order) c.args.id.now) (sym c.in-Ok.ensures.entered ∙ w.if-entered.true) in
-          let order = w.forget.ensures.ids ∙ ap (without_id c.args.id.now) (c.in-Ok.ensures.ids w.if-entered.true) ∙ forgotten c.args.id.now (ids_of c.self.inside.order) unlisted in
-          w.self-is ∙ (λ i. row_of (c.in-Err.ensures.err i) (back i) (order i)) ∙ c.self.view_is
-      | else-entered w ↦
-          let order = ap ids_of (c.in-Ok.ensures.same w.if-entered.false) in
-          w.self-is ∙ (λ i. row_of (c.in-Err.ensures.err i) (back i) (order i)) ∙ c.self.view_is
-    ] in
-    always_err c.no_place.result undone
+    undone
   where
     row_of : Region → ById Kept → List ObjectId → Row
     row_of window copies order = record { job = c.self.inside.job.0; window = window; device = c.self.inside.device; copies = copies; order = order; fetches_begun = c.self.inside.fetches_begun; spill_failed = c.self.inside.spill_failed; ended_tasks = c.self.inside.ended_tasks.keys }
@@ -103,11 +76,13 @@ returns-in-Err-clause-err c =
 pub invariant_of-self-in-Ok-replace : goal.invariant_of-self-in-Ok-replace
 invariant_of-self-in-Ok-replace c =
     let none : at c.self.inside.copies c.args.id.now ≡ None = ap (λ r. at r.copies c.args.id.now) c.self.view_is ∙ c.requires.absent in
-    let left = left_sorted c.self.inside.copies c.args.victims.now c.self.inside.window.placed c.in_ok-gone.gone.items c.deref.result.now c.in_ok-gone.ensures.permutation c.deref.ensures.value in
-    let left_then = left_sorted c.self.inside.copies c.args.victims.now c.self.inside.window.placed c.in_ok-gone.gone.items c.deref-2.result.now c.in_ok-gone.ensures.permutation c.deref-2.ensures.value in
-    let offset = some_value c.in-Some.offset c.in-Ok-replace.extent.offset
-    (sym c.in-Some.is ∙ c.fits_without.ensures ∙ ap (λ ps. first (extents_of ps) c.self.inside.window.quota c.args.len) (left ∙ sym left_then) ∙ c.in-Ok-replace.ensures.least) in
-    let copies = c.evict_for.ensures.copies ∙ ap (all_evicted c.args.victims.now) (c.in_ok-insert.ensures.ok ∙ ap (with_entry c.self.inside.copies c.args.id.now) (c.created.ensures ∙ ap (new_kept c.args.kind c.args.len) offset)) in
+    let left_then = ap (λ gs. without gs c.self.inside.window.placed) c.deref.ensures.value
+    ∙ subst (λ (r : Row). without c.args.placement.now.gone.items r.window.placed ≡ placed_without r c.args.placement.now.victims) (sym c.self.view_is) c.requires.place.gone in
+    let offset = some_value c.args.placement.now.offset c.in-Ok-replace.extent.offset
+    (sym (ap (λ ps. first (extents_of ps) c.self.inside.window.quota c.args.len) left_then
+    ∙ subst (λ (r : Row). first (extents_of (placed_without r c.args.placement.now.victims)) r.window.quota c.args.len ≡ Some c.args.placement.now.offset) (sym c.self.view_is) c.requires.place.first)
+    ∙ c.in-Ok-replace.ensures.least) in
+    let copies = c.evict_for.ensures.copies ∙ ap (λ vs. all_evicted vs c.insert.new.self) c.as_slice-victims.ensures ∙ ap (all_evicted c.args.placement.now.victims) (c.in_ok-insert.ensures.ok ∙ ap (with_entry c.self.inside.copies c.args.id.now) (c.created-copy.ensures ∙ ap (new_kept c.args.kind c.args.len) offset)) in
     let placed = ap (λ (w : Region). w.placed) c.in-Ok-replace.ensures.placed
     ∙ (λ i. put_in (c.in-Ok-replace.extent.offset, replicate (c.in-Ok-replace.ensures.length i) 0) (left_then i)) in
     let fresh = ap (lookup (nat_eq c.in-Ok-replace.extent.offset)) (sym left_then) ∙ c.in-Ok-replace.ensures.fresh in
@@ -117,34 +92,36 @@ invariant_of-self-in-Ok-replace c =
       | true ↦ λ entered. entered_unknown c.args.id.now c.self.inside.copies c.insert.new.self put none c.self.inside.order c.enter_new.new.self (c.in-Ok.ensures.standings entered) c.self.invariant.1
       | false ↦ λ there. subst (AreFollowedBut (c.args.id.now ∷ []) c.insert.new.self) (sym (c.in-Ok.ensures.same there)) (placed_unknown c.args.id.now c.self.inside.copies c.insert.new.self put nowhere c.self.inside.order c.self.invariant.1)
     ] refl in
-    let there = new_lies c.self.inside.copies c.self.inside.window.placed c.self.invariant.0 c.args.victims.now c.args.id.now (new_kept c.args.kind c.args.len c.in-Ok-replace.extent.offset) c.args.len c.in-Ok-replace.extent.offset nowhere c.requires.stays refl fresh in
+    let there = new_lies c.self.inside.copies c.self.inside.window.placed c.self.invariant.0 c.args.placement.now.victims c.args.id.now (new_kept c.args.kind c.args.len c.in-Ok-replace.extent.offset) c.args.len c.in-Ok-replace.extent.offset nowhere c.requires.stays refl fresh in
     let now_lie : ArePlaced c.replace.new.self.placed (place_of c.evict_for.new.copies) = subst (λ t. ArePlaced c.replace.new.self.placed (place_of t)) (sym copies)
-    (subst (λ ps. ArePlaced ps (place_of (all_evicted c.args.victims.now (with_entry c.self.inside.copies c.args.id.now (new_kept c.args.kind c.args.len c.in-Ok-replace.extent.offset))))) (sym placed)
-    (replaced_placed c.self.inside.copies c.self.inside.window.placed c.self.invariant.0 c.args.victims.now c.args.id.now (new_kept c.args.kind c.args.len c.in-Ok-replace.extent.offset) c.args.len c.in-Ok-replace.extent.offset nowhere c.requires.stays refl fresh)) in (
+    (subst (λ ps. ArePlaced ps (place_of (all_evicted c.args.placement.now.victims (with_entry c.self.inside.copies c.args.id.now (new_kept c.args.kind c.args.len c.in-Ok-replace.extent.offset))))) (sym placed)
+    (replaced_placed c.self.inside.copies c.self.inside.window.placed c.self.invariant.0 c.args.placement.now.victims c.args.id.now (new_kept c.args.kind c.args.len c.in-Ok-replace.extent.offset) c.args.len c.in-Ok-replace.extent.offset nowhere c.requires.stays refl fresh)) in (
       now_lie,
       c.evict_for.ensures.standings
           (alone c.replace.new.self.placed c.evict_for.new.copies c.args.id.now c.in-Ok-replace.extent now_lie (ap (λ t. place_of t c.args.id.now) copies ∙ there ∙ (λ i. Some (record { offset = c.in-Ok-replace.extent.offset; length = sym c.in-Ok-replace.ensures.length i }))) c.in-Ok-replace.ensures.small)
           unknown,
     )
 
-pub returns-clause-some : goal.returns-clause-some
-returns-clause-some c unlisted =
-    let left = left_sorted c.self.inside.copies c.args.victims.now c.self.inside.window.placed c.in_ok-gone.gone.items c.deref.result.now c.in_ok-gone.ensures.permutation c.deref.ensures.value in
-    let left_then = left_sorted c.self.inside.copies c.args.victims.now c.self.inside.window.placed c.in_ok-gone.gone.items c.deref-2.result.now c.in_ok-gone.ensures.permutation c.deref-2.ensures.value in
-    let offset = some_value c.in-Some.offset c.in-Ok-replace.extent.offset
-    (sym c.in-Some.is ∙ c.fits_without.ensures ∙ ap (λ ps. first (extents_of ps) c.self.inside.window.quota c.args.len) (left ∙ sym left_then) ∙ c.in-Ok-replace.ensures.least) in
-    let copies = c.evict_for.ensures.copies ∙ ap (all_evicted c.args.victims.now) (c.in_ok-insert.ensures.ok ∙ ap (with_entry c.self.inside.copies c.args.id.now) (c.created.ensures ∙ ap (new_kept c.args.kind c.args.len) offset)) in
+pub returns-in-Ok-replace-clause-ok : goal.returns-in-Ok-replace-clause-ok
+returns-in-Ok-replace-clause-ok c unlisted =
+    let left_then = ap (λ gs. without gs c.self.inside.window.placed) c.deref.ensures.value
+    ∙ subst (λ (r : Row). without c.args.placement.now.gone.items r.window.placed ≡ placed_without r c.args.placement.now.victims) (sym c.self.view_is) c.requires.place.gone in
+    let offset = some_value c.args.placement.now.offset c.in-Ok-replace.extent.offset
+    (sym (ap (λ ps. first (extents_of ps) c.self.inside.window.quota c.args.len) left_then
+    ∙ subst (λ (r : Row). first (extents_of (placed_without r c.args.placement.now.victims)) r.window.quota c.args.len ≡ Some c.args.placement.now.offset) (sym c.self.view_is) c.requires.place.first)
+    ∙ c.in-Ok-replace.ensures.least) in
+    let copies = c.evict_for.ensures.copies ∙ ap (λ vs. all_evicted vs c.insert.new.self) c.as_slice-victims.ensures ∙ ap (all_evicted c.args.placement.now.victims) (c.in_ok-insert.ensures.ok ∙ ap (with_entry c.self.inside.copies c.args.id.now) (c.created-copy.ensures ∙ ap (new_kept c.args.kind c.args.len) offset)) in
     let window = c.in-Ok-replace.ensures.placed
     ∙ (λ i. region (put_in (c.in-Ok-replace.extent.offset, replicate (c.in-Ok-replace.ensures.length i) 0) (left_then i))) in
     let entered = c.in-Ok.ensures.ids (c.in-Ok.ensures.entered ∙ ap not (ap (λ (r : Row). is_among r.order c.args.id.now) c.self.view_is ∙ unlisted)) in
-    let order = c.evict_for.ensures.ids ∙ (λ i. without_missing (copies i) c.args.victims.now (entered i)) in
+    let order = c.evict_for.ensures.ids ∙ (λ i. without_missing (copies i) (c.as_slice-victims.ensures i) (entered i)) in
     record {
-      least = ap (λ (r : Row). first (extents_of (placed_without r c.args.victims.now)) r.window.quota c.args.len) (sym c.self.view_is)
+      least = ap (λ (r : Row). first (extents_of (placed_without r c.args.placement.now.victims)) r.window.quota c.args.len) (sym c.self.view_is)
           ∙ ap (λ ps. first (extents_of ps) c.self.inside.window.quota c.args.len) (sym left_then) ∙ c.in-Ok-replace.ensures.least;
       length = c.in-Ok-replace.ensures.length;
-      row = (λ i. row_of (window i) (copies i) (order i)) ∙ ap (λ (r : Row). replaced r (Some c.args.id.now) c.args.id.now (new_kept c.args.kind c.args.len c.in-Ok-replace.extent.offset) c.args.len c.in-Ok-replace.extent.offset c.args.victims.now) c.self.view_is;
+      row = (λ i. row_of (window i) (copies i) (order i)) ∙ ap (λ (r : Row). replaced r (Some c.args.id.now) c.args.id.now (new_kept c.args.kind c.args.len c.in-Ok-replace.extent.offset) c.args.len c.in-Ok-replace.extent.offset c.args.placement.now.victims) c.self.view_is;
       small = omega (arith, c.in-Ok-replace.ensures.small);
-      fresh = ap (λ (r : Row). lookup (nat_eq c.in-Ok-replace.extent.offset) (placed_without r c.args.victims.now)) (sym c.self.view_is) ∙ ap (lookup (nat_eq c.in-Ok-replace.extent.offset)) (sym left_then) ∙ c.in-Ok-replace.ensures.fresh;
+      fresh = ap (λ (r : Row). lookup (nat_eq c.in-Ok-replace.extent.offset) (placed_without r c.args.placement.now.victims)) (sym c.self.view_is) ∙ ap (lookup (nat_eq c.in-Ok-replace.extent.offset)) (sym left_then) ∙ c.in-Ok-replace.ensures.fresh;
     }
   where
     region : List (ℕ × List ℕ) → Region
@@ -153,5 +130,5 @@ returns-clause-some c unlisted =
     row_of : Region → ById Kept → List ObjectId → Row
     row_of window copies order = record { job = c.self.inside.job.0; window = window; device = c.self.inside.device; copies = copies; order = order; fetches_begun = c.self.inside.fetches_begun; spill_failed = c.self.inside.spill_failed; ended_tasks = c.self.inside.ended_tasks.keys }
 
-pub returns-clause-small : goal.returns-clause-small
-returns-clause-small c = omega (arith, c.in-Ok-replace.ensures.small)
+pub returns-in-Ok-replace-clause-small : goal.returns-in-Ok-replace-clause-small
+returns-in-Ok-replace-clause-small c = omega (arith, c.in-Ok-replace.ensures.small)

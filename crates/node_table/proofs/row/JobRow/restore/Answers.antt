@@ -5,6 +5,7 @@ use Rattle.obj_id.specs.declared.commands.CopyState.TheVariants.{Away}
 use Rattle.obj_id.specs.declared.commands.Reply.TheVariants as reply
 use Rattle.obj_id.specs.declared.refusals.Refusal.TheVariants.{TooMany}
 use Rattle.private_store.specs.declared.inputs.Input.TheVariants as input
+use Rattle.job_region.specs.Region.{place_for}
 use Rattle.private_store.specs.Copies.{is_away}
 use Rattle.private_store.specs.Kept.{is_remembered}
 use Rattle.private_store.specs.Limits.{most_works, has_numbers}
@@ -102,3 +103,6 @@ returns-clause-late c =
     c.plan_room-plan.result (λ hands bytes contents h. c.plan_room-plan.ensures.plan hands bytes contents own h) (λ makes.
     ap (λ j. has_numbers (used_by c.args.works.now j) 1) (sym same) ∙ ap (λ n. has_numbers n 1) (sym c.asked-asked.ensures.last)
     ∙ numbers_left c.makes_place.result c.asked-asked.result c.else-makes_place.either c.asked-asked.type_inv (c.makes_place.ensures ∙ makes)) may mine) c.restore_by.ensures.late
+
+pub restore_by-requires-clause-fits : goal.restore_by-requires-clause-fits
+restore_by-requires-clause-fits c offset fits = ap (λ (r : Row). place_for r.window c.length-len.result) c.plan_room-plan.ensures.same ∙ c.plan_room-plan.ensures.fits offset fits

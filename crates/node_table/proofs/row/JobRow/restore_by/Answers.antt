@@ -11,7 +11,7 @@ use Rattle.private_store.specs.Tables.{at}
 use Rattle.store_facts.proofs.Tests.{some_value}
 use Rattle.spill_work.specs.Line.{in_flight, same_job, used_by}
 use Rattle.node_table.specs.Checks.{visible_state, fault_at}
-use Rattle.node_table.specs.Evicting.{MayGo}
+use Rattle.node_table.specs.Evicting.{IsPlacement, MayGo}
 use Rattle.node_table.specs.Kept.{Kept, waits_for_place}
 use Rattle.node_table.specs.MadeRooms.{IsMade, TellsRoom, WaitsForPlace, is_told}
 use Rattle.node_table.specs.Outcomes.{given_of}
@@ -26,50 +26,50 @@ use Rattle.node_table.proofs.row.JobRow.restore_by.Goals as goal
 
 pub restore_in_place-requires-clause-visible : goal.restore_in_place-requires-clause-visible
 restore_in_place-requires-clause-visible c =
-    let kept = subst (λ m. WaitsForPlace m c.args.self.now c.args.works.now c.room_by.new.self c.room_by.new.works) c.in-Place.is c.in_ok-victims.ensures.place in
+    let kept = subst (λ m. WaitsForPlace m c.args.self.now c.args.works.now c.args.len c.room_by.new.self c.room_by.new.works) c.in-Place.is c.in_ok-placement.ensures.place in
     ap (λ (r : Row). visible_state (at r.copies c.args.id.now)) kept.0 ∙ c.requires.visible
 
 pub restore_in_place-requires-clause-sound : goal.restore_in_place-requires-clause-sound
 restore_in_place-requires-clause-sound c =
-    let kept = subst (λ m. WaitsForPlace m c.args.self.now c.args.works.now c.room_by.new.self c.room_by.new.works) c.in-Place.is c.in_ok-victims.ensures.place in
+    let kept = subst (λ m. WaitsForPlace m c.args.self.now c.args.works.now c.args.len c.room_by.new.self c.room_by.new.works) c.in-Place.is c.in_ok-placement.ensures.place in
     ap (λ (r : Row). fault_at r.copies c.args.id.now) kept.0 ∙ c.requires.sound
 
 pub restore_in_place-requires-clause-idle : goal.restore_in_place-requires-clause-idle
 restore_in_place-requires-clause-idle c =
-    let kept = subst (λ m. WaitsForPlace m c.args.self.now c.args.works.now c.room_by.new.self c.room_by.new.works) c.in-Place.is c.in_ok-victims.ensures.place in
+    let kept = subst (λ m. WaitsForPlace m c.args.self.now c.args.works.now c.args.len c.room_by.new.self c.room_by.new.works) c.in-Place.is c.in_ok-placement.ensures.place in
     subst (λ w. in_flight w c.args.job < most_works) (sym kept.1) c.requires.idle
 
 pub restore_in_place-requires-clause-numbered : goal.restore_in_place-requires-clause-numbered
 restore_in_place-requires-clause-numbered c =
-    let kept = subst (λ m. WaitsForPlace m c.args.self.now c.args.works.now c.room_by.new.self c.room_by.new.works) c.in-Place.is c.in_ok-victims.ensures.place in
-    ap (λ w. has_numbers (used_by w c.args.job) 1) kept.1 ∙ c.requires.numbered (c.in_ok-victims.ensures.made (ap is_told c.in-Place.is))
+    let kept = subst (λ m. WaitsForPlace m c.args.self.now c.args.works.now c.args.len c.room_by.new.self c.room_by.new.works) c.in-Place.is c.in_ok-placement.ensures.place in
+    ap (λ w. has_numbers (used_by w c.args.job) 1) kept.1 ∙ c.requires.numbered (c.in_ok-placement.ensures.made (ap is_told c.in-Place.is))
 
 pub restore_in_place-requires-clause-fresh : goal.restore_in_place-requires-clause-fresh
 restore_in_place-requires-clause-fresh c =
-    let kept = subst (λ m. WaitsForPlace m c.args.self.now c.args.works.now c.room_by.new.self c.room_by.new.works) c.in-Place.is c.in_ok-victims.ensures.place in
+    let kept = subst (λ m. WaitsForPlace m c.args.self.now c.args.works.now c.args.len c.room_by.new.self c.room_by.new.works) c.in-Place.is c.in_ok-placement.ensures.place in
     subst (λ w. used_by w c.args.job ≡ 0 → lookup (same_job c.args.job) w.used ≡ None) (sym kept.1) c.requires.fresh
 
 pub restore_in_place-requires-clause-waits : goal.restore_in_place-requires-clause-waits
 restore_in_place-requires-clause-waits c =
-    let kept = subst (λ m. WaitsForPlace m c.args.self.now c.args.works.now c.room_by.new.self c.room_by.new.works) c.in-Place.is c.in_ok-victims.ensures.place in
+    let kept = subst (λ m. WaitsForPlace m c.args.self.now c.args.works.now c.args.len c.room_by.new.self c.room_by.new.works) c.in-Place.is c.in_ok-placement.ensures.place in
     ap (λ (r : Row). option_map_or (waits_for_place c.args.len) (at r.copies c.args.id.now) false) kept.0 ∙ c.requires.waits
 
 pub restore_in_place-requires-clause-may_go : goal.restore_in_place-requires-clause-may_go
 restore_in_place-requires-clause-may_go c =
-    let kept = subst (λ m. WaitsForPlace m c.args.self.now c.args.works.now c.room_by.new.self c.room_by.new.works) c.in-Place.is c.in_ok-victims.ensures.place in
-    subst (λ (r : Row). MayGo r.copies c.as_slice.result.now) (sym kept.0) (subst (MayGo c.args.self.now.copies) (sym c.as_slice.ensures) kept.2)
+    let kept = subst (λ m. WaitsForPlace m c.args.self.now c.args.works.now c.args.len c.room_by.new.self c.room_by.new.works) c.in-Place.is c.in_ok-placement.ensures.place in
+    subst (λ (r : Row). MayGo r.copies c.in-Place.placement.victims) (sym kept.0) kept.2
 
 pub returns-in-Place-clause-ok : goal.returns-in-Place-clause-ok
 returns-in-Place-clause-ok c = each_ok c.restore_in_place.result (λ o told session hands bytes contents own mine alive h is_plan.
-    let kept = subst (λ m. WaitsForPlace m c.args.self.now c.args.works.now c.room_by.new.self c.room_by.new.works) c.in-Place.is c.in_ok-victims.ensures.place in
-    let makes = subst (λ m. IsMade m c.args.self.now (beside_of c.args.works.now hands bytes c.args.self.now.job) contents c.args.len c.room_by.new.self (beside_of c.room_by.new.works hands bytes c.args.self.now.job)) c.in-Place.is (c.in_ok-victims.ensures.ok hands bytes contents own h is_plan) in
+    let kept = subst (λ m. WaitsForPlace m c.args.self.now c.args.works.now c.args.len c.room_by.new.self c.room_by.new.works) c.in-Place.is c.in_ok-placement.ensures.place in
+    let makes = subst (λ m. IsMade m c.args.self.now (beside_of c.args.works.now hands bytes c.args.self.now.job) contents c.args.len c.room_by.new.self (beside_of c.room_by.new.works hands bytes c.args.self.now.job)) c.in-Place.is (c.in_ok-placement.ensures.ok hands bytes contents own h is_plan) in
     subst (λ w. c.args.job ≡ record { 0 = c.args.self.now.job } → (c.args.id.now.job.0 == c.args.self.now.job) ≡ true → is_remembered c.args.self.now.ended_tasks c.args.id.now.task ≡ false → IsShown c.args.self.now (beside_of w hands bytes c.args.self.now.job) contents
-    → MakesPlace (make_room c.args.self.now.order (shape_of c.args.self.now (beside_of w hands bytes c.args.self.now.job)) c.args.len) (shape_of c.args.self.now (beside_of w hands bytes c.args.self.now.job)) c.args.len c.as_slice.result.now
+    → MakesPlace (make_room c.args.self.now.order (shape_of c.args.self.now (beside_of w hands bytes c.args.self.now.job)) c.args.len) (shape_of c.args.self.now (beside_of w hands bytes c.args.self.now.job)) c.args.len c.in-Place.placement.victims
     → TakesStep c.args.node c.args.self.now (beside_of w hands bytes c.args.self.now.job) contents (input.Call session (command.Get c.args.id.now)) (given_of o) c.restore_in_place.new.self (beside_of c.restore_in_place.new.works hands bytes c.args.self.now.job)) kept.1
     (subst (λ r. c.args.job ≡ record { 0 = r.job } → (c.args.id.now.job.0 == r.job) ≡ true → is_remembered r.ended_tasks c.args.id.now.task ≡ false → IsShown r (beside_of c.room_by.new.works hands bytes r.job) contents
-    → MakesPlace (make_room r.order (shape_of r (beside_of c.room_by.new.works hands bytes r.job)) c.args.len) (shape_of r (beside_of c.room_by.new.works hands bytes r.job)) c.args.len c.as_slice.result.now
+    → MakesPlace (make_room r.order (shape_of r (beside_of c.room_by.new.works hands bytes r.job)) c.args.len) (shape_of r (beside_of c.room_by.new.works hands bytes r.job)) c.args.len c.in-Place.placement.victims
     → TakesStep c.args.node r (beside_of c.room_by.new.works hands bytes r.job) contents (input.Call session (command.Get c.args.id.now)) (given_of o) c.restore_in_place.new.self (beside_of c.restore_in_place.new.works hands bytes r.job)) kept.0 (told session hands bytes contents)) own mine alive h
-    (subst (MakesPlace (make_room c.args.self.now.order (shape_of c.args.self.now (beside_of c.args.works.now hands bytes c.args.self.now.job)) c.args.len) (shape_of c.args.self.now (beside_of c.args.works.now hands bytes c.args.self.now.job)) c.args.len) (sym c.as_slice.ensures) makes)) c.restore_in_place.ensures.ok
+    makes) c.restore_in_place.ensures.ok
 
 pub returns-in-Told-clause-ok : goal.returns-in-Told-clause-ok
 returns-in-Told-clause-ok c =
@@ -78,7 +78,7 @@ returns-in-Told-clause-ok c =
     let long : c.args.len ≡ v.k.copy.length = sym w.long ∙ ap (λ (y : Kept). y.copy.length) (some_value w.k v.k (sym w.found ∙ v.found)) in
     let sound = sym (ap (option_and_then (λ (k : Kept). k.copy.fault)) v.found) ∙ c.requires.sound in
     each_ok c.told.result (λ o said session hands bytes contents own mine alive h is_plan.
-    let made = subst (λ m. IsMade m c.args.self.now (beside_of c.args.works.now hands bytes c.args.self.now.job) contents c.args.len c.room_by.new.self (beside_of c.room_by.new.works hands bytes c.args.self.now.job)) c.in-Told.is (c.in_ok-victims.ensures.ok hands bytes contents own h is_plan) in
+    let made = subst (λ m. IsMade m c.args.self.now (beside_of c.args.works.now hands bytes c.args.self.now.job) contents c.args.len c.room_by.new.self (beside_of c.room_by.new.works hands bytes c.args.self.now.job)) c.in-Told.is (c.in_ok-placement.ensures.ok hands bytes contents own h is_plan) in
     let tells = subst (λ n. TellsRoom c.args.self.now (beside_of c.args.works.now hands bytes c.args.self.now.job) contents n c.in-Told.refusal c.room_by.new.self (beside_of c.room_by.new.works hands bytes c.args.self.now.job)) long made in
     subst (λ t. TakesStep c.args.node c.args.self.now (beside_of c.args.works.now hands bytes c.args.self.now.job) contents (input.Call session (command.Get c.args.id.now)) t c.room_by.new.self (beside_of c.room_by.new.works hands bytes c.args.self.now.job)) (sym said)
     (tells.tells c.args.node (input.Call session (command.Get c.args.id.now)) (f c.args.node c.args.self.now (beside_of c.args.works.now hands bytes c.args.self.now.job) contents session c.args.id.now mine alive h v.k v.found v.stays v.is sound)
@@ -86,11 +86,19 @@ returns-in-Told-clause-ok c =
     (by_no_room c.args.node c.args.self.now (beside_of c.args.works.now hands bytes c.args.self.now.job) contents session c.args.id.now mine alive h v.k v.found v.stays v.is sound
     (few_works c.args.works.now c.args.job c.args.self.now.job own c.requires.idle)))) c.told.ensures.ok
 
-pub returns-in_err-victims-clause-late : goal.returns-in_err-victims-clause-late
-returns-in_err-victims-clause-late c = always_err c.from_residual.result c.in_err-victims.ensures.late
+pub returns-in_err-placement-clause-late : goal.returns-in_err-placement-clause-late
+returns-in_err-placement-clause-late c = always_err c.from_residual.result c.in_err-placement.ensures.late
 
 pub returns-in-Place-clause-late : goal.returns-in-Place-clause-late
-returns-in-Place-clause-late c = always_err c.restore_in_place.result (placed_unrefused c.args.plan (c.in_ok-victims.ensures.made (ap is_told c.in-Place.is)))
+returns-in-Place-clause-late c = always_err c.restore_in_place.result (placed_unrefused c.args.plan (c.in_ok-placement.ensures.made (ap is_told c.in-Place.is)))
 
-pub room_by-requires : goal.room_by-requires
-room_by-requires c = c.requires.asks
+pub room_by-requires-clause-asks : goal.room_by-requires-clause-asks
+room_by-requires-clause-asks c = c.requires.asks
+
+pub room_by-requires-clause-fits : goal.room_by-requires-clause-fits
+room_by-requires-clause-fits c = c.requires.fits
+
+pub restore_in_place-requires-clause-place : goal.restore_in_place-requires-clause-place
+restore_in_place-requires-clause-place c =
+    let kept = subst (λ m. WaitsForPlace m c.args.self.now c.args.works.now c.args.len c.room_by.new.self c.room_by.new.works) c.in-Place.is c.in_ok-placement.ensures.place in
+    subst (λ (r : Row). IsPlacement r c.args.len c.in-Place.placement) (sym kept.0) kept.3

@@ -8,6 +8,7 @@ use Rattle.node_table.specs.declared.room.RoomPlan.TheVariants.{Fits, Evict, Ask
 use Rattle.node_table.proofs.Asking.{may_ask_fewer}
 use Rattle.node_table.proofs.Getting.{each_ok}
 use Rattle.node_table.proofs.Planning.{planned_as}
+use Rattle.node_table.proofs.Placements.{no_victims}
 use Rattle.node_table.proofs.Rooms.{refusal_told, failure_told}
 use Rattle.node_table.proofs.row.JobRow.room_by.Goals as goal
 
@@ -15,17 +16,28 @@ pub returns-in-Fits-clause-ok : goal.returns-in-Fits-clause-ok
 returns-in-Fits-clause-ok c hands bytes contents own h is =
     let beside = beside_of c.args.works.now hands bytes c.args.self.now.job in
     subst (MakesPlace (make_room c.args.self.now.order (shape_of c.args.self.now beside) c.args.len) (shape_of c.args.self.now beside) c.args.len) (sym c.new.ensures)
-    (planned_as c.args.self.now beside contents h c.args.len c.args.plan Fits is c.in-Fits.is)
+    (planned_as c.args.self.now beside contents h c.args.len c.args.plan (Fits c.in-Fits.offset) is c.in-Fits.is)
 
 pub returns-in-Fits-clause-place : goal.returns-in-Fits-clause-place
-returns-in-Fits-clause-place c = (refl, refl, subst (MayGo c.args.self.now.copies) (sym c.new.ensures) (record { sealed = refl; few = omega arith }))
+returns-in-Fits-clause-place c =
+    let none = c.new.ensures in
+    let gone = c.new-in-Fits.ensures.items in (
+      refl,
+      refl,
+      subst (MayGo c.args.self.now.copies) (sym none) (record { sealed = refl; few = omega arith }),
+      no_victims c.args.self.now c.args.len (record { victims = c.new.result; gone = c.new-in-Fits.result; offset = c.in-Fits.offset }) none gone (c.requires.fits c.in-Fits.offset c.in-Fits.is),
+    )
 
 pub returns-in_ok-victims-in-Evict-clause-ok : goal.returns-in_ok-victims-in-Evict-clause-ok
-returns-in_ok-victims-in-Evict-clause-ok c hands bytes contents own h is =
+returns-in_ok-victims-in-Evict-clause-ok c = each_ok c.place_of_victims.result (λ made is_made hands bytes contents own h is.
     let beside = beside_of c.args.works.now hands bytes c.args.self.now.job in
-    subst (MakesPlace (make_room c.args.self.now.order (shape_of c.args.self.now beside) c.args.len) (shape_of c.args.self.now beside) c.args.len)
+    is_made beside contents h
+    (subst (MakesPlace (make_room c.args.self.now.order (shape_of c.args.self.now beside) c.args.len) (shape_of c.args.self.now beside) c.args.len)
     (sym (c.in_ok-victims-in-Evict.ensures.victims c.args.works.now hands bytes contents h (sym is ∙ c.in-Evict.is)))
-    (planned_as c.args.self.now beside contents h c.args.len c.args.plan Evict is c.in-Evict.is)
+    (planned_as c.args.self.now beside contents h c.args.len c.args.plan Evict is c.in-Evict.is))) c.place_of_victims.ensures.ok
+
+pub returns-in_ok-victims-in-Evict-clause-place : goal.returns-in_ok-victims-in-Evict-clause-place
+returns-in_ok-victims-in-Evict-clause-place c = each_ok c.place_of_victims.result (λ made waits. waits c.args.works.now) c.place_of_victims.ensures.place
 
 pub returns-in_ok-ids-in-Ask-clause-ok : goal.returns-in_ok-ids-in-Ask-clause-ok
 returns-in_ok-ids-in-Ask-clause-ok c = each_ok c.ask_writes.result (λ made asked hands bytes contents own h is.
@@ -50,4 +62,4 @@ returns-in-Refuse-clause-ok c hands bytes contents own h is =
 pub ask_writes-requires : goal.ask_writes-requires
 ask_writes-requires c =
     may_ask_fewer c.args.works.now c.args.job c.in-Ask.count (length c.as_slice.result.now) (subst (λ (ids : List ObjectId). length ids ≤ c.in-Ask.count) (sym c.as_slice.ensures) c.in_ok-ids-in-Ask.ensures.few)
-    (c.requires c.in-Ask.count c.in-Ask.is)
+    (c.requires.asks c.in-Ask.count c.in-Ask.is)

@@ -1,4 +1,5 @@
 use Rattle.std.proofs.Common.{◌≡◌, sym, ap, subst, ◌∙◌}
+use Rattle.job_region.specs.Region.{place_for}
 use Rattle.node_table.specs.MadeRooms.{IsMade, WaitsForPlace}
 use Rattle.node_table.specs.RoomPlans.{planned_by, refuses}
 use Rattle.node_table.specs.Row.{Row, beside_of, shape_of}
@@ -16,7 +17,7 @@ returns-clause-ok c = each_ok c.room_by.result (λ made told hands bytes content
 
 pub returns-clause-place : goal.returns-clause-place
 returns-clause-place c = each_ok c.room_by.result (λ made waits.
-    subst (λ (r : Row). WaitsForPlace made r c.args.works.now c.room_by.new.self c.room_by.new.works) c.plan_room-plan.ensures.same waits) c.room_by.ensures.place
+    subst (λ (r : Row). WaitsForPlace made r c.args.works.now c.args.len c.room_by.new.self c.room_by.new.works) c.plan_room-plan.ensures.same waits) c.room_by.ensures.place
 
 pub returns-clause-made : goal.returns-clause-made
 returns-clause-made c = each_ok c.room_by.result (λ made makes untold own hands bytes contents h.
@@ -27,3 +28,6 @@ returns-clause-late c = each_err c.room_by.result (λ may own hands bytes conten
 
 pub returns-clause-err : goal.returns-clause-err
 returns-clause-err c = each_err c.room_by.result (λ same. same ∙ c.plan_room-plan.ensures.same) c.room_by.ensures.err
+
+pub room_by-requires-clause-fits : goal.room_by-requires-clause-fits
+room_by-requires-clause-fits c offset fits = ap (λ (r : Row). place_for r.window c.args.len) c.plan_room-plan.ensures.same ∙ c.plan_room-plan.ensures.fits offset fits

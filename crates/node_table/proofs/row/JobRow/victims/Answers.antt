@@ -5,7 +5,7 @@ use Rattle.private_store.specs.Room.{plan}
 use Rattle.private_store.specs.Tables.{at}
 use Rattle.lru_evictor.specs.declared.facts.CopyFacts.{CopyFacts}
 use Rattle.lru_evictor.specs.Plans.{kind_of, listed}
-use Rattle.node_table.specs.RoomPlans.{facts_of}
+use Rattle.node_table.specs.RoomPlans.{place_as_it_is, facts_of}
 use Rattle.node_table.specs.Row.{beside_of, shape_of}
 use Rattle.node_table.proofs.Getting.{each_ok, ok_both}
 use Rattle.node_table.proofs.Planning.{of_copies, described_as, device_here, evicts-kind}
@@ -22,7 +22,7 @@ returns-clause-victims c = each_ok c.victims.result (λ ids found line hands byt
     found s (device_here row beside contents h placed c.args.len)
     (of_copies row beside contents h placed c.args.len c.copies.result.now c.copies.ensures.copies c.use_order-order.result.now own c.use_order-order.ensures.standings)
     (described_as row beside contents h placed c.args.len c.window.result.now c.window.ensures c.copies.result.now c.copies.ensures.copies)
-    (ap (λ o. kind_of (plan o s c.args.len)) own ∙ evicts-kind s.works_asked s.spill_failed (kind_of (plan row.order s c.args.len)) evicts)
+    (ap (λ o. kind_of (plan o s c.args.len)) own ∙ evicts-kind s.works_asked s.spill_failed (place_as_it_is s c.args.len) (kind_of (plan row.order s c.args.len)) evicts)
     ∙ ap (λ o. listed (plan o s c.args.len)) own) c.victims.ensures.plan
 
 pub returns-clause-may_go : goal.returns-clause-may_go
