@@ -61,7 +61,7 @@ module _ (need : ℕ) (n : Node Hole ℕ) (h : ToldAt offset_of IsAny IsGreatest
     pub goes_right : (g : ℕ) → IsGreatest g (items n.left) → g < need → first_fitting need here ≡ first_fitting need (items n.right)
     goes_right g is lt = rw not_here (fitting_none need (items n.left) (items n.right) (omega (arith, lt, is)))
 
--- where one is at an offset, that hole fits
+-- where all begin after an offset, so does the first of some length
 fits_above : (n o : ℕ) (h : Hole) (xs : List Hole) → AllOf (λ x. o < x.offset) xs → first_fitting n xs ≡ Some h → o < h.offset
 fits_above n o h [] above found = absurd (none-some h found)
 fits_above n o h (x ∷ xs) above found = ⊎_elim
