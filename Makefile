@@ -27,7 +27,8 @@ run:
 # A run builds anew and takes about half a minute; for more of them, make faults FAULTS="$$(seq 1 60)". Of frame_tests only
 # the tests of memory are run: the others make texts and lists of their own, which they don't ask for again.
 FAULTS = 1 2 3 5 8 13
-TEST_CRATES = leaf_tests table_tests device_tests text_tests frame_tests session_tests program_tests node_tests
+TEST_CRATES = words_tests copy_tests job_tests node_tests device_tests cluster_tests text_tests frame_tests session_tests call_tests \
+	program_tests
 faults:
 	@set -e; for crate in $(TEST_CRATES); do for n in $(FAULTS); do \
 	    case $$crate in frame_tests) only="-- memory";; *) only="";; esac; \

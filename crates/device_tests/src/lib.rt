@@ -1,11 +1,11 @@
-//! Tests of the devices, of the hands and of the links: what no contract says, and outside values.
+//! Tests of the devices, of the directory and of the links: what no contract says, and outside values.
 #![tactic(auto)]
 
 #[cfg(test)]
 mod devices;
 #[cfg(test)]
-mod folders;
+mod directory;
 #[cfg(test)]
-mod hands;
+mod folders;
 #[cfg(test)]
 mod links;

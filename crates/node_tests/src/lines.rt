@@ -1,66 +1,15 @@
-//! Steps and events as lines spell them, if there are two nodes.
-ghost use Rattle.std.specs.Prelude.{◌≡◌, true, IfOk};
-ghost use Rattle.world_core.specs.Worlds.{is_within as is_within_lem};
-
-use bytes::Bytes;
+//! Events as lines spell them, if there are two nodes.
 use obj_id::DeviceAnswer;
 use private_store::{Event, Step};
-use schedule_text::{Line, Outcome, read_line};
+use schedule_text::{Line, read_line};
 use std::alloc::{AllocError, Global};
 use std::process::Abort;
-use world_core::is_within;
 
 /// What the line says, asked for once more if memory ran out.
 fn read(alloc: Global, line: &str) -> Result<Option<Line>, AllocError> {
     match read_line(alloc, line, 2) {
         Ok(read) => Ok(read),
         Err(_) => read_line(alloc, line, 2),
-    }
-}
-
-/// What is handed in for a work on 32 bytes that were never written: zeros, whether it read or wrote them; zeros but for one
-/// bit; or a failure.
-fn answer(alloc: Global, outcome: Outcome) -> Result<DeviceAnswer, AllocError> {
-    match outcome {
-        Outcome::Ok => Ok(DeviceAnswer::Bytes(bytes_of(alloc, &[0; 32])?)),
-        Outcome::Damage => {
-            let mut bytes = [0; 32];
-            bytes[0] = 1;
-            Ok(DeviceAnswer::Bytes(bytes_of(alloc, &bytes)?))
-        }
-        Outcome::Fail => Ok(DeviceAnswer::Failed),
-    }
-}
-
-/// The bytes, asked for once more if memory ran out.
-fn bytes_of(alloc: Global, bytes: &[u8]) -> Result<Bytes, AllocError> {
-    match Bytes::copy_from_slice(alloc, bytes) {
-        Ok(copied) => Ok(copied),
-        Err(_) => Bytes::copy_from_slice(alloc, bytes),
-    }
-}
-
-/// The step that the line spells.
-pub(crate) fn step_of(rt: &impl Abort, alloc: Global, line: &str) -> Result<Step, AllocError>
-    ensures { IfOk result (λ step. is_within_lem 2 step ≡ true) }
-{
-    match read(alloc, line)? {
-        Some(Line::Step(step)) if is_within(2, &step) => Ok(step),
-        Some(
-            Line::Finish {
-                node,
-                job,
-                number,
-                outcome,
-            },
-        ) => {
-            let step = Step::At(node, Event::Finish(job, number, answer(alloc, outcome)?));
-            if !is_within(2, &step) {
-                panic!(rt; "not a step");
-            }
-            Ok(step)
-        }
-        _ => panic!(rt; "not a step"),
     }
 }
 

@@ -1,0 +1,12 @@
+//! Tests of what no contract of a lock can tell: which entries the receipts of calls name, what a worker does with a device that
+//! fails, what the directory is told, and what a session's stream is answered at a node.
+#![tactic(auto)]
+
+#[cfg(test)]
+mod calls;
+#[cfg(test)]
+mod frames;
+#[cfg(test)]
+mod trials;
+#[cfg(test)]
+mod works;
