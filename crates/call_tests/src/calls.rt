@@ -44,14 +44,26 @@ ok
 /// The commands of an object that is created, filled, sealed, held, read and released.
 fn command(alloc: Global, id: ObjectId, turn: u64) -> Result<Command<Bytes>, AllocError> {
     match turn {
-        0 => Ok(Command::Create(id, Kind::Primary, 20)),
+        0 => Ok(Command::Create {
+            id,
+            kind: Kind::Primary,
+            length: 20,
+        }),
         1 => {
             let hello = Vec::from_slice(alloc, b"Hello")?;
-            Ok(Command::Write(id, 0, Bytes::from_vec(hello)?))
+            Ok(Command::Write {
+                id,
+                offset: 0,
+                bytes: Bytes::from_vec(hello)?,
+            })
         }
         2 => Ok(Command::Seal(id)),
         3 => Ok(Command::Get(id)),
-        4 => Ok(Command::Read(id, 0, 20)),
+        4 => Ok(Command::Read {
+            id,
+            offset: 0,
+            count: 20,
+        }),
         _ => Ok(Command::Release(id)),
     }
 }

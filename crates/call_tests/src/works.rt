@@ -27,7 +27,11 @@ enum Asked {
 
 fn command(asked: &Asked) -> Command<Bytes> {
     match asked {
-        Asked::Create(id, length) => Command::Create(*id, Kind::Primary, *length),
+        Asked::Create(id, length) => Command::Create {
+            id: *id,
+            kind: Kind::Primary,
+            length: *length,
+        },
         Asked::Seal(id) => Command::Seal(*id),
         Asked::Get(id) => Command::Get(*id),
         Asked::Delete(id) => Command::Delete(*id),

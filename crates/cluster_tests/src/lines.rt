@@ -54,7 +54,14 @@ pub(crate) fn step_of(rt: &impl Abort, alloc: Global, line: &str) -> Result<Step
                 outcome,
             },
         ) => {
-            let step = Step::At(node, Event::Finish(job, number, answer(alloc, outcome)?));
+            let step = Step::At(
+                node,
+                Event::Finish {
+                    job,
+                    number,
+                    answer: answer(alloc, outcome)?,
+                },
+            );
             if !is_within(2, &step) {
                 panic!(rt; "not a step");
             }

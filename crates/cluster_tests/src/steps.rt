@@ -40,7 +40,14 @@ fn usage(world: &mut World, node: u32, job: u32) -> Option<Usage>
     requires node { node < 2 }
     ensures { length world.new.nodes ≡ 2 }
 {
-    let step = Step::At(node, Event::Call(JobNo(job), 1, Command::Usage));
+    let step = Step::At(
+        node,
+        Event::Call {
+            job: JobNo(job),
+            session: 1,
+            command: Command::Usage,
+        },
+    );
     match world.step(&step) {
         StepAnswer::Told(Reply::Usage(usage)) => Some(usage),
         _ => None,
@@ -291,7 +298,7 @@ fn told_to(alloc: Global, job: JobNo, trace: &Trace) -> Result<Option<String>, A
         if wants_memory(&entry.answer) {
             return Ok(None);
         }
-        if let Step::At(_, Event::Call(of, _, _)) = &entry.step {
+        if let Step::At(_, Event::Call { job: of, .. }) = &entry.step {
             if *of == job {
                 let line = printed(alloc, &entry.step, &entry.answer)?;
                 if all.push_str(line.as_str()).is_err() {

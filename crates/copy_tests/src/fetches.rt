@@ -75,9 +75,12 @@ fn served(alloc: Global, bytes: &[u8], indexes: &[u32]) -> Result<Vec<PeerMessag
 fn is_chunk(message: &PeerMessage, index: u32, bytes: &[u8]) -> Result<bool, Refusal> {
     let of = an_id()?;
     Ok(match message {
-        PeerMessage::Chunk(id, number, at, payload) => {
-            *id == of && *number == NUMBER && *at == index && payload.as_slice() == bytes
-        }
+        PeerMessage::Chunk {
+            id,
+            number,
+            index: at,
+            bytes: payload,
+        } => { *id == of && *number == NUMBER && *at == index && payload.as_slice() == bytes }
         _ => false,
     })
 }

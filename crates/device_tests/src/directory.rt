@@ -57,9 +57,23 @@ fn located(
     job: JobNo,
     id: ObjectId,
 ) -> Result<DirectoryReply, AllocError> {
-    match directory.apply(job, DirectoryMessage::Locate(id, 3, 77)) {
+    match directory.apply(
+        job,
+        DirectoryMessage::Locate {
+            id,
+            node: 3,
+            number: 77,
+        },
+    ) {
         Ok(reply) => Ok(reply),
-        Err(_) => directory.apply(job, DirectoryMessage::Locate(id, 3, 77)),
+        Err(_) => directory.apply(
+            job,
+            DirectoryMessage::Locate {
+                id,
+                node: 3,
+                number: 77,
+            },
+        ),
     }
 }
 

@@ -247,7 +247,12 @@ pub fn chunks_asked(
     let mut sent = Vec::new(alloc);
     for index in indexes {
         if let Some(chunk) = chunk_at(bytes, *index)? {
-            sent.push(PeerMessage::Chunk(id, number, *index, chunk))?;
+            sent.push(PeerMessage::Chunk {
+                id,
+                number,
+                index: *index,
+                bytes: chunk,
+            })?;
         }
     }
     Ok(sent)

@@ -23,7 +23,15 @@ fn fed(alloc: Global, reader: &mut Reader, piece: &[u8]) -> Result<Vec<Item>, Re
 /// Whether this is the item of `WRITE`, alone.
 fn is_the_write(items: &[Item]) -> bool {
     match items {
-        [Item::Command(Command::Write(_, 258, bytes))] => bytes.as_slice() == b"Hello".as_slice(),
+        [
+            Item::Command(
+                Command::Write {
+                    offset: 258,
+                    bytes,
+                    ..
+                },
+            ),
+        ] => bytes.as_slice() == b"Hello".as_slice(),
         _ => false,
     }
 }

@@ -52,7 +52,13 @@ fn is_the_session(items: &[Item], object: ObjectId) -> bool {
     match items {
         [
             Item::Hello(JobNo(1), key),
-            Item::Command(Command::Create(created, Kind::Primary, 20)),
+            Item::Command(
+                Command::Create {
+                    id: created,
+                    kind: Kind::Primary,
+                    length: 20,
+                },
+            ),
             Item::Command(Command::Seal(sealed)),
             Item::Command(Command::Get(got)),
         ] => *key == JobKey([0; 32]) && *created == object && *sealed == object && *got == object,
@@ -157,8 +163,15 @@ fn the_longest_write_is_read(rt: HostRuntime) -> Result<(), Fail> {
     let items = items_of(alloc, &mut reader, &[&head, &payload])?;
     let object = first_object()?;
     let written = match items.as_slice() {
-        [Item::Command(Command::Write(id, 7, bytes))] => *id == object
-            && bytes.as_slice() == payload.as_slice(),
+        [
+            Item::Command(
+                Command::Write {
+                    id,
+                    offset: 7,
+                    bytes,
+                },
+            ),
+        ] => *id == object && bytes.as_slice() == payload.as_slice(),
         _ => false,
     };
     holds!(rt; written);

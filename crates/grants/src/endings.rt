@@ -16,7 +16,11 @@ use std::marker::Model;
 #[derive(Clone, Copy)]
 pub(crate) enum Ending {
     /// The giver's hand of this object to this taker.
-    Withdrawn(JobNo, ObjectId, JobNo),
+    Withdrawn {
+        giver: JobNo,
+        id: ObjectId,
+        taker: JobNo,
+    },
     /// All hands of the object.
     OfObject(ObjectId),
     /// What the job gave of its own objects that the task made.
@@ -31,7 +35,7 @@ impl Ending {
         ensures { result ≡ ends_lem self.now hand.now }
     {
         match *self {
-            Ending::Withdrawn(giver, id, taker) => hand.is_given(giver, &id, taker),
+            Ending::Withdrawn { giver, id, taker } => hand.is_given(giver, &id, taker),
             Ending::OfObject(id) => same_id(&id, &hand.id()),
             Ending::OfTask(job, task) => {
                 hand.giver().0 == job.0

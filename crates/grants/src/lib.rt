@@ -130,7 +130,11 @@ impl Grants {
         if !hands::is_given(&self.hands, giver, &id, target) {
             return Err(Refusal::NotGranted);
         }
-        match self.end(Ending::Withdrawn(giver, id, target)) {
+        match self.end(Ending::Withdrawn {
+            giver,
+            id,
+            taker: target,
+        }) {
             Err(_) => Err(Refusal::NoMemory),
             Ok(told) => Ok(told),
         }
@@ -159,7 +163,11 @@ impl Grants {
         ensures found { IfOk result (λ ends. ends ≡ ends_found (is_withdrawn giver.0 id target.0) self.now) }
         ensures succeeds { filter (is_withdrawn giver.0 id target.0) self.now ≡ [] → IsOk result }
     {
-        self.found(Ending::Withdrawn(giver, id, target))
+        self.found(Ending::Withdrawn {
+            giver,
+            id,
+            taker: target,
+        })
     }
 
     /// What the job gave of its own objects that the task made, and what hangs on it. There is no failure if the job

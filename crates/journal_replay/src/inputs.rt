@@ -19,14 +19,42 @@ pub(crate) fn judged_of(version: Version, address: Address, input: LineInput) ->
             Judged::Call(session, command_meant(version, address.job, command))
         }
         LineInput::Answer(number, verdict) => Judged::Answer(number, verdict),
-        LineInput::Located(id, number, entries) => {
-            Judged::Located(id, number, source_in(address.node, entries.as_slice()))
+        LineInput::Located {
+            id,
+            number,
+            entries,
+        } => {
+            Judged::Located {
+                id,
+                number,
+                source: source_in(address.node, entries.as_slice()),
+            }
         }
-        LineInput::Chunk(id, number, index, from, verdict) => {
-            Judged::Chunk(id, number, index, from, verdict)
+        LineInput::Chunk {
+            id,
+            number,
+            index,
+            from,
+            verdict,
+        } => {
+            Judged::Chunk {
+                id,
+                number,
+                index,
+                from,
+                verdict,
+            }
         }
-        LineInput::Pull(id, number, matched) => Judged::Pull(id, number, matched),
-        LineInput::NotHere(id, number, from) => Judged::NotHere(id, number, from),
+        LineInput::Pull {
+            id,
+            number,
+            matches: matched,
+        } => Judged::Pull {
+            id,
+            number,
+            matches: matched,
+        },
+        LineInput::NotHere { id, number, from } => Judged::NotHere { id, number, from },
         LineInput::Received {
             id,
             length,
@@ -38,7 +66,7 @@ pub(crate) fn judged_of(version: Version, address: Address, input: LineInput) ->
             giver,
             depth,
         },
-        LineInput::Withdrawn(id, giver, depth) => Judged::Withdrawn(id, giver, depth),
+        LineInput::Withdrawn { id, giver, depth } => Judged::Withdrawn { id, giver, depth },
     }
 }
 

@@ -36,7 +36,11 @@ fn command_of(word: Word, fields: &[&str], job: JobNo) -> Option<Command<u64>>
     match word {
         Word::Write => {
             let ((id, offset), count) = id_count(fields, job)?;
-            Some(Command::Write(id, offset, count))
+            Some(Command::Write {
+                id,
+                offset,
+                bytes: count,
+            })
         }
         _ => plain_command(word, fields, job),
     }

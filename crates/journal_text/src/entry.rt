@@ -50,14 +50,32 @@ pub enum LineInput {
     Call(u32, Command<u64>),
     /// The number of a work, and what the device's answer was to it.
     Answer(u64, WorkVerdict),
-    /// Fetch number, and all entries of the directory, as listed.
-    Located(ObjectId, u64, Items<Location>),
-    /// Fetch number, chunk index, the node that sent it, and what the chunk was to the fetch.
-    Chunk(ObjectId, u64, u32, u32, ChunkVerdict),
-    /// Fetch number, and whether a copy here had the length and the digest that were asked for.
-    Pull(ObjectId, u64, bool),
-    /// Fetch number, and the node that had no such copy.
-    NotHere(ObjectId, u64, u32),
+    /// The number of the fetch, and all entries of the directory, as listed.
+    Located {
+        id: ObjectId,
+        number: u64,
+        entries: Items<Location>,
+    },
+    /// The number of the fetch, the chunk's index, the node that sent it, and what the chunk was to the fetch.
+    Chunk {
+        id: ObjectId,
+        number: u64,
+        index: u32,
+        from: u32,
+        verdict: ChunkVerdict,
+    },
+    /// The number of the fetch, and whether a copy here had the length and the digest that were asked for.
+    Pull {
+        id: ObjectId,
+        number: u64,
+        matches: bool,
+    },
+    /// The number of the fetch, and the node that had no such copy.
+    NotHere {
+        id: ObjectId,
+        number: u64,
+        from: u32,
+    },
     /// Another job granted an object: its length, the giver, and the depth of the hand.
     Received {
         id: ObjectId,
@@ -65,8 +83,12 @@ pub enum LineInput {
         giver: JobNo,
         depth: u32,
     },
-    /// A hand to this job ended: the object, the giver and the depth.
-    Withdrawn(ObjectId, JobNo, u32),
+    /// A hand to this job ended.
+    Withdrawn {
+        id: ObjectId,
+        giver: JobNo,
+        depth: u32,
+    },
 }
 
 /// A line of a saved journal.

@@ -92,16 +92,28 @@ fn input_of(
             Ok(answer(fields).map(|(number, verdict)| LineInput::Answer(number, verdict)))
         }
         InputWord::Located => Ok(located(alloc, fields, job)?.map(|((id, number), entries)| {
-            LineInput::Located(id, number, entries)
+            LineInput::Located {
+                id,
+                number,
+                entries,
+            }
         })),
         InputWord::Chunk => Ok(chunk(fields, job).map(|((id, number), (piece, verdict))| {
-            LineInput::Chunk(id, number, piece.0, piece.1, verdict)
+            LineInput::Chunk {
+                id,
+                number,
+                index: piece.0,
+                from: piece.1,
+                verdict,
+            }
         })),
-        InputWord::Pull => Ok(pull(fields, job).map(|((id, number), matched)| LineInput::Pull(
-            id, number, matched,
-        ))),
+        InputWord::Pull => Ok(pull(fields, job).map(|((id, number), matched)| LineInput::Pull {
+            id,
+            number,
+            matches: matched,
+        })),
         InputWord::NotHere => Ok(not_here(fields, job).map(|((id, number), from)| {
-            LineInput::NotHere(id, number, from)
+            LineInput::NotHere { id, number, from }
         })),
         InputWord::Received => Ok(received(fields, job, version)),
         InputWord::Withdrawn => Ok(withdrawn(fields, job, version)),
@@ -236,9 +248,17 @@ fn withdrawn(fields: &[&str], job: JobNo, version: Version) -> Option<LineInput>
     ensures { Reads result (IsWithdrawn version job.0 (map (λ field. field.now) fields.now)) }
 {
     match version {
-        Version::One => id(fields, job).map(|id| LineInput::Withdrawn(id, id.job(), 1)),
+        Version::One => id(fields, job).map(|id| LineInput::Withdrawn {
+            id,
+            giver: id.job(),
+            depth: 1,
+        }),
         Version::Two | Version::Three => {
-            hand_end(fields, job).map(|(id, hand)| LineInput::Withdrawn(id, hand.0, hand.1))
+            hand_end(fields, job).map(|(id, hand)| LineInput::Withdrawn {
+                id,
+                giver: hand.0,
+                depth: hand.1,
+            })
         }
     }
 }

@@ -187,12 +187,12 @@ fn is_fitting(input: &LineInput, reply: &Reply<u64>) -> bool
         | LineInput::Requota(_)
         | LineInput::End
         | LineInput::Answer(..)
-        | LineInput::Located(..)
-        | LineInput::Chunk(..)
-        | LineInput::Pull(..)
-        | LineInput::NotHere(..)
+        | LineInput::Located { .. }
+        | LineInput::Chunk { .. }
+        | LineInput::Pull { .. }
+        | LineInput::NotHere { .. }
         | LineInput::Received { .. }
-        | LineInput::Withdrawn(..) => is_outcome(reply),
+        | LineInput::Withdrawn { .. } => is_outcome(reply),
     }
 }
 

@@ -37,13 +37,17 @@ fn put_command(
         ≡ string_bytes line.old ++ spaced_text (command_fields job.0 command.now)) }
 {
     match command {
-        Command::Create(id, kind, length) => {
+        Command::Create { id, kind, length } => {
             put_object_number(alloc, line, create_word(*kind), id, job, u64::from(*length))
         }
-        Command::Write(id, offset, count) => put_write(alloc, line, id, job, *offset, *count),
+        Command::Write {
+            id,
+            offset,
+            bytes: count,
+        } => put_write(alloc, line, id, job, *offset, *count),
         Command::Seal(id) => put_object(alloc, line, "seal", id, job),
         Command::Get(id) => put_object(alloc, line, "get", id, job),
-        Command::Read(id, offset, count) => {
+        Command::Read { id, offset, count } => {
             put_object_numbers(
                 alloc,
                 line,
@@ -66,7 +70,7 @@ fn put_command(
         Command::Withdraw(id, target) => {
             put_object_number(alloc, line, "withdraw", id, job, u64::from(target.0))
         }
-        Command::Peek(id, offset, count) => {
+        Command::Peek { id, offset, count } => {
             put_object_numbers(
                 alloc,
                 line,

@@ -31,18 +31,30 @@ pub(crate) fn put_input(
         LineInput::End => put(line, "end"),
         LineInput::Call(session, command) => put_call(alloc, line, *session, command, job),
         LineInput::Answer(number, verdict) => put_answer(line, *number, *verdict),
-        LineInput::Located(id, number, entries) => {
-            put_located(alloc, line, id, job, *number, entries.as_slice())
-        }
-        LineInput::Chunk(id, number, index, from, verdict) => {
+        LineInput::Located {
+            id,
+            number,
+            entries,
+        } => { put_located(alloc, line, id, job, *number, entries.as_slice()) }
+        LineInput::Chunk {
+            id,
+            number,
+            index,
+            from,
+            verdict,
+        } => {
             put_object_numbers(alloc, line, "chunk", id, job, *number, u64::from(*index))?;
             put_sent(line, *from, *verdict)
         }
-        LineInput::Pull(id, number, matched) => {
+        LineInput::Pull {
+            id,
+            number,
+            matches: matched,
+        } => {
             put_object_number(alloc, line, "pull", id, job, *number)?;
             put(line, match_word(*matched))
         }
-        LineInput::NotHere(id, number, from) => {
+        LineInput::NotHere { id, number, from } => {
             put_object_numbers(alloc, line, "nothere", id, job, *number, u64::from(*from))
         }
         LineInput::Received {
@@ -54,7 +66,7 @@ pub(crate) fn put_input(
             put_object_number(alloc, line, "received", id, job, u64::from(*length))?;
             put_hand(line, *giver, *depth)
         }
-        LineInput::Withdrawn(id, giver, depth) => {
+        LineInput::Withdrawn { id, giver, depth } => {
             put_object(alloc, line, "withdrawn", id, job)?;
             put_hand(line, *giver, *depth)
         }

@@ -37,22 +37,32 @@ fn typed_input(input: &LineInput)
             typed_command(command);
         }
         LineInput::Answer(number, _) => fits_long(*number),
-        LineInput::Located(id, number, entries) => {
+        LineInput::Located {
+            id,
+            number,
+            entries,
+        } => {
             typed_id(id);
             fits_long(*number);
             typed_locations(entries.as_slice());
         }
-        LineInput::Chunk(id, number, index, from, _) => {
+        LineInput::Chunk {
+            id,
+            number,
+            index,
+            from,
+            ..
+        } => {
             typed_id(id);
             fits_long(*number);
             fits(*index);
             fits(*from);
         }
-        LineInput::Pull(id, number, _) => {
+        LineInput::Pull { id, number, .. } => {
             typed_id(id);
             fits_long(*number);
         }
-        LineInput::NotHere(id, number, from) => {
+        LineInput::NotHere { id, number, from } => {
             typed_id(id);
             fits_long(*number);
             fits(*from);
@@ -68,7 +78,7 @@ fn typed_input(input: &LineInput)
             fits(giver.0);
             fits(*depth);
         }
-        LineInput::Withdrawn(id, giver, depth) => {
+        LineInput::Withdrawn { id, giver, depth } => {
             typed_id(id);
             fits(giver.0);
             fits(*depth);
@@ -81,16 +91,20 @@ fn typed_command(command: &Command<u64>)
     ensures { FitsCommand command.now }
 {
     match command {
-        Command::Create(id, _, length) => {
+        Command::Create { id, length, .. } => {
             typed_id(id);
             fits(*length);
         }
-        Command::Write(id, offset, count) => {
+        Command::Write {
+            id,
+            offset,
+            bytes: count,
+        } => {
             typed_id(id);
             fits(*offset);
             fits_long(*count);
         }
-        Command::Read(id, offset, count) | Command::Peek(id, offset, count) => {
+        Command::Read { id, offset, count } | Command::Peek { id, offset, count } => {
             typed_id(id);
             fits(*offset);
             fits(*count);

@@ -77,11 +77,19 @@ fn deliver(
     ensures works { OnErr result (works.new ≡ works.old) }
 {
     match arrival {
-        Arrival::Located(id, number, entries) => {
+        Arrival::Located {
+            id,
+            number,
+            entries,
+        } => {
             let entries = entries.as_slice();
             row.located(node, id, *number, entries);
             let outcome = node_table::Outcome::only(alloc, Reply::Ok);
-            let judged = Judged::Located(*id, *number, source_in(node, entries));
+            let judged = Judged::Located {
+                id: *id,
+                number: *number,
+                source: source_in(node, entries),
+            };
             Ok((outcome, judged))
         }
         Arrival::FromPeer(from, message) => deliver_from(alloc, node, row, works, *from, message),
@@ -128,16 +136,41 @@ fn deliver_from(
                 digest,
                 indexes.as_slice(),
             )?;
-            Ok((outcome, Judged::Pull(*id, *number, matches)))
+            Ok((
+                outcome,
+                Judged::Pull {
+                    id: *id,
+                    number: *number,
+                    matches,
+                },
+            ))
         }
-        PeerMessage::Chunk(id, number, index, bytes) => {
+        PeerMessage::Chunk {
+            id,
+            number,
+            index,
+            bytes,
+        } => {
             let taken = row.chunk(alloc, node, from, id, *number, *index, bytes)?;
-            let judged = Judged::Chunk(*id, *number, *index, from, taken.verdict);
+            let judged = Judged::Chunk {
+                id: *id,
+                number: *number,
+                index: *index,
+                from,
+                verdict: taken.verdict,
+            };
             Ok((taken.outcome, judged))
         }
         PeerMessage::NotHere(id, number) => {
             let outcome = row.not_here(alloc, from, id, *number)?;
-            Ok((outcome, Judged::NotHere(*id, *number, from)))
+            Ok((
+                outcome,
+                Judged::NotHere {
+                    id: *id,
+                    number: *number,
+                    from,
+                },
+            ))
         }
     }
 }

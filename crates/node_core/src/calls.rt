@@ -43,7 +43,11 @@ pub(crate) fn carry_out(
         return Ok(Outcome::only(alloc, Reply::Refused(Refusal::NotGranted)));
     }
     match command {
-        Command::Create(id, kind, len) => row.create(alloc, node, works, id, *kind, *len),
+        Command::Create {
+            id,
+            kind,
+            length: len,
+        } => row.create(alloc, node, works, id, *kind, *len),
         Command::Get(id) => row.get(alloc, node, works, session, id),
         _ => carry_out_plain(alloc, node, row, works, session, command),
     }
@@ -93,8 +97,12 @@ fn answer(
     ensures err { OnErr result (row.new ≡ row.old) }
 {
     match command {
-        Command::Write(id, offset, bytes) => Ok(row.write(session, id, *offset, bytes)),
-        Command::Read(id, offset, len) => row.read(alloc, session, id, *offset, *len),
+        Command::Write { id, offset, bytes } => Ok(row.write(session, id, *offset, bytes)),
+        Command::Read {
+            id,
+            offset,
+            count: len,
+        } => row.read(alloc, session, id, *offset, *len),
         Command::Usage => Ok(row.tell_usage(works)),
         _ => unreachable!(),
     }
@@ -105,18 +113,18 @@ fn is_own(job: JobNo, command: &Command<Bytes>) -> bool
     ensures { result ≡ is_own_lem job.0 command.now }
 {
     match command {
-        Command::Create(id, _, _)
-        | Command::Write(id, _, _)
+        Command::Create { id, .. }
+        | Command::Write { id, .. }
         | Command::Seal(id)
         | Command::Get(id)
-        | Command::Read(id, _, _)
+        | Command::Read { id, .. }
         | Command::Release(id)
         | Command::Unpin(id, _)
         | Command::Borrow(id, _)
         | Command::GiveUp(id, _)
         | Command::Delete(id) => id.job().0 == job.0,
         // of hands it is the grants that tell
-        Command::Grant(..) | Command::Withdraw(..) | Command::Peek(..) => true,
+        Command::Grant(..) | Command::Withdraw(..) | Command::Peek { .. } => true,
         Command::EndTask(_) | Command::List | Command::Usage | Command::Leave => true,
     }
 }

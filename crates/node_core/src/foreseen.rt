@@ -46,7 +46,10 @@ impl Node {
         ensures takers { IfOk result (λ takers. takers ≡ takers_of_lem self.now.hands event.now) }
     {
         match event {
-            Event::Call(_, _, Command::Grant(_, target)) => Ok(one_taker(self.alloc, *target)?),
+            Event::Call {
+                command: Command::Grant(_, target),
+                ..
+            } => Ok(one_taker(self.alloc, *target)?),
             _ => Ok(self.takers_of_ended(event)?),
         }
     }
@@ -57,12 +60,16 @@ impl Node {
     {
         let ends = match event {
             Event::JobEnd(job) => self.hands.ends_with_job(*job)?,
-            Event::Call(job, _, Command::EndTask(task)) => {
-                self.hands.ends_with_task(*job, *task)?
-            }
-            Event::Call(job, _, Command::Withdraw(id, target)) => {
-                self.hands.ends_with_hand(*job, *id, *target)?
-            }
+            Event::Call {
+                job,
+                command: Command::EndTask(task),
+                ..
+            } => { self.hands.ends_with_task(*job, *task)? }
+            Event::Call {
+                job,
+                command: Command::Withdraw(id, target),
+                ..
+            } => { self.hands.ends_with_hand(*job, *id, *target)? }
             _ => return Ok(Items::new(self.alloc)),
         };
         takers_of(self.alloc, ends.hands())
@@ -74,7 +81,7 @@ impl Node {
     {
         match event {
             Event::JobEnd(_) => 1,
-            Event::Call(job, _, command) => self.most_by_command(*job, command),
+            Event::Call { job, command, .. } => self.most_by_command(*job, command),
             _ => 0,
         }
     }
@@ -85,7 +92,7 @@ impl Node {
         ensures { result ≡ most_by_command_lem (row_at self.now job) command.now }
     {
         match command {
-            Command::Create(_, _, _) => match self.rows.get(&job) {
+            Command::Create { .. } => match self.rows.get(&job) {
                 Some(row) => row.copy_count(),
                 None => 0,
             },
@@ -129,10 +136,10 @@ fn most_by_arrival(row: &JobRow, arrival: &Arrival) -> usize
     ensures { result ≡ most_by_arrival_lem (Some row.now) arrival.now }
 {
     match arrival {
-        Arrival::Located(_, _, _) => 0,
+        Arrival::Located { .. } => 0,
         Arrival::FromPeer(_, PeerMessage::Pull { indexes, .. }) => {
             row.copy_count() + indexes.as_slice().len() + 1
         }
-        Arrival::FromPeer(_, PeerMessage::Chunk(..) | PeerMessage::NotHere(..)) => 1,
+        Arrival::FromPeer(_, PeerMessage::Chunk { .. } | PeerMessage::NotHere(..)) => 1,
     }
 }

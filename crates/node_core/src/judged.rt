@@ -12,11 +12,15 @@ pub(crate) fn judged_as(event: &Event, reply: &Reply<Bytes>) -> Option<Judged>
     ensures { result ≡ judged_as_lem event.now reply.now }
 {
     match event {
-        Event::Admit(_, quota, _) => if_ok(reply, Judged::Begin(*quota)),
+        Event::Admit { quota, .. } => if_ok(reply, Judged::Begin(*quota)),
         Event::Requota(_, quota) => if_ok(reply, Judged::Requota(*quota)),
         Event::JobEnd(_) => if_ok(reply, Judged::End),
-        Event::Call(_, session, command) => Some(Judged::Call(*session, brief(command))),
-        Event::Take | Event::Finish(..) => None,
+        Event::Call {
+            session,
+            command,
+            ..
+        } => Some(Judged::Call(*session, brief(command))),
+        Event::Take | Event::Finish { .. } => None,
     }
 }
 
@@ -26,7 +30,7 @@ pub(crate) fn moves_hands(event: &Event) -> bool
 {
     match event {
         Event::JobEnd(_) => true,
-        Event::Call(_, _, command) => match command {
+        Event::Call { command, .. } => match command {
             Command::EndTask(_) | Command::Grant(..) | Command::Withdraw(..) => true,
             _ => false,
         },
@@ -49,11 +53,31 @@ fn brief(command: &Command<Bytes>) -> Command<u64>
     ensures { result ≡ brief_lem command.now }
 {
     match command {
-        Command::Create(id, kind, len) => Command::Create(*id, *kind, *len),
-        Command::Write(id, offset, bytes) => Command::Write(*id, *offset, bytes.len() as u64),
+        Command::Create {
+            id,
+            kind,
+            length: len,
+        } => Command::Create {
+            id: *id,
+            kind: *kind,
+            length: *len,
+        },
+        Command::Write { id, offset, bytes } => Command::Write {
+            id: *id,
+            offset: *offset,
+            bytes: bytes.len() as u64,
+        },
         Command::Seal(id) => Command::Seal(*id),
         Command::Get(id) => Command::Get(*id),
-        Command::Read(id, offset, len) => Command::Read(*id, *offset, *len),
+        Command::Read {
+            id,
+            offset,
+            count: len,
+        } => Command::Read {
+            id: *id,
+            offset: *offset,
+            count: *len,
+        },
         Command::Release(id) => Command::Release(*id),
         Command::Unpin(id, task) => Command::Unpin(*id, *task),
         Command::Borrow(id, task) => Command::Borrow(*id, *task),
@@ -62,7 +86,15 @@ fn brief(command: &Command<Bytes>) -> Command<u64>
         Command::EndTask(task) => Command::EndTask(*task),
         Command::Grant(id, target) => Command::Grant(*id, *target),
         Command::Withdraw(id, target) => Command::Withdraw(*id, *target),
-        Command::Peek(id, offset, len) => Command::Peek(*id, *offset, *len),
+        Command::Peek {
+            id,
+            offset,
+            count: len,
+        } => Command::Peek {
+            id: *id,
+            offset: *offset,
+            count: *len,
+        },
         Command::List => Command::List,
         Command::Usage => Command::Usage,
         Command::Leave => Command::Leave,

@@ -132,7 +132,12 @@ impl Node {
         ensures err { OnErr result (self.new ≡ self.old) }
     {
         self.sees_few();
-        if let Event::Finish(job, number, answer) = event {
+        if let Event::Finish {
+            job,
+            number,
+            answer,
+        } = event
+        {
             let (outcome, judged) = self.finish(*job, *number, answer);
             return Ok(Outcome::of_row(self.alloc, outcome, judged));
         }
@@ -163,15 +168,21 @@ impl Node {
     {
         match event {
             Event::JobEnd(job) => self.end_job(*job),
-            Event::Call(job, session, Command::Grant(id, target)) => {
-                self.grant(*job, *session, id, *target)
-            }
-            Event::Call(job, session, Command::Withdraw(id, target)) => {
-                self.withdraw(*job, *session, id, *target)
-            }
-            Event::Call(job, session, Command::EndTask(task)) => {
-                self.end_task(*job, *session, *task)
-            }
+            Event::Call {
+                job,
+                session,
+                command: Command::Grant(id, target),
+            } => { self.grant(*job, *session, id, *target) }
+            Event::Call {
+                job,
+                session,
+                command: Command::Withdraw(id, target),
+            } => { self.withdraw(*job, *session, id, *target) }
+            Event::Call {
+                job,
+                session,
+                command: Command::EndTask(task),
+            } => { self.end_task(*job, *session, *task) }
             _ => unreachable!(),
         }
     }
@@ -187,11 +198,15 @@ impl Node {
         ensures err { OnErr result (self.new ≡ self.old) }
     {
         match event {
-            Event::Admit(job, quota, key) => self.admit(*job, *quota, *key),
+            Event::Admit { job, quota, key } => self.admit(*job, *quota, *key),
             Event::Requota(job, quota) => self.requota(*job, *quota),
             Event::Take => self.take(),
-            Event::Call(job, session, command) => self.call(*job, *session, command),
-            Event::JobEnd(_) | Event::Finish(..) => unreachable!(),
+            Event::Call {
+                job,
+                session,
+                command,
+            } => self.call(*job, *session, command),
+            Event::JobEnd(_) | Event::Finish { .. } => unreachable!(),
         }
     }
 
@@ -281,7 +296,12 @@ impl Node {
         if let Command::List = command {
             return self.list(job, session);
         }
-        if let Command::Peek(id, offset, len) = command {
+        if let Command::Peek {
+            id,
+            offset,
+            count: len,
+        } = command
+        {
             return self.peek(job, session, id, *offset, *len);
         }
         self.call_row(job, session, command)

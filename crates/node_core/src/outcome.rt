@@ -133,6 +133,10 @@ fn end_note(hand: &Hand) -> Note
 {
     Note {
         job: hand.taker(),
-        input: Judged::Withdrawn(hand.id(), hand.giver(), hand.depth()),
+        input: Judged::Withdrawn {
+            id: hand.id(),
+            giver: hand.giver(),
+            depth: hand.depth(),
+        },
     }
 }

@@ -221,12 +221,12 @@ pub(crate) fn job_of(node: &Node, event: &Event) -> JobNo
     ensures { result.0 ≡ job_at node.now.works.works (node_event.Own event.now) }
 {
     match event {
-        Event::Admit(job, _, _) => *job,
+        Event::Admit { job, .. } => *job,
         Event::Requota(job, _) => *job,
         Event::JobEnd(job) => *job,
         Event::Take => node.job_in_turn(),
-        Event::Finish(job, _, _) => *job,
-        Event::Call(job, _, _) => *job,
+        Event::Finish { job, .. } => *job,
+        Event::Call { job, .. } => *job,
     }
 }
 
@@ -235,12 +235,12 @@ pub(crate) fn name_of(event: &Event) -> EventName
     ensures { result ≡ event_name (node_event.Own event.now) }
 {
     match event {
-        Event::Admit(_, quota, _) => EventName::Admit(*quota),
+        Event::Admit { quota, .. } => EventName::Admit(*quota),
         Event::Requota(_, quota) => EventName::Requota(*quota),
         Event::JobEnd(_) => EventName::JobEnd,
         Event::Take => EventName::Take,
-        Event::Finish(_, number, _) => EventName::Finish(*number),
-        Event::Call(_, session, _) => EventName::Call(*session),
+        Event::Finish { number, .. } => EventName::Finish(*number),
+        Event::Call { session, .. } => EventName::Call(*session),
     }
 }
 
@@ -249,7 +249,11 @@ pub(crate) fn name_of_arrival(arrival: &Arrival) -> EventName
     ensures { result ≡ arrival_name arrival.now }
 {
     match arrival {
-        Arrival::Located(id, fetch, _) => EventName::Located {
+        Arrival::Located {
+            id,
+            number: fetch,
+            ..
+        } => EventName::Located {
             id: *id,
             fetch: *fetch,
         },
@@ -259,7 +263,12 @@ pub(crate) fn name_of_arrival(arrival: &Arrival) -> EventName
                 id: *id,
                 fetch: *number,
             },
-            PeerMessage::Chunk(id, fetch, index, _) => EventName::Chunk {
+            PeerMessage::Chunk {
+                id,
+                number: fetch,
+                index,
+                ..
+            } => EventName::Chunk {
                 from: *from,
                 id: *id,
                 fetch: *fetch,

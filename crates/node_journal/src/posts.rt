@@ -181,7 +181,11 @@ impl<L: Ledger> Posted<L> {
                 from: Place::Directory,
                 to: Place::Node(to),
                 entry,
-                message: Message::Located(id, number, entries),
+                message: Message::Located {
+                    id,
+                    number,
+                    entries,
+                },
                 name,
             })),
         }
@@ -193,8 +197,19 @@ pub(crate) fn arrival(from: Place, message: Message) -> Option<Arrival>
     ensures { result ≡ arrival_of from message }
 {
     match (from, message) {
-        (Place::Directory, Message::Located(id, number, entries)) => {
-            Some(Arrival::Located(id, number, entries))
+        (
+            Place::Directory,
+            Message::Located {
+                id,
+                number,
+                entries,
+            },
+        ) => {
+            Some(Arrival::Located {
+                id,
+                number,
+                entries,
+            })
         }
         (Place::Node(node), Message::ToPeer(told)) => Some(Arrival::FromPeer(node, told)),
         _ => None,

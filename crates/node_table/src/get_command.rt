@@ -175,6 +175,6 @@ pub(crate) fn locate(
 ) -> Result<Items<(Place, Message)>, AllocError>
     ensures { IfOk result (λ messages. messages ≡ to_directory (Locate id node number)) }
 {
-    let message = Message::ToDirectory(DirectoryMessage::Locate(id, node, number));
+    let message = Message::ToDirectory(DirectoryMessage::Locate { id, node, number });
     Outcome::one_message(alloc, Place::Directory, message)
 }

@@ -15,7 +15,7 @@ const LONG: u32 = 65_536;
 pub fn may_want(command: &Command<Bytes>) -> bool {
     match command {
         Command::Seal(_) | Command::Get(_) => true,
-        Command::Create(_, _, len) => *len >= LONG,
+        Command::Create { length: len, .. } => *len >= LONG,
         _ => false,
     }
 }
@@ -29,7 +29,11 @@ impl JobRow {
     /// How long the object is for which the command may place an extent, if that is long.
     pub fn extent_wanted(&self, command: &Command<Bytes>) -> Option<u32> {
         let len = match command {
-            Command::Create(id, _, len) if !self.copies().has(id) => *len,
+            Command::Create {
+                id,
+                length: len,
+                ..
+            } if !self.copies().has(id) => *len,
             Command::Get(id) => self.length_to_come(id)?,
             _ => return None,
         };

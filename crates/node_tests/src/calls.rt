@@ -95,7 +95,15 @@ fn enter_all(rt: &impl Abort, alloc: Global, node: &mut Node) -> Result<(), Fail
         device: 0,
     };
     carry_out(rt, alloc, node, "admit 0 1 16 0")?;
-    accepted(rt, node, &Event::Admit(JobNo(2), quota, KEY))?;
+    accepted(
+        rt,
+        node,
+        &Event::Admit {
+            job: JobNo(2),
+            quota,
+            key: KEY,
+        },
+    )?;
     let mut nearly = KEY;
     nearly.0[31] = 6;
     let refused = Err(Refusal::NotAdmitted);

@@ -23,11 +23,11 @@ fn word_of(judged: &Option<Judged>) -> &'static str {
 
 fn command_word(command: &Command<u64>) -> &'static str {
     match command {
-        Command::Create(..) => "create",
-        Command::Write(..) => "write",
+        Command::Create { .. } => "create",
+        Command::Write { .. } => "write",
         Command::Seal(_) => "seal",
         Command::Get(_) => "get",
-        Command::Read(..) => "read",
+        Command::Read { .. } => "read",
         Command::Release(_) => "release",
         Command::Unpin(..) => "unpin",
         Command::Borrow(..) => "borrow",
@@ -43,9 +43,9 @@ fn command_word(command: &Command<u64>) -> &'static str {
 fn bytes_of(judged: &Option<Judged>) -> u64 {
     match judged {
         Some(Judged::Begin(quota)) => quota.window,
-        Some(Judged::Call(_, Command::Create(_, _, len))) => *len as u64,
-        Some(Judged::Call(_, Command::Write(_, _, count))) => *count,
-        Some(Judged::Call(_, Command::Read(_, _, len))) => *len as u64,
+        Some(Judged::Call(_, Command::Create { length: len, .. })) => *len as u64,
+        Some(Judged::Call(_, Command::Write { bytes: count, .. })) => *count,
+        Some(Judged::Call(_, Command::Read { count: len, .. })) => *len as u64,
         _ => 0,
     }
 }

@@ -31,7 +31,14 @@ fn stepped<L: Ledger>(kept: &mut Kept<L>, event: &Event) -> Result<Receipt<L>, F
 }
 
 fn called<L: Ledger>(kept: &mut Kept<L>, command: Command<Bytes>) -> Result<(), Fail> {
-    stepped(kept, &Event::Call(JOB, 1, command))?;
+    stepped(
+        kept,
+        &Event::Call {
+            job: JOB,
+            session: 1,
+            command,
+        },
+    )?;
     Ok(())
 }
 
@@ -39,10 +46,31 @@ fn called<L: Ledger>(kept: &mut Kept<L>, command: Command<Bytes>) -> Result<(), 
 fn ask_for_a_work<L: Ledger>(kept: &mut Kept<L>) -> Result<(), Fail> {
     let first = ObjectId::new(TaskNo([0; 20]), JOB, 1).ok().ok_or("no id")?;
     let second = ObjectId::new(TaskNo([0; 20]), JOB, 2).ok().ok_or("no id")?;
-    stepped(kept, &Event::Admit(JOB, QUOTA, JobKey([0; 32])))?;
-    called(kept, Command::Create(first, Kind::Primary, 32))?;
+    stepped(
+        kept,
+        &Event::Admit {
+            job: JOB,
+            quota: QUOTA,
+            key: JobKey([0; 32]),
+        },
+    )?;
+    called(
+        kept,
+        Command::Create {
+            id: first,
+            kind: Kind::Primary,
+            length: 32,
+        },
+    )?;
     called(kept, Command::Seal(first))?;
-    called(kept, Command::Create(second, Kind::Primary, 32))
+    called(
+        kept,
+        Command::Create {
+            id: second,
+            kind: Kind::Primary,
+            length: 32,
+        },
+    )
 }
 
 /// Folds the job's list, once more if memory ran out.
@@ -92,7 +120,14 @@ fn check_fold<L: Ledger, R: Abort>(
 
 /// The work is still taken after the fold: the device's answer is one to it.
 fn check_answer<L: Ledger, R: Abort>(rt: &R, kept: &mut Kept<L>) -> Result<(), Fail> {
-    let finished = stepped(kept, &Event::Finish(JOB, 1, DeviceAnswer::Done))?;
+    let finished = stepped(
+        kept,
+        &Event::Finish {
+            job: JOB,
+            number: 1,
+            answer: DeviceAnswer::Done,
+        },
+    )?;
     same!(rt; (finished.input().is_some(), kept.list(JOB).len()), (true, 1));
     Ok(())
 }

@@ -18,7 +18,11 @@ pub(crate) fn event_of(rt: &impl Abort, alloc: Global, line: &str) -> Result<Eve
     match read(alloc, line)? {
         Some(Line::Step(Step::At(_, event))) => Ok(event),
         Some(Line::Finish { job, number, .. }) => {
-            Ok(Event::Finish(job, number, DeviceAnswer::Done))
+            Ok(Event::Finish {
+                job,
+                number,
+                answer: DeviceAnswer::Done,
+            })
         }
         _ => panic!(rt; "not an event"),
     }

@@ -86,7 +86,11 @@ fn finish_of<D: SpillDevice>(
     reply: &Reply<Bytes>,
 ) -> Option<Event> {
     match reply {
-        Reply::Work(work) => Some(Event::Finish(work.job, work.number, answer_of(device, work)?)),
+        Reply::Work(work) => Some(Event::Finish {
+            job: work.job,
+            number: work.number,
+            answer: answer_of(device, work)?,
+        }),
         _ => panic!(rt; "no work waits"),
     }
 }

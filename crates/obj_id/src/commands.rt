@@ -42,15 +42,27 @@ pub enum CopyState {
 #[derive(Clone, Copy, Debug, PartialEq, Eq, Drop)]
 pub enum Command<P> {
     /// A copy of this kind and length, to be written.
-    Create(ObjectId, Kind, u32),
+    Create {
+        id: ObjectId,
+        kind: Kind,
+        length: u32,
+    },
     /// Bytes put into a created copy, from an offset on.
-    Write(ObjectId, u32, P),
+    Write {
+        id: ObjectId,
+        offset: u32,
+        bytes: P,
+    },
     /// The copy becomes immutable.
     Seal(ObjectId),
     /// A hold of this session on the copy, which brings it here if it isn't.
     Get(ObjectId),
-    /// Bytes of a held copy: offset and count.
-    Read(ObjectId, u32, u32),
+    /// Bytes of a held copy.
+    Read {
+        id: ObjectId,
+        offset: u32,
+        count: u32,
+    },
     /// One hold of this session less.
     Release(ObjectId),
     /// The owner task keeps its primary no longer.
@@ -67,8 +79,12 @@ pub enum Command<P> {
     Grant(ObjectId, JobNo),
     /// And no longer.
     Withdraw(ObjectId, JobNo),
-    /// Bytes of an object that another job granted: offset and count.
-    Peek(ObjectId, u32, u32),
+    /// Bytes of an object that another job granted.
+    Peek {
+        id: ObjectId,
+        offset: u32,
+        count: u32,
+    },
     /// All copies of the job, and what was granted to it.
     List,
     /// Quotas and what is used of them.

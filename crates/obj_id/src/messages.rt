@@ -26,7 +26,11 @@ pub enum DirectoryMessage {
     /// The job has ended at the node.
     EndJob(u32),
     /// Where are copies? The node that asks, and the number of its fetch.
-    Locate(ObjectId, u32, u64),
+    Locate {
+        id: ObjectId,
+        node: u32,
+        number: u64,
+    },
 }
 
 /// What a node sends another.
@@ -40,8 +44,13 @@ pub enum PeerMessage {
         digest: Digest,
         indexes: Items<u32>,
     },
-    /// One chunk: fetch number, index and bytes.
-    Chunk(ObjectId, u64, u32, Bytes),
+    /// One chunk, for the fetch of this number.
+    Chunk {
+        id: ObjectId,
+        number: u64,
+        index: u32,
+        bytes: Bytes,
+    },
     /// There is no such sealed copy: fetch number.
     NotHere(ObjectId, u64),
 }
@@ -51,8 +60,12 @@ pub enum PeerMessage {
 pub enum Message {
     /// From a node to the directory.
     ToDirectory(DirectoryMessage),
-    /// From the directory to the node that asked: fetch number, and entries by rising node.
-    Located(ObjectId, u64, Items<Location>),
+    /// From the directory to the node that asked: the number of its fetch, and entries by rising node.
+    Located {
+        id: ObjectId,
+        number: u64,
+        entries: Items<Location>,
+    },
     /// From a node to another.
     ToPeer(PeerMessage),
 }
@@ -60,8 +73,12 @@ pub enum Message {
 /// What arrives at a node.
 #[derive(Debug, Drop)]
 pub enum Arrival {
-    /// From the directory: fetch number, and entries by rising node.
-    Located(ObjectId, u64, Items<Location>),
+    /// From the directory: the number of the fetch, and entries by rising node.
+    Located {
+        id: ObjectId,
+        number: u64,
+        entries: Items<Location>,
+    },
     /// From the node of this number.
     FromPeer(u32, PeerMessage),
 }

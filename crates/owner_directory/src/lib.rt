@@ -96,7 +96,11 @@ impl Directory {
                 self.end_at(job, node);
                 Ok(DirectoryReply::Nothing)
             }
-            DirectoryMessage::Locate(id, to, number) => {
+            DirectoryMessage::Locate {
+                id,
+                node: to,
+                number,
+            } => {
                 let entries = self.located(job, id)?;
                 Ok(DirectoryReply::Located {
                     to,

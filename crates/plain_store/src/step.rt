@@ -49,14 +49,14 @@ impl PlainStore {
                 giver,
                 depth,
             } => Ok(Told::only(self.received(alloc, *id, *length, *giver, *depth)?)),
-            Judged::Withdrawn(id, giver, depth) => {
+            Judged::Withdrawn { id, giver, depth } => {
                 Ok(Told::only(self.withdrawn(*id, *giver, *depth)))
             }
             Judged::Requota(_)
-            | Judged::Located(..)
-            | Judged::Chunk(..)
-            | Judged::Pull(..)
-            | Judged::NotHere(..)
+            | Judged::Located { .. }
+            | Judged::Chunk { .. }
+            | Judged::Pull { .. }
+            | Judged::NotHere { .. }
             | Judged::End => self.take_if_live(alloc, input),
         }
     }
@@ -75,14 +75,18 @@ impl PlainStore {
         }
         match input {
             Judged::Requota(quota) => Ok(Told::only(self.requota(*quota))),
-            Judged::Located(id, number, source) => {
+            Judged::Located { id, number, source } => {
                 Ok(Told::only(self.located(*id, *number, *source)))
             }
-            Judged::Chunk(id, number, index, from, verdict) => Ok(Told::only(self.chunk_arrived(
-                *id, *number, *index, *from, *verdict,
-            ))),
-            Judged::Pull(id, _, matches) => self.pull_arrived(alloc, *id, *matches),
-            Judged::NotHere(id, number, from) => {
+            Judged::Chunk {
+                id,
+                number,
+                index,
+                from,
+                verdict,
+            } => Ok(Told::only(self.chunk_arrived(*id, *number, *index, *from, *verdict))),
+            Judged::Pull { id, matches, .. } => self.pull_arrived(alloc, *id, *matches),
+            Judged::NotHere { id, number, from } => {
                 Ok(Told::only(self.not_here_arrived(*id, *number, *from)))
             }
             _ => {
@@ -138,7 +142,7 @@ impl PlainStore {
         ensures store { OnOk result (self.new ≡ record self.old { shape = (own_command self.old.order self.old.shape session command.now).shape }) }
     {
         match command {
-            Command::Create(id, kind, length) => self.create(alloc, *id, *kind, *length),
+            Command::Create { id, kind, length } => self.create(alloc, *id, *kind, *length),
             Command::Get(id) => self.get(alloc, session, *id),
             _ => Ok(Told::only(self.plain_call(alloc, session, command)?)),
         }
@@ -158,9 +162,13 @@ impl PlainStore {
         ensures store { OnOk result (self.new ≡ record self.old { shape = (own_command self.old.order self.old.shape session command.now).shape }) }
     {
         match command {
-            Command::Write(id, offset, count) => Ok(self.write(*id, *offset, *count)),
+            Command::Write {
+                id,
+                offset,
+                bytes: count,
+            } => Ok(self.write(*id, *offset, *count)),
             Command::Seal(id) => Ok(self.seal(*id)),
-            Command::Read(id, offset, count) => Ok(self.read(session, *id, *offset, *count)),
+            Command::Read { id, offset, count } => Ok(self.read(session, *id, *offset, *count)),
             Command::Release(id) => self.release(session, *id),
             Command::Unpin(id, task) => Ok(self.unpin(*id, *task)),
             Command::Borrow(id, task) => self.borrow(*id, *task),
@@ -169,11 +177,11 @@ impl PlainStore {
             Command::EndTask(task) => self.end_task(alloc, *task),
             Command::Grant(id, target) => self.grant(*id, *target),
             Command::Withdraw(id, target) => Ok(self.withdraw(*id, *target)),
-            Command::Peek(id, offset, count) => Ok(self.peek(*id, *offset, *count)),
+            Command::Peek { id, offset, count } => Ok(self.peek(*id, *offset, *count)),
             Command::List => self.list(alloc),
             Command::Usage => Ok(self.usage()),
             Command::Leave => self.leave(alloc, session),
-            Command::Create(..) | Command::Get(_) => unreachable!(),
+            Command::Create { .. } | Command::Get(_) => unreachable!(),
         }
     }
 
@@ -229,11 +237,11 @@ fn own_id(command: &Command<u64>) -> Option<ObjectId>
     ensures { result ≡ own_id_lem command.now }
 {
     match command {
-        Command::Create(id, _, _)
-        | Command::Write(id, _, _)
+        Command::Create { id, .. }
+        | Command::Write { id, .. }
         | Command::Seal(id)
         | Command::Get(id)
-        | Command::Read(id, _, _)
+        | Command::Read { id, .. }
         | Command::Release(id)
         | Command::Unpin(id, _)
         | Command::Borrow(id, _)
@@ -242,7 +250,7 @@ fn own_id(command: &Command<u64>) -> Option<ObjectId>
         Command::EndTask(_)
         | Command::Grant(..)
         | Command::Withdraw(..)
-        | Command::Peek(..)
+        | Command::Peek { .. }
         | Command::List
         | Command::Usage
         | Command::Leave => None,

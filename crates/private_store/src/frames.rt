@@ -6,7 +6,11 @@ use obj_id::{Command, JobKey, JobNo, Kind, ObjectId};
 #[derive(Clone, Copy, Debug, PartialEq, Eq)]
 pub enum Awaited {
     Get(ObjectId),
-    Create(ObjectId, Kind, u32),
+    Create {
+        id: ObjectId,
+        kind: Kind,
+        length: u32,
+    },
 }
 
 /// What one frame of a session says.

@@ -22,8 +22,12 @@ pub enum Input {
         giver: JobNo,
         depth: u32,
     },
-    /// A hand to this job ended: the object, the giver and the depth.
-    Withdrawn(ObjectId, JobNo, u32),
+    /// A hand to this job ended.
+    Withdrawn {
+        id: ObjectId,
+        giver: JobNo,
+        depth: u32,
+    },
     /// The job ended here.
     End,
 }
@@ -36,21 +40,43 @@ pub enum Judged {
     Requota(Quota),
     Call(u32, Command<u64>),
     Answer(u64, WorkVerdict),
-    /// Fetch number, and the first entry of another node, if there is one.
-    Located(ObjectId, u64, Option<Source>),
-    /// Fetch number, chunk index, the node that sent it, and what the chunk is to the fetch.
-    Chunk(ObjectId, u64, u32, u32, ChunkVerdict),
-    /// Fetch number, and whether a copy here has the length and the digest that are asked for.
-    Pull(ObjectId, u64, bool),
-    /// Fetch number, and the node that has no such copy.
-    NotHere(ObjectId, u64, u32),
+    /// The number of the fetch, and the first entry of another node, if there is one.
+    Located {
+        id: ObjectId,
+        number: u64,
+        source: Option<Source>,
+    },
+    /// The number of the fetch, the chunk's index, the node that sent it, and what the chunk is to the fetch.
+    Chunk {
+        id: ObjectId,
+        number: u64,
+        index: u32,
+        from: u32,
+        verdict: ChunkVerdict,
+    },
+    /// The number of the fetch, and whether a copy here has the length and the digest that are asked for.
+    Pull {
+        id: ObjectId,
+        number: u64,
+        matches: bool,
+    },
+    /// The number of the fetch, and the node that has no such copy.
+    NotHere {
+        id: ObjectId,
+        number: u64,
+        from: u32,
+    },
     Received {
         id: ObjectId,
         length: u32,
         giver: JobNo,
         depth: u32,
     },
-    Withdrawn(ObjectId, JobNo, u32),
+    Withdrawn {
+        id: ObjectId,
+        giver: JobNo,
+        depth: u32,
+    },
     End,
 }
 

@@ -36,9 +36,11 @@ fn command_of(
         (IsCommand job.0 word (map (λ field. field.now) fields.now))) }
 {
     match word {
-        Word::Write => Ok(id_bytes(alloc, fields, job)?.map(|((id, offset), bytes)| Command::Write(
-            id, offset, bytes,
-        ))),
+        Word::Write => Ok(id_bytes(alloc, fields, job)?.map(|((id, offset), bytes)| Command::Write {
+            id,
+            offset,
+            bytes,
+        })),
         _ => Ok(plain_command(word, fields, job)),
     }
 }
@@ -51,18 +53,26 @@ pub fn plain_command<P: Drop>(word: Word, fields: &[&str], job: JobNo) -> Option
     match word {
         Word::Create => {
             let (id, length) = id_number(fields, job)?;
-            Some(Command::Create(id, Kind::Primary, length))
+            Some(Command::Create {
+                id,
+                kind: Kind::Primary,
+                length,
+            })
         }
         Word::Copy => {
             let (id, length) = id_number(fields, job)?;
-            Some(Command::Create(id, Kind::Secondary, length))
+            Some(Command::Create {
+                id,
+                kind: Kind::Secondary,
+                length,
+            })
         }
         Word::Write => None,
         Word::Seal => Some(Command::Seal(id(fields, job)?)),
         Word::Get => Some(Command::Get(id(fields, job)?)),
         Word::Read => {
             let ((id, offset), count) = id_span(fields, job)?;
-            Some(Command::Read(id, offset, count))
+            Some(Command::Read { id, offset, count })
         }
         Word::Release => Some(Command::Release(id(fields, job)?)),
         Word::Unpin => {
@@ -89,7 +99,7 @@ pub fn plain_command<P: Drop>(word: Word, fields: &[&str], job: JobNo) -> Option
         }
         Word::Peek => {
             let ((id, offset), count) = id_span(fields, job)?;
-            Some(Command::Peek(id, offset, count))
+            Some(Command::Peek { id, offset, count })
         }
         Word::List => alone(fields, Command::List),
         Word::Usage => alone(fields, Command::Usage),

@@ -114,7 +114,14 @@ fn step_of(
 fn admit(at: JobAt, quota: Quota) -> Line
     ensures { result ≡ Line.Step (Step.At at.node (Event.Admit at.job quota no_key)) }
 {
-    Line::Step(Step::At(at.node, Event::Admit(at.job, quota, JobKey([0; 32]))))
+    Line::Step(Step::At(
+        at.node,
+        Event::Admit {
+            job: at.job,
+            quota,
+            key: JobKey([0; 32]),
+        },
+    ))
 }
 
 /// `NODE JOB`.
@@ -212,7 +219,14 @@ fn call_line(
         return Ok(None)
     };
     let JobAt { node, job } = speaker.at;
-    Ok(Some(Line::Step(Step::At(node, Event::Call(job, speaker.session, command)))))
+    Ok(Some(Line::Step(Step::At(
+        node,
+        Event::Call {
+            job,
+            session: speaker.session,
+            command,
+        },
+    ))))
 }
 
 /// `NUMBER` and the outcome.

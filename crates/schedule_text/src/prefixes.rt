@@ -12,8 +12,8 @@ use std::alloc::{AllocError, Global};
 pub enum Prefix {
     /// The operator, at the node of this number.
     Operator(u32),
-    /// A session: node, job and session.
-    Session(u32, JobNo, u32),
+    /// A session of a job at a node.
+    Session { node: u32, job: JobNo, session: u32 },
     /// A device worker, at the node of this number.
     Device(u32),
     /// Whoever hands messages over.
@@ -36,7 +36,7 @@ impl Prefix {
         ensures { result.0 ≡ speaker_lem self }
     {
         match self {
-            Prefix::Session(_, job, _) => job,
+            Prefix::Session { job, .. } => job,
             Prefix::Operator(_) | Prefix::Device(_) | Prefix::Network => JobNo(0),
         }
     }
@@ -47,7 +47,7 @@ impl Prefix {
     {
         match self {
             Prefix::Operator(node) => format!(in alloc; "n{node} op"),
-            Prefix::Session(node, job, session) => session_text(alloc, node, job.0, session),
+            Prefix::Session { node, job, session } => session_text(alloc, node, job.0, session),
             Prefix::Device(node) => format!(in alloc; "n{node} dev"),
             Prefix::Network => String::from_str(alloc, "net"),
         }
@@ -59,9 +59,13 @@ fn prefix_at(node: u32, event: &Event) -> Prefix
     ensures { result ≡ prefix_at_lem node event.now }
 {
     match event {
-        Event::Admit(..) | Event::Requota(..) | Event::JobEnd(_) => Prefix::Operator(node),
-        Event::Take | Event::Finish(..) => Prefix::Device(node),
-        Event::Call(job, session, _) => Prefix::Session(node, *job, *session),
+        Event::Admit { .. } | Event::Requota(..) | Event::JobEnd(_) => Prefix::Operator(node),
+        Event::Take | Event::Finish { .. } => Prefix::Device(node),
+        Event::Call { job, session, .. } => Prefix::Session {
+            node,
+            job: *job,
+            session: *session,
+        },
     }
 }
 

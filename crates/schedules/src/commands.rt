@@ -141,7 +141,11 @@ fn awaiting(command: &Command<Bytes>) -> Option<Awaited>
 {
     match command {
         Command::Get(id) => Some(Awaited::Get(*id)),
-        Command::Create(id, kind, length) => Some(Awaited::Create(*id, *kind, *length)),
+        Command::Create { id, kind, length } => Some(Awaited::Create {
+            id: *id,
+            kind: *kind,
+            length: *length,
+        }),
         _ => None,
     }
 }
@@ -170,7 +174,16 @@ fn called(line: Line) -> Option<Command<Bytes>>
     ensures { IfSome result (λ command. line ≡ line_calling command) }
 {
     match line {
-        Line::Step(Step::At(0, Event::Call(JobNo(1), 1, command))) => Some(command),
+        Line::Step(
+            Step::At(
+                0,
+                Event::Call {
+                    job: JobNo(1),
+                    session: 1,
+                    command,
+                },
+            ),
+        ) => Some(command),
         _ => None,
     }
 }
@@ -183,7 +196,7 @@ fn is_framed(item: &Item) -> bool
         Item::Hello(_, key) => fits(4 + key.0.as_slice().len()),
         Item::Command(command) => is_command_framed(command),
         Item::Wait(Awaited::Get(id)) => fits(id.to_bytes().len()),
-        Item::Wait(Awaited::Create(id, _, _)) => fits(id.to_bytes().len() + 5),
+        Item::Wait(Awaited::Create { id, .. }) => fits(id.to_bytes().len() + 5),
         Item::BadId => false,
     }
 }
@@ -194,9 +207,9 @@ fn is_command_framed(command: &Command<Bytes>) -> bool
 {
     match command {
         // beside the bytes there are a kind, an id and an offset
-        Command::Write(id, _, bytes) => { bytes.len() <= 65_595 - id.to_bytes().len() },
-        Command::Create(id, _, _) => fits(id.to_bytes().len() + 5),
-        Command::Read(id, _, _) | Command::Peek(id, _, _) => fits(id.to_bytes().len() + 8),
+        Command::Write { id, bytes, .. } => { bytes.len() <= 65_595 - id.to_bytes().len() },
+        Command::Create { id, .. } => fits(id.to_bytes().len() + 5),
+        Command::Read { id, .. } | Command::Peek { id, .. } => fits(id.to_bytes().len() + 8),
         Command::Grant(id, _) | Command::Withdraw(id, _) => fits(id.to_bytes().len() + 4),
         Command::Unpin(id, task) | Command::Borrow(id, task) | Command::GiveUp(id, task) => {
             fits(id.to_bytes().len() + task.0.as_slice().len())

@@ -61,10 +61,10 @@ impl Desk {
         ensures { IsTrue (has_reply_frame result) }
     {
         match command {
-            Command::Create(_, _, length) => self.make(*length),
+            Command::Create { length, .. } => self.make(*length),
             Command::Seal(_) => Reply::Ok,
             Command::Get(_) => Reply::Got(self.length),
-            Command::Read(..) => Reply::Bytes(Bytes::from_static(&PAGE)),
+            Command::Read { .. } => Reply::Bytes(Bytes::from_static(&PAGE)),
             Command::Leave => Reply::Ok,
             _ => Reply::Refused(Refusal::Absent),
         }
@@ -92,7 +92,7 @@ impl Gate for Desk {
     fn call_wait(&mut self, job: JobNo, session: u32, awaited: Awaited) -> Reply<Bytes> {
         self.look_at(job, session);
         match awaited {
-            Awaited::Create(_, _, length) => self.make(length),
+            Awaited::Create { length, .. } => self.make(length),
             Awaited::Get(_) => Reply::Got(self.length),
         }
     }

@@ -21,7 +21,11 @@ pub(crate) fn call_device<D: SpillDevice>(device: &mut D, work: &Work<Bytes>) ->
     ensures written { result.written ≡ written_key work.now.kind work.now.key }
 {
     Finishing {
-        event: Event::Finish(work.job, work.number, answer_of(device, work)),
+        event: Event::Finish {
+            job: work.job,
+            number: work.number,
+            answer: answer_of(device, work),
+        },
         written: match work.kind {
             WorkKind::Write => Some(work.key),
             WorkKind::Read => None,

@@ -116,7 +116,12 @@ impl<L: Ledger, P: Pause> SharedNode<L, P> {
 /// What the Finish of a read wants, which are the digest of the bytes that were read, and they as they fill an extent; and the job
 /// whose it is.
 pub(crate) fn prepare_finish(alloc: Global, event: &Event) -> (JobNo, Prepared) {
-    let Event::Finish(job, _, DeviceAnswer::Bytes(bytes)) = event else {
+    let Event::Finish {
+        job,
+        answer: DeviceAnswer::Bytes(bytes),
+        ..
+    } = event
+    else {
         return (JobNo(0), Prepared::nothing());
     };
     let prepared = Prepared {
@@ -143,12 +148,12 @@ fn filled(alloc: Global, bytes: &Bytes) -> Option<Bytes> {
 pub(crate) fn may_remove(command: &Command<Bytes>) -> bool {
     !matches!(
         command,
-        Command::Write(..)
+        Command::Write { .. }
             | Command::Seal(_)
-            | Command::Read(..)
+            | Command::Read { .. }
             | Command::Borrow(..)
             | Command::Grant(..)
-            | Command::Peek(..)
+            | Command::Peek { .. }
             | Command::List
             | Command::Usage
     )
@@ -179,7 +184,15 @@ fn chunk_of<L: Ledger>(posted: &Posted<L>) -> Option<Chunk<'_>> {
     let Place::Node(from) = posted.from() else {
         return None;
     };
-    let Message::ToPeer(PeerMessage::Chunk(id, number, index, bytes)) = posted.message() else {
+    let Message::ToPeer(
+        PeerMessage::Chunk {
+            id,
+            number,
+            index,
+            bytes,
+        },
+    ) = posted.message()
+    else {
         return None;
     };
     Some(Chunk {

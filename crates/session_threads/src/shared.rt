@@ -305,7 +305,7 @@ impl<L: Ledger, P: Pause> SharedNode<L, P> {
     ) -> (Reply<Bytes>, Option<Receipt<L>>)
         ensures { MatchOption result.1 (result.0 ≡ reply.Refused NoMemory) (λ r. IsOf (event.Admit job quota key) result.0 (witness_of r)) }
     {
-        self.order(rt, &Event::Admit(job, quota, key))
+        self.order(rt, &Event::Admit { job, quota, key })
     }
 
     /// The operator changes a job's quotas, with the receipt of the entry, which was looked for. There is none exactly if the reply
@@ -486,6 +486,10 @@ fn command_of(awaited: &Awaited) -> Command<Bytes>
 {
     match awaited {
         Awaited::Get(id) => Command::Get(*id),
-        Awaited::Create(id, kind, length) => Command::Create(*id, *kind, *length),
+        Awaited::Create { id, kind, length } => Command::Create {
+            id: *id,
+            kind: *kind,
+            length: *length,
+        },
     }
 }

@@ -52,7 +52,11 @@ pub(crate) fn step_call<L: Ledger, R: Wait, P: Pause>(
     ensures same { OnErr result (IsUntouched (seen kept.old.node kept.old.count kept.old.logs) (seen kept.new.node kept.new.count kept.new.logs)) }
     ensures number { kept.new.number ≡ kept.old.number }
 {
-    let event = Event::Call(job, session, command);
+    let event = Event::Call {
+        job,
+        session,
+        command,
+    };
     step_event(rt, kept, upkeep, &event)
 }
 
@@ -75,7 +79,11 @@ pub(crate) fn step_call_after<L: Ledger, R: Wait, P: Pause>(
     ensures number { kept.new.number ≡ kept.old.number }
     ensures refusal { IfErr result (λ r. (r ≡ NoMemory) ⊎ (r ≡ Stale)) }
 {
-    let event = Event::Call(job, session, command);
+    let event = Event::Call {
+        job,
+        session,
+        command,
+    };
     upkeep.pause.before_step(kept.number(), &event);
     match kept.step_after(receipt, &event) {
         Ok(made) => Ok(settled(rt, kept, upkeep, made)),

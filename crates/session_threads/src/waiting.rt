@@ -238,13 +238,25 @@ pub(crate) fn stirred_by<L: Ledger>(receipt: &Receipt<L>, reply: &Reply<Bytes>) 
     match receipt.input() {
         None => Stir::Nothing,
         Some(Judged::Call(_, command)) => stirred_by_call(command),
-        Some(Judged::Chunk(.., ChunkVerdict::Part)) => Stir::Chunk,
-        Some(Judged::Chunk(.., ChunkVerdict::Ignored)) => Stir::Nothing,
-        Some(Judged::Pull(..)) => Stir::Nothing,
-        Some(Judged::Chunk(..) | Judged::Located(..) | Judged::NotHere(..)) => Stir::Fetches,
+        Some(
+            Judged::Chunk {
+                verdict: ChunkVerdict::Part,
+                ..
+            },
+        ) => Stir::Chunk,
+        Some(
+            Judged::Chunk {
+                verdict: ChunkVerdict::Ignored,
+                ..
+            },
+        ) => Stir::Nothing,
+        Some(Judged::Pull { .. }) => Stir::Nothing,
+        Some(Judged::Chunk { .. } | Judged::Located { .. } | Judged::NotHere { .. }) =>
+            Stir::Fetches,
         Some(Judged::Begin(_) | Judged::Answer(..)) => Stir::Fetches,
         Some(Judged::End) => Stir::AllJobs,
-        Some(Judged::Requota(_) | Judged::Received { .. } | Judged::Withdrawn(..)) => Stir::Copies,
+        Some(Judged::Requota(_) | Judged::Received { .. } | Judged::Withdrawn { .. }) =>
+            Stir::Copies,
     }
 }
 
@@ -258,13 +270,13 @@ fn stirred_by_call(command: &Command<u64>) -> Stir {
         | Command::GiveUp(..)
         | Command::Withdraw(..)
         | Command::Leave => Stir::Copies,
-        Command::Create(..)
-        | Command::Write(..)
+        Command::Create { .. }
+        | Command::Write { .. }
         | Command::Get(_)
-        | Command::Read(..)
+        | Command::Read { .. }
         | Command::Borrow(..)
         | Command::Grant(..)
-        | Command::Peek(..)
+        | Command::Peek { .. }
         | Command::List
         | Command::Usage => Stir::Nothing,
     }

@@ -149,15 +149,15 @@ fn kept_under(event: &Event, reply: &Reply<Bytes>) -> JobNo
     ensures { result ≡ kept_under_lem event.now reply.now }
 {
     match event {
-        Event::Admit(job, _, _) => *job,
+        Event::Admit { job, .. } => *job,
         Event::Requota(job, _) => *job,
         Event::JobEnd(job) => *job,
         Event::Take => match reply {
             Reply::Work(work) => work.job,
             _ => JobNo(0),
         },
-        Event::Finish(job, _, _) => *job,
-        Event::Call(job, _, _) => *job,
+        Event::Finish { job, .. } => *job,
+        Event::Call { job, .. } => *job,
     }
 }
 
@@ -186,7 +186,7 @@ fn entries_told(alloc: Global, answer: &StepAnswer) -> Result<Items<Location>, A
     ensures { IfOk result (λ entries. entries ≡ entries_told answer.now) }
 {
     match answer {
-        StepAnswer::HandedOver(Message::Located(_, _, entries)) => copied(
+        StepAnswer::HandedOver(Message::Located { entries, .. }) => copied(
             alloc,
             entries.as_slice(),
         ),
@@ -210,12 +210,36 @@ fn line_input(entries: Items<Location>, judged: Judged) -> LineInput
         Judged::Requota(quota) => LineInput::Requota(quota),
         Judged::Call(session, command) => LineInput::Call(session, command),
         Judged::Answer(number, verdict) => LineInput::Answer(number, verdict),
-        Judged::Located(id, number, _) => LineInput::Located(id, number, entries),
-        Judged::Chunk(id, number, index, from, verdict) => {
-            LineInput::Chunk(id, number, index, from, verdict)
+        Judged::Located { id, number, .. } => LineInput::Located {
+            id,
+            number,
+            entries,
+        },
+        Judged::Chunk {
+            id,
+            number,
+            index,
+            from,
+            verdict,
+        } => {
+            LineInput::Chunk {
+                id,
+                number,
+                index,
+                from,
+                verdict,
+            }
         }
-        Judged::Pull(id, number, matched) => LineInput::Pull(id, number, matched),
-        Judged::NotHere(id, number, from) => LineInput::NotHere(id, number, from),
+        Judged::Pull {
+            id,
+            number,
+            matches: matched,
+        } => LineInput::Pull {
+            id,
+            number,
+            matches: matched,
+        },
+        Judged::NotHere { id, number, from } => LineInput::NotHere { id, number, from },
         Judged::Received {
             id,
             length,
@@ -227,7 +251,7 @@ fn line_input(entries: Items<Location>, judged: Judged) -> LineInput
             giver,
             depth,
         },
-        Judged::Withdrawn(id, giver, depth) => LineInput::Withdrawn(id, giver, depth),
+        Judged::Withdrawn { id, giver, depth } => LineInput::Withdrawn { id, giver, depth },
         Judged::End => LineInput::End,
     }
 }

@@ -63,5 +63,12 @@ pub fn hear(alloc: Global, text: &[u8], nodes: u32) -> Result<Said, AllocError>
 pub(crate) fn finish(node: u32, job: JobNo, number: u64, answer: DeviceAnswer) -> Step
     ensures { result ≡ Step.At node (Event.Finish job number answer) }
 {
-    Step::At(node, Event::Finish(job, number, answer))
+    Step::At(
+        node,
+        Event::Finish {
+            job,
+            number,
+            answer,
+        },
+    )
 }

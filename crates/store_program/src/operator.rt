@@ -12,7 +12,11 @@ use std::alloc::{AllocError, Global};
 #[derive(Clone, Copy, Debug, PartialEq, Eq)]
 pub enum Change {
     /// It is admitted.
-    Admit(JobNo, Quota, JobKey),
+    Admit {
+        job: JobNo,
+        quota: Quota,
+        key: JobKey,
+    },
     /// Its quotas are changed.
     Requota(JobNo, Quota),
     /// It is ended.
@@ -73,7 +77,14 @@ impl Admission {
     fn order(self) -> Order
         ensures { result ≡ admission_order self }
     {
-        Order::Change(self.node, Change::Admit(self.job, self.quota, self.key))
+        Order::Change(
+            self.node,
+            Change::Admit {
+                job: self.job,
+                quota: self.quota,
+                key: self.key,
+            },
+        )
     }
 }
 

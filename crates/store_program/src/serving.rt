@@ -132,7 +132,7 @@ pub(crate) fn carry_out<L: Ledger, R: Wait>(
     change: Change,
 ) -> Reply<Bytes> {
     let (reply, _receipt) = match change {
-        Change::Admit(job, quota, key) => shared.admit(rt, job, quota, key),
+        Change::Admit { job, quota, key } => shared.admit(rt, job, quota, key),
         Change::Requota(job, quota) => shared.requota(rt, job, quota),
         Change::End(job) => shared.end_job(rt, job),
     };

@@ -99,9 +99,13 @@ impl Workers {
             (Step::At(node, Event::Take), StepAnswer::Told(Reply::Work(work))) => {
                 self.taken.push(Taken { node: *node, work })?;
             }
-            (Step::At(_, Event::Finish(..)), StepAnswer::Told(Reply::Refused(Refusal::NoMemory))) =>
-                {}
-            (Step::At(node, Event::Finish(job, number, _)), _) => self.finish(*node, *job, *number),
+            (
+                Step::At(_, Event::Finish { .. }),
+                StepAnswer::Told(Reply::Refused(Refusal::NoMemory)),
+            ) => {}
+            (Step::At(node, Event::Finish { job, number, .. }), _) => self.finish(
+                *node, *job, *number,
+            ),
             _ => {}
         }
         Ok(())

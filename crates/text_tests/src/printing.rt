@@ -11,7 +11,11 @@ use std::alloc::{AllocError, Global};
 use std::process::Abort;
 use std::test::Fail;
 
-const SESSION: Prefix = Prefix::Session(0, JobNo(1), 3);
+const SESSION: Prefix = Prefix::Session {
+    node: 0,
+    job: JobNo(1),
+    session: 3,
+};
 
 const DEVICE: Prefix = Prefix::Device(0);
 
@@ -311,7 +315,14 @@ fn a_step_says_who_is_answered(rt: HostRuntime) {
         window: 64,
         device: 0,
     };
-    let admit = Step::At(1, Event::Admit(JobNo(1), quota, JobKey([0; 32])));
+    let admit = Step::At(
+        1,
+        Event::Admit {
+            job: JobNo(1),
+            quota,
+            key: JobKey([0; 32]),
+        },
+    );
     same!(rt; Prefix::of(&admit), OPERATOR);
     same!(rt; Prefix::of(&Step::At(1, Event::Requota(JobNo(1), quota))), OPERATOR);
     same!(rt; Prefix::of(&Step::At(1, Event::JobEnd(JobNo(1)))), OPERATOR);

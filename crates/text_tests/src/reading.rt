@@ -9,7 +9,7 @@ use std::test::Fail;
 
 /// Rows of a line and of what it says, in the words of the types.
 const STEPS: &str = "\
-admit 0 1 18446744073709551615 0 = Step(At(0, Admit(JobNo(1), Quota { window: 18446744073709551615, device: 0 }, NO_KEY)))
+admit 0 1 18446744073709551615 0 = Step(At(0, Admit { job: JobNo(1), quota: Quota { window: 18446744073709551615, device: 0 }, key: NO_KEY }))
 quota 1 4294967295 18446744073709551615 0 = Step(At(1, Requota(JobNo(4294967295), Quota { window: 18446744073709551615, device: 0 })))
 end 1 0 = Step(At(1, JobEnd(JobNo(0))))
 take 1 = Step(At(1, Take))
@@ -19,28 +19,28 @@ finish 0 1 3 damage = Finish { node: 0, job: JobNo(1), number: 3, outcome: Damag
 deliver 1 0 d 1 = Step(Deliver { job: JobNo(1), from: Node(0), to: Directory, number: 1, damaged: false })
 deliver 1 d 1 2 damage = Step(Deliver { job: JobNo(1), from: Directory, to: Node(1), number: 2, damaged: true })
 deliver 0 d d 0 = Step(Deliver { job: JobNo(0), from: Directory, to: Directory, number: 0, damaged: false })
-cmd 1 2 0 leave = Step(At(1, Call(JobNo(2), 0, Leave)))
+cmd 1 2 0 leave = Step(At(1, Call { job: JobNo(2), session: 0, command: Leave }))
 # take 0 = Skipped";
 
 /// Rows of a command and of what it says, of session 3 of job 1 at node 0.
 const COMMANDS: &str = "\
-create t1.1 20 = Create(FIRST, Primary, 20)
-copy t1.1 0 = Create(FIRST, Secondary, 0)
+create t1.1 20 = Create { id: FIRST, kind: Primary, length: 20 }
+copy t1.1 0 = Create { id: FIRST, kind: Secondary, length: 0 }
 seal t1.1 = Seal(FIRST)
 get t1.1 = Get(FIRST)
 release t1.1 = Release(FIRST)
 delete t1.1 = Delete(FIRST)
-write t1.1 5 48656c6c6fff = Write(FIRST, 5, b\"Hello\\xff\")
-write t1.1 0 - = Write(FIRST, 0, b\"\")
-read t1.1 0 70000 = Read(FIRST, 0, 70000)
-peek t1.1 4294967295 0 = Peek(FIRST, 4294967295, 0)
+write t1.1 5 48656c6c6fff = Write { id: FIRST, offset: 5, bytes: b\"Hello\\xff\" }
+write t1.1 0 - = Write { id: FIRST, offset: 0, bytes: b\"\" }
+read t1.1 0 70000 = Read { id: FIRST, offset: 0, count: 70000 }
+peek t1.1 4294967295 0 = Peek { id: FIRST, offset: 4294967295, count: 0 }
 unpin t1.1 t18446744073709551615 = Unpin(FIRST, LAST_TASK)
 borrow t1.1 t18446744073709551615 = Borrow(FIRST, LAST_TASK)
 giveup t1.1 t18446744073709551615 = GiveUp(FIRST, LAST_TASK)
 endtask 0707070707070707070707070707070707070707 = EndTask(TASK_OF_SEVENS)
 grant t1.1 0 = Grant(FIRST, JobNo(0))
 withdraw 00000000000000000000000000000000000000010000000100000001 2 = Withdraw(FIRST, JobNo(2))
-peek 2/t9.9 0 1 = Peek(FOREIGN, 0, 1)
+peek 2/t9.9 0 1 = Peek { id: FOREIGN, offset: 0, count: 1 }
 list = List
 usage = Usage
 leave = Leave";
@@ -122,7 +122,14 @@ fn each_command_is_read(rt: HostRuntime) -> Result<(), Fail> {
     for row in COMMANDS.lines() {
         let (command, due) = row.split_once(" = ").ok_or("no row")?;
         let line = joined(alloc, ["cmd 0 1 3 ", command, ""])?;
-        let due = joined(alloc, ["Step(At(0, Call(JobNo(1), 3, ", due, ")))"])?;
+        let due = joined(
+            alloc,
+            [
+                "Step(At(0, Call { job: JobNo(1), session: 3, command: ",
+                due,
+                " }))",
+            ],
+        )?;
         check(&rt, alloc, line.as_str(), due.as_str())?;
     }
     Ok(())
@@ -145,7 +152,14 @@ fn a_line_says_who_is_answered(rt: HostRuntime) -> Result<(), Fail> {
     let alloc = rt.alloc();
     let lines = [
         ("end 1 2", Some(Prefix::Operator(1))),
-        ("cmd 1 2 0 leave", Some(Prefix::Session(1, JobNo(2), 0))),
+        (
+            "cmd 1 2 0 leave",
+            Some(Prefix::Session {
+                node: 1,
+                job: JobNo(2),
+                session: 0,
+            }),
+        ),
         ("take 0", Some(Prefix::Device(0))),
         ("finish 1 2 3 ok", Some(Prefix::Device(1))),
         ("deliver 1 0 1 1", Some(Prefix::Network)),

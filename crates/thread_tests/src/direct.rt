@@ -35,7 +35,7 @@ pub(crate) fn six_commands<L: Ledger, R: Wait + Abort>(
     admit(rt, node, JOB, QUOTA);
     seal_hello(rt, alloc, node, id)?;
     holds!(rt; matches!(told(rt, node, JOB, Command::Get(id)), Reply::Got(20)));
-    holds!(rt; is_hello(&told(rt, node, JOB, Command::Read(id, 0, 20))));
+    holds!(rt; is_hello(&told(rt, node, JOB, Command::Read { id, offset: 0, count: 20 })));
     let (reply, receipt) = node.call(rt, JOB, 1, Command::Release(id));
     holds!(rt; matches!(reply, Reply::Ok));
     Ok(receipt.expect(rt, "a receipt"))

@@ -31,7 +31,7 @@ fn get_and_read<L: Ledger, R: Wait + Clock + Abort>(rt: &R, node: &SharedNode<L>
     let (reply, receipt) = node.call_wait(rt, JOB, 1, Awaited::Get(id));
     holds!(rt; matches!(reply, Reply::Got(20)));
     same!(rt; receipt.map(|receipt| receipt.node()), Some(1));
-    holds!(rt; is_hello(&told(rt, node, JOB, Command::Read(id, 0, 20))));
+    holds!(rt; is_hello(&told(rt, node, JOB, Command::Read { id, offset: 0, count: 20 })));
 }
 
 /// The job is admitted at both nodes, and seals an object at the first.

@@ -94,17 +94,29 @@ fn begin<L: Ledger, R: Wait + Abort>(
 /// The job's first object is in the way of its second.
 fn ask_for_write<L: Ledger, R: Wait + Abort>(rt: &R, node: &SharedNode<L>) {
     let (first, second) = (object(rt, SPILLED, 1), object(rt, SPILLED, 2));
-    let create = Command::Create(first, Kind::Primary, 32);
+    let create = Command::Create {
+        id: first,
+        kind: Kind::Primary,
+        length: 32,
+    };
     holds!(rt; matches!(told(rt, node, SPILLED, create), Reply::Placed(..)));
     holds!(rt; matches!(told(rt, node, SPILLED, Command::Seal(first)), Reply::Ok));
-    let create = Command::Create(second, Kind::Primary, 16);
+    let create = Command::Create {
+        id: second,
+        kind: Kind::Primary,
+        length: 16,
+    };
     holds!(rt; is_pending(&told(rt, node, SPILLED, create)));
 }
 
 /// The first object was written: the second takes its room, and gives it back, and the first is asked for.
 fn ask_for_read<L: Ledger, R: Wait + Abort>(rt: &R, node: &SharedNode<L>) {
     let (first, second) = (object(rt, SPILLED, 1), object(rt, SPILLED, 2));
-    let create = Command::Create(second, Kind::Primary, 16);
+    let create = Command::Create {
+        id: second,
+        kind: Kind::Primary,
+        length: 16,
+    };
     holds!(rt; matches!(told(rt, node, SPILLED, create), Reply::Placed(..)));
     holds!(rt; matches!(told(rt, node, SPILLED, Command::Delete(second)), Reply::Ok));
     holds!(rt; is_pending(&told(rt, node, SPILLED, Command::Get(first))));

@@ -31,7 +31,7 @@ struct KeptCommands {
 
 impl Pause for KeptCommands {
     fn before_step(&self, node: u32, event: &Event) {
-        if node == 0 && matches!(event, Event::Call(..)) {
+        if node == 0 && matches!(event, Event::Call { .. }) {
             self.gate.pass();
         }
     }

@@ -45,8 +45,8 @@ pub(crate) fn seal_hello<L: Ledger, R: Wait + Abort>(
 ) -> Result<(), AllocError> {
     let hello = Bytes::from_vec(Vec::from_slice(alloc, b"Hello")?)?;
     let job = id.job();
-    holds!(rt; matches!(told(rt, node, job, Command::Create(id, Kind::Primary, 20)), Reply::Placed(_, 32)));
-    holds!(rt; matches!(told(rt, node, job, Command::Write(id, 0, hello)), Reply::Ok));
+    holds!(rt; matches!(told(rt, node, job, Command::Create { id, kind: Kind::Primary, length: 20 }), Reply::Placed(_, 32)));
+    holds!(rt; matches!(told(rt, node, job, Command::Write { id, offset: 0, bytes: hello }), Reply::Ok));
     holds!(rt; matches!(told(rt, node, job, Command::Seal(id)), Reply::Ok));
     Ok(())
 }

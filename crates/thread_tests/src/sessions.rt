@@ -26,9 +26,17 @@ fn hold_beside<G: Gate, H: Gate>(rt: &impl Abort, holding: &mut G, ending: &mut 
     let other = ending.enter(JOB, KEY).expect(rt, "a session");
     holds!(rt; matches!(holding.call(JOB, holder, Command::Get(id)), Reply::Got(20)));
     ending.leave(JOB, other);
-    holds!(rt; is_hello(&holding.call(JOB, holder, Command::Read(id, 0, 20))));
+    holds!(rt; is_hello(&holding.call(JOB, holder, Command::Read { id, offset: 0, count: 20 })));
     holding.leave(JOB, holder);
-    let reply = holding.call(JOB, holder, Command::Read(id, 0, 20));
+    let reply = holding.call(
+        JOB,
+        holder,
+        Command::Read {
+            id,
+            offset: 0,
+            count: 20,
+        },
+    );
     holds!(rt; matches!(reply, Reply::Refused(Refusal::NotHeld)));
     same!(rt; (holder, other), (1, 2));
 }

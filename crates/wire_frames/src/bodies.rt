@@ -31,7 +31,11 @@ impl Said {
             Said::Item(item) => Ok(item),
             Said::Write(id, offset) => {
                 let payload = Bytes::copy_from_slice(alloc, &body[BEFORE_PAYLOAD..])?;
-                Ok(Item::Command(Command::Write(id, offset, payload)))
+                Ok(Item::Command(Command::Write {
+                    id,
+                    offset,
+                    bytes: payload,
+                }))
             }
         }
     }
@@ -45,7 +49,11 @@ impl Said {
             Said::Item(item) => item,
             Said::Write(id, offset) => {
                 body.advance(BEFORE_PAYLOAD);
-                Item::Command(Command::Write(id, offset, body))
+                Item::Command(Command::Write {
+                    id,
+                    offset,
+                    bytes: body,
+                })
             }
         }
     }
@@ -141,14 +149,22 @@ fn about_object(kind: ObjectKind, id: ObjectId, body: &[u8]) -> Said
     match kind {
         ObjectKind::Create => {
             let kind = kind_at(body);
-            Said::Item(Item::Command(Command::Create(id, kind, number_at(body, 29))))
+            Said::Item(Item::Command(Command::Create {
+                id,
+                kind,
+                length: number_at(body, 29),
+            }))
         }
         ObjectKind::Write => Said::Write(id, number_at(body, 28)),
         ObjectKind::Seal => Said::Item(Item::Command(Command::Seal(id))),
         ObjectKind::Get => Said::Item(Item::Command(Command::Get(id))),
         ObjectKind::Read => {
             let offset = number_at(body, 28);
-            Said::Item(Item::Command(Command::Read(id, offset, number_at(body, 32))))
+            Said::Item(Item::Command(Command::Read {
+                id,
+                offset,
+                count: number_at(body, 32),
+            }))
         }
         ObjectKind::Release => Said::Item(Item::Command(Command::Release(id))),
         ObjectKind::Unpin => Said::Item(Item::Command(Command::Unpin(id, task_at(body, 28)))),
@@ -159,12 +175,20 @@ fn about_object(kind: ObjectKind, id: ObjectId, body: &[u8]) -> Said
         ObjectKind::Withdraw => Said::Item(Item::Command(Command::Withdraw(id, target_at(body)))),
         ObjectKind::Peek => {
             let offset = number_at(body, 28);
-            Said::Item(Item::Command(Command::Peek(id, offset, number_at(body, 32))))
+            Said::Item(Item::Command(Command::Peek {
+                id,
+                offset,
+                count: number_at(body, 32),
+            }))
         }
         ObjectKind::GetWait => Said::Item(Item::Wait(Awaited::Get(id))),
         ObjectKind::CreateWait => {
             let kind = kind_at(body);
-            Said::Item(Item::Wait(Awaited::Create(id, kind, number_at(body, 29))))
+            Said::Item(Item::Wait(Awaited::Create {
+                id,
+                kind,
+                length: number_at(body, 29),
+            }))
         }
     }
 }

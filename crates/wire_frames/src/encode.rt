@@ -18,7 +18,9 @@ pub fn encode_command(alloc: Global, item: &Item) -> Result<Vec<u8>, AllocError>
         Item::Hello(job, key) => frame_of(alloc, 0x01, &[&job.0.to_be_bytes(), &key.0]),
         Item::Command(command) => command_frame(alloc, command),
         Item::Wait(Awaited::Get(id)) => about(alloc, 0x13, *id, &[]),
-        Item::Wait(Awaited::Create(id, kind, length)) => create(alloc, 0x14, *id, *kind, *length),
+        Item::Wait(Awaited::Create { id, kind, length }) => create(
+            alloc, 0x14, *id, *kind, *length,
+        ),
         Item::BadId => Ok(Vec::new(alloc)),
     }
 }
@@ -29,11 +31,11 @@ fn command_frame(alloc: Global, command: &Command<Bytes>) -> Result<Vec<u8>, All
     ensures { IfOk result (λ f. f.items ≡ frame (command_body command.now)) }
 {
     match command {
-        Command::Create(id, kind, length) => create(alloc, 0x02, *id, *kind, *length),
-        Command::Write(id, offset, bytes) => write(alloc, *id, *offset, bytes.as_slice()),
+        Command::Create { id, kind, length } => create(alloc, 0x02, *id, *kind, *length),
+        Command::Write { id, offset, bytes } => write(alloc, *id, *offset, bytes.as_slice()),
         Command::Seal(id) => about(alloc, 0x04, *id, &[]),
         Command::Get(id) => about(alloc, 0x05, *id, &[]),
-        Command::Read(id, offset, count) => range(alloc, 0x06, *id, *offset, *count),
+        Command::Read { id, offset, count } => range(alloc, 0x06, *id, *offset, *count),
         Command::Release(id) => about(alloc, 0x07, *id, &[]),
         Command::Unpin(id, task) => about(alloc, 0x08, *id, &task.0),
         Command::Borrow(id, task) => about(alloc, 0x09, *id, &task.0),
@@ -42,7 +44,7 @@ fn command_frame(alloc: Global, command: &Command<Bytes>) -> Result<Vec<u8>, All
         Command::EndTask(task) => frame_of(alloc, 0x0c, &[&task.0]),
         Command::Grant(id, target) => about(alloc, 0x0d, *id, &target.0.to_be_bytes()),
         Command::Withdraw(id, target) => about(alloc, 0x0e, *id, &target.0.to_be_bytes()),
-        Command::Peek(id, offset, count) => range(alloc, 0x0f, *id, *offset, *count),
+        Command::Peek { id, offset, count } => range(alloc, 0x0f, *id, *offset, *count),
         Command::List => frame_of(alloc, 0x10, &[]),
         Command::Usage => frame_of(alloc, 0x11, &[]),
         Command::Leave => frame_of(alloc, 0x12, &[]),

@@ -149,7 +149,11 @@ impl World {
             entries,
         } = self.directory.apply(job, message)?
         {
-            let located = Message::Located(id, number, entries);
+            let located = Message::Located {
+                id,
+                number,
+                entries,
+            };
             self.messages
                 .send(job, Place::Directory, Place::Node(to), located);
         }

@@ -182,11 +182,11 @@ fn job_of(event: &Event) -> JobNo
     ensures { result.0 ≡ job_of_event event.now }
 {
     match event {
-        Event::Admit(job, _, _) => *job,
+        Event::Admit { job, .. } => *job,
         Event::Requota(job, _) => *job,
         Event::JobEnd(job) => *job,
         Event::Take => JobNo(0),
-        Event::Finish(job, _, _) => *job,
-        Event::Call(job, _, _) => *job,
+        Event::Finish { job, .. } => *job,
+        Event::Call { job, .. } => *job,
     }
 }

@@ -21,9 +21,17 @@ pub(crate) fn as_it_arrives(
 {
     match message {
         Message::ToDirectory(told) => Ok(Message::ToDirectory(copy_of(told))),
-        Message::Located(id, number, entries) => {
+        Message::Located {
+            id,
+            number,
+            entries,
+        } => {
             let copied = Vec::from_slice(alloc, entries.as_slice())?;
-            Ok(Message::Located(*id, *number, Items::from_vec(copied)))
+            Ok(Message::Located {
+                id: *id,
+                number: *number,
+                entries: Items::from_vec(copied),
+            })
         }
         Message::ToPeer(told) => Ok(Message::ToPeer(peer_copy(alloc, told, damaged)?)),
     }
@@ -47,13 +55,23 @@ fn peer_copy(alloc: Global, message: &PeerMessage, damaged: bool) -> Result<Peer
             digest: *digest,
             indexes: Items::from_vec(Vec::from_slice(alloc, indexes.as_slice())?),
         }),
-        PeerMessage::Chunk(id, number, index, bytes) => {
+        PeerMessage::Chunk {
+            id,
+            number,
+            index,
+            bytes,
+        } => {
             let arriving = if damaged {
                 turned(alloc, bytes)?
             } else {
                 bytes.clone()?
             };
-            Ok(PeerMessage::Chunk(*id, *number, *index, arriving))
+            Ok(PeerMessage::Chunk {
+                id: *id,
+                number: *number,
+                index: *index,
+                bytes: arriving,
+            })
         }
         PeerMessage::NotHere(id, number) => Ok(PeerMessage::NotHere(*id, *number)),
     }
@@ -79,8 +97,12 @@ fn copy_of(message: &DirectoryMessage) -> DirectoryMessage
         DirectoryMessage::RemoveLocation(id, node) => DirectoryMessage::RemoveLocation(*id, *node),
         DirectoryMessage::Free(id) => DirectoryMessage::Free(*id),
         DirectoryMessage::EndJob(node) => DirectoryMessage::EndJob(*node),
-        DirectoryMessage::Locate(id, node, number) => {
-            DirectoryMessage::Locate(*id, *node, *number)
+        DirectoryMessage::Locate { id, node, number } => {
+            DirectoryMessage::Locate {
+                id: *id,
+                node: *node,
+                number: *number,
+            }
         }
     }
 }
@@ -91,7 +113,7 @@ pub(crate) fn for_directory(message: &Message) -> Option<DirectoryMessage>
 {
     match message {
         Message::ToDirectory(told) => Some(copy_of(told)),
-        Message::Located(..) | Message::ToPeer(_) => None,
+        Message::Located { .. } | Message::ToPeer(_) => None,
     }
 }
 
@@ -100,7 +122,7 @@ pub(crate) fn answers(message: &DirectoryMessage) -> usize
     ensures { (table : Locations) → length (directory_posts table message.now) ≡ result }
 {
     match message {
-        DirectoryMessage::Locate(..) => 1,
+        DirectoryMessage::Locate { .. } => 1,
         DirectoryMessage::AddLocation(..)
         | DirectoryMessage::RemoveLocation(..)
         | DirectoryMessage::Free(_)
@@ -115,8 +137,19 @@ pub(crate) fn arrival(from: Place, message: Message) -> Result<Arrival, Message>
     ensures none { IfErr result (λ m. arrival_of from message ≡ None) }
 {
     match (from, message) {
-        (Place::Directory, Message::Located(id, number, entries)) => {
-            Ok(Arrival::Located(id, number, entries))
+        (
+            Place::Directory,
+            Message::Located {
+                id,
+                number,
+                entries,
+            },
+        ) => {
+            Ok(Arrival::Located {
+                id,
+                number,
+                entries,
+            })
         }
         (Place::Node(node), Message::ToPeer(told)) => Ok(Arrival::FromPeer(node, told)),
         (_, other) => Err(other),
@@ -128,7 +161,15 @@ pub(crate) fn message_of(arrival: Arrival) -> Message
     ensures { result ≡ message_of_lem arrival }
 {
     match arrival {
-        Arrival::Located(id, number, entries) => Message::Located(id, number, entries),
+        Arrival::Located {
+            id,
+            number,
+            entries,
+        } => Message::Located {
+            id,
+            number,
+            entries,
+        },
         Arrival::FromPeer(_, told) => Message::ToPeer(told),
     }
 }
